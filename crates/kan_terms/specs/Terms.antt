@@ -1,0 +1,14 @@
+-- What the terms of the code stand for.
+use Rattle.std.specs.Prelude.{ℕ}
+use Rattle.kan_terms.specs.Tree.{Tree, Tm}
+use Rattle.kan_terms.specs.declared.terms.Term.{Term}
+use Rattle.kan_terms.specs.declared.terms.Term.TheVariants.{Var, Sym, Num, Truth, Nil, Pair'}
+
+-- the tree of a term, whose pairs lie behind pointers
+abbrev pub tree : Term → Tm
+tree (Var v) = Tree.leaf v
+tree (Sym s) = Tree.sym s
+tree (Num n) = Tree.num n
+tree (Truth b) = Tree.truth b
+tree Nil = Tree.nil
+tree (Pair' place first rest) = Tree.pair (tree first) (tree rest)
