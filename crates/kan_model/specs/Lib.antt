@@ -1,0 +1,12 @@
+pub mod Goals
+pub mod Stores
+pub mod Solve
+pub mod Kept
+pub mod Streams
+pub mod Running
+pub mod Taking
+pub mod Answers
+pub mod Order
+pub mod Text
+pub mod AnswerText
+pub mod Output

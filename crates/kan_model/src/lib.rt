@@ -1,0 +1,2 @@
+//! The model of miniKanren: programs, stores, streams, runs and answers, as definitions, and the trait of stores.
+#![tactic(auto)]
