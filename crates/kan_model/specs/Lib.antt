@@ -1,5 +1,7 @@
 pub mod Goals
 pub mod Stores
+pub mod Letters
+pub mod Prims
 pub mod Solve
 pub mod Kept
 pub mod Streams
