@@ -2,7 +2,9 @@
 #![tactic(auto)]
 
 mod list;
+mod names;
 mod terms;
 
 pub use list::ListOf;
+pub use names::Names;
 pub use terms::{Memory, Term, TermPair};
