@@ -1,3 +1,4 @@
+pub mod Bound
 pub mod Memory
 pub mod Table
 pub mod Tree

@@ -44,6 +44,7 @@ impl Names {
         requires { length self.old < 4294967295 }
         ensures table { OnOk result (self.new ≡ interned self.old text.now) }
         ensures number { IfOk result (λ number. number_of self.new text.now ≡ Some number) }
+        ensures distinct { IsDistinct self.new }
         ensures unchanged { OnErr result (self.new ≡ self.old) }
     {
         if let Some(number) = self.find(text) {
@@ -67,7 +68,8 @@ impl Names {
 
     /// The text that has a number.
     pub fn name(&self, number: u32) -> Option<&str>
-        ensures { option_copied result ≡ name_of self.now number }
+        ensures text { option_copied result ≡ name_of self.now number }
+        ensures distinct { IsDistinct self.now }
     {
         match self.texts.get_index(number as usize) {
             Some(text) => Some(text.as_str()),
