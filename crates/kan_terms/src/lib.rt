@@ -1,8 +1,12 @@
 //! Terms, the table of names, and bindings of variables.
 #![tactic(auto)]
 
+mod binding;
 mod list;
+mod symbols;
 mod terms;
 
+pub use binding::Bindings;
 pub use list::ListOf;
+pub use symbols::Names;
 pub use terms::{Memory, Term, TermPair};
