@@ -1,5 +1,4 @@
 -- What the terms of the code stand for.
-use Rattle.std.specs.Prelude.{ℕ}
 use Rattle.kan_terms.specs.Tree.{Tree, Tm}
 use Rattle.kan_terms.specs.declared.terms.Term.{Term}
 use Rattle.kan_terms.specs.declared.terms.Term.TheVariants.{Var, Sym, Num, Truth, Nil, Pair'}
