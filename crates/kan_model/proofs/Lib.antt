@@ -1,1 +1,4 @@
 pub mod Examples
+pub mod WorkLaws
+pub mod VariableCount
+pub mod SolveLaws
