@@ -1,4 +1,6 @@
 pub mod Examples
+pub mod RunExamples
+pub mod ConstraintExamples
 pub mod WorkLaws
 pub mod VariableCount
 pub mod SolveLaws
