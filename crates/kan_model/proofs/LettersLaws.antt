@@ -1,12 +1,21 @@
 -- Letters of the terms that wait on a stack, and terms from their letters.
-use Rattle.std.proofs.Common.{◌≡◌, ℕ, ◌+◌, List, [], ◌∷◌, ◌++◌, length, ◌<◌, refl, sym, ◌∙◌, ap, append_assoc, append-nil, Option, Some, None, arith, Bool, true, false}
+use Rattle.std.proofs.Common.{◌≡◌, ℕ, List, [], ◌∷◌, ◌++◌, length, ◌<◌, refl, sym, ◌∙◌, ap, ap₂, append_assoc, append-nil, Option, Some, None, arith, Bool, true, false}
+use Rattle.std.specs.Prelude.{eqb, ◌||◌, IsTrue}
+use Rattle.std.specs.List.{list_any, flat_map}
+use Rattle.std.proofs.lemmas.Bool.{eqb-true, eq-eqb}
+use Rattle.std.proofs.lemmas.Bool.Decides.{Decides-int_eq}
+use Rattle.std.proofs.lemmas.List.Folds.{list_any-append}
+use Rattle.std.proofs.lemmas.Grind.{flat_map-append}
+use Rattle.kan_terms.specs.Tree.{occurs, term_eq}
+use Rattle.kan_terms.proofs.TreeLaws.{Decides-bool_eq, term_eq-true, eq-term_eq}
+use Rattle.kan_model.specs.Solve.{Replacement, image, apply}
 use Rattle.std.specs.Borrow.{Bor}
 use Rattle.kan_terms.specs.Tree.{Tree, Tm}
 use Rattle.kan_terms.specs.Terms.{tree}
 use Rattle.kan_terms.specs.declared.terms.Term.{Term}
 use Rattle.kan_model.specs.declared.letters.Letter.{Letter}
-use Rattle.kan_model.specs.declared.letters.Letter.TheVariants.{Pair}
-use Rattle.kan_model.specs.Letters.{letter_of, spelling, waiting_spelling, only_one, stack_terms, Gives, IsAtomOf, joined, put_letter, put_letter_on, built_from}
+use Rattle.kan_model.specs.declared.letters.Letter.TheVariants.{Pair, Var, Sym, Num, Truth, Nil}
+use Rattle.kan_model.specs.Letters.{letter_of, spelling, waiting_spelling, only_one, stack_terms, Gives, IsAtomOf, joined, put_letter, put_letter_on, built_from, is_letter_of, letter_eq, spliced}
 
 -- a term put on top is spelled first
 pub waiting-push : (ts : List (Bor Term)) (t : Bor Term) → waiting_spelling (ts ++ t ∷ []) ≡ spelling (tree t.now) ++ waiting_spelling ts
@@ -119,3 +128,62 @@ gives_some r false found g e = cc
 pub gives_none : (r : Option (List Tm)) (fits : Bool) (found : List Tm) → Gives r fits found → fits ≡ false → r ≡ None
 gives_none r true found g e = cc
 gives_none r false found g e = g
+
+-- the test of letters is exact
+pub letter_eq-true : (x y : Letter) → letter_eq x y ≡ true → x ≡ y
+letter_eq-true Pair Pair e = refl
+letter_eq-true (Var v) (Var w) e = ap Var (eqb-true v w e)
+letter_eq-true (Sym v) (Sym w) e = ap Sym (sym (eqb-true w v e))
+letter_eq-true (Num v) (Num w) e = ap Num (sym ((Decides-int_eq w v).0 e))
+letter_eq-true (Truth v) (Truth w) e = ap Truth (sym ((Decides-bool_eq w v).0 e))
+letter_eq-true Nil Nil e = refl
+letter_eq-true _ _ e = cc
+
+pub letter_eq-same : (x : Letter) → letter_eq x x ≡ true
+letter_eq-same Pair = refl
+letter_eq-same (Var v) = eq-eqb v v refl
+letter_eq-same (Sym v) = eq-eqb v v refl
+letter_eq-same (Num v) = (Decides-int_eq v v).1 refl
+letter_eq-same (Truth v) = (Decides-bool_eq v v).1 refl
+letter_eq-same Nil = refl
+
+-- two tests that say the same
+pub same_tests : (s t : Tm) (r : Bool) → (IsTrue r → spelling s ≡ spelling t) → (spelling s ≡ spelling t → IsTrue r) → r ≡ term_eq s t
+same_tests s t true same rest = sym (eq-term_eq s t (spelling-same s t (same refl)))
+same_tests s t false same rest = go (term_eq s t) (λ e. rest (ap spelling (term_eq-true s t e)) ∙ sym e)
+  where
+    go : (b : Bool) → (b ≡ true → false ≡ b) → false ≡ b
+    go true f = f refl
+    go false f = refl
+
+or_false : (b : Bool) → (b || false) ≡ b
+or_false true = refl
+or_false false = refl
+
+-- a variable stands in a term where its letter is among the term's letters
+pub occurs-letters : (x : ℕ) (t : Tm) → list_any (is_letter_of x) (spelling t) ≡ occurs x t
+occurs-letters x (Tree.leaf v) = or_false (eqb x v)
+occurs-letters x (Tree.sym s) = refl
+occurs-letters x (Tree.num n) = refl
+occurs-letters x (Tree.truth b) = refl
+occurs-letters x Tree.nil = refl
+occurs-letters x (Tree.pair a b) =
+    list_any-append (is_letter_of x) (spelling a) (spelling b) ∙ ap₂ (λ l r. l || r) (occurs-letters x a) (occurs-letters x b)
+
+-- letters spliced into a term's letters spell the term under the replacement
+pub spelling-apply : (s : Replacement) (t : Tm) → flat_map (spliced s) (spelling t) ≡ spelling (apply s t)
+spelling-apply s (Tree.leaf v) = append-nil (spelling (image s v))
+spelling-apply s (Tree.sym x) = refl
+spelling-apply s (Tree.num n) = refl
+spelling-apply s (Tree.truth b) = refl
+spelling-apply s Tree.nil = refl
+spelling-apply s (Tree.pair a b) =
+    ap (λ w. Pair ∷ w) (flat_map-append (spliced s) (spelling a) (spelling b) ∙ ap₂ (λ l r. l ++ r) (spelling-apply s a) (spelling-apply s b))
+
+-- what is built from spliced letters
+pub applied_is : (s : Replacement) (t : Tm) (letters made : List Letter) (r : Option Tm) (u : Tm) →
+    letters ≡ spelling t → made ≡ flat_map (spliced s) letters → r ≡ only_one (built_from made []) → r ≡ Some u → u ≡ apply s t
+applied_is s t letters made r u l m built some =
+    let whole : made ≡ spelling (apply s t) = m ∙ ap (flat_map (spliced s)) l ∙ spelling-apply s t in
+    let same : Some u ≡ Some (apply s t) = sym some ∙ built ∙ ap (λ w. only_one (built_from w [])) whole ∙ ap only_one (built_from-spelling (apply s t) []) in
+    cc

@@ -1,5 +1,7 @@
 pub mod Examples
 pub mod LettersLaws
+pub mod SolvingLaws
+pub mod SolvingSteps
 pub mod RunExamples
 pub mod ConstraintExamples
 pub mod WorkLaws

@@ -1,9 +1,11 @@
 -- Terms as lists of letters in preorder.
-use Rattle.std.specs.Prelude.{◌≡◌, ℕ, Bool, true, false, List, [], ◌∷◌, ◌++◌, Option, Some, None}
+use Rattle.std.specs.Prelude.{◌≡◌, ℕ, Bool, true, false, eqb, List, [], ◌∷◌, ◌++◌, Option, Some, None}
+use Rattle.std.specs.Ordering.{int_eq}
 use Rattle.std.specs.Borrow.{Bor}
-use Rattle.kan_terms.specs.Tree.{Tree, Tm}
+use Rattle.kan_terms.specs.Tree.{Tree, Tm, bool_eq}
 use Rattle.kan_terms.specs.Terms.{tree}
 use Rattle.kan_terms.specs.declared.terms.Term.{Term}
+use Rattle.kan_model.specs.Solve.{Replacement, image}
 use Rattle.kan_model.specs.declared.letters.Letter.{Letter}
 use Rattle.kan_model.specs.declared.letters.Letter.TheVariants.{Pair, Var, Sym, Num, Truth, Nil}
 
@@ -73,3 +75,23 @@ Gives terms false found = terms ≡ None
 abbrev pub IsAtomOf : Letter → Option Tm → Type 0
 IsAtomOf x None = x ≡ Pair
 IsAtomOf x (Some t) = (ts : List Tm) → put_letter x ts ≡ Some (t ∷ ts)
+
+-- the letter is this variable
+abbrev pub is_letter_of : ℕ → Letter → Bool
+is_letter_of x (Var v) = eqb x v
+is_letter_of x _ = false
+
+-- two letters are the same
+abbrev pub letter_eq : Letter → Letter → Bool
+letter_eq Pair Pair = true
+letter_eq (Var v) other = is_letter_of v other
+letter_eq (Sym s) (Sym r) = eqb r s
+letter_eq (Num n) (Num m) = int_eq m n
+letter_eq (Truth b) (Truth c) = bool_eq c b
+letter_eq Nil Nil = true
+letter_eq _ _ = false
+
+-- the letters that stand for a letter, where variables are replaced
+abbrev pub spliced : Replacement → Letter → List Letter
+spliced s (Var v) = spelling (image s v)
+spliced s letter = letter ∷ []

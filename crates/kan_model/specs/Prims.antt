@@ -1,6 +1,5 @@
 -- What the primitives and types of the code stand for.
-use Rattle.std.specs.Prelude.{ℕ, ◌<◌, ◌≡◌, Bool, true, false, List, [], ◌∷◌, map, Option, Some, None, if◌then◌else◌}
-use Rattle.kan_terms.specs.Tree.{Tree, Tm, occurs, leaves}
+use Rattle.kan_terms.specs.Tree.{Tm}
 use Rattle.kan_terms.specs.Terms.{tree}
 use Rattle.kan_model.specs.Goals.{Primitive}
 use Rattle.kan_model.specs.declared.prims.Prim.{Prim}

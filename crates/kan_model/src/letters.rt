@@ -1,8 +1,10 @@
 //! Terms as lists of letters, so that plain code works on lists and never recurses on a term's depth.
 
-ghost use Rattle.std.specs.Prelude.{◌≡◌, [], ◌∷◌, ◌++◌, IfOk, OnOk, option_map};
+ghost use Rattle.std.specs.Prelude.{◌≡◌, [], ◌∷◌, ◌++◌, IfOk, OnOk, option_map, IsTrue, ◌↔◌};
+ghost use Rattle.std.specs.List.{list_any};
+ghost use Rattle.kan_terms.specs.Tree.{term_eq, occurs};
 ghost use Rattle.kan_terms.specs.Terms.{tree};
-ghost use Rattle.kan_model.specs.Letters.{spelling, letter_of, waiting_spelling, IsAtomOf, Gives, joined, stack_terms, put_letter, only_one, built_from};
+ghost use Rattle.kan_model.specs.Letters.{spelling, letter_of, waiting_spelling, IsAtomOf, Gives, joined, stack_terms, put_letter, only_one, built_from, is_letter_of, letter_eq};
 
 use kan_terms::{Memory, Term};
 use std::alloc::Global;
@@ -124,4 +126,67 @@ pub fn build(alloc: Global, mut letters: Vec<Letter>) -> Result<Option<Term>, Me
         }
     }
     Ok(only(stack))
+}
+
+// Whether two letters are the same.
+fn same_letter(left: Letter, right: Letter) -> bool
+    ensures { result ≡ letter_eq left right }
+{
+    match left {
+        Letter::Pair => matches!(right, Letter::Pair),
+        Letter::Var(var) => is_variable(right, var),
+        Letter::Sym(name) => matches!(right, Letter::Sym(other) if other == name),
+        Letter::Num(number) => matches!(right, Letter::Num(other) if other == number),
+        Letter::Truth(truth) => matches!(right, Letter::Truth(other) if other == truth),
+        Letter::Nil => matches!(right, Letter::Nil),
+    }
+}
+
+// Whether two lists of letters are the same.
+fn same_letters(mut left: Vec<Letter>, mut right: Vec<Letter>) -> bool
+    ensures { IsTrue result ↔ (left.items ≡ right.items) }
+{
+    while let Some(letter) = left.pop() {
+        let Some(other) = right.pop() else {
+            return false;
+        };
+        if !same_letter(letter, other) {
+            return false;
+        }
+    }
+    right.is_empty()
+}
+
+// Whether a letter is the variable.
+fn is_variable(letter: Letter, var: u64) -> bool
+    ensures { result ≡ is_letter_of var letter }
+{
+    match letter {
+        Letter::Var(found) => var == found,
+        _ => false,
+    }
+}
+
+/// Whether two terms are the same.
+pub fn same_terms(alloc: Global, left: &Term, right: &Term) -> Result<bool, Memory>
+    ensures { IfOk result (λ same. same ≡ term_eq (tree left.now) (tree right.now)) }
+{
+    let left = spell(alloc, left)?;
+    let right = spell(alloc, right)?;
+    Ok(same_letters(left, right))
+}
+
+// Whether a variable is among letters.
+fn has_variable(letters: &[Letter], var: u64) -> bool
+    ensures { result ≡ list_any (is_letter_of var) letters.now }
+{
+    letters.iter().any(|letter| is_variable(*letter, var))
+}
+
+/// Whether a variable stands in a term.
+pub fn occurs_in(alloc: Global, var: u64, term: &Term) -> Result<bool, Memory>
+    ensures { IfOk result (λ found. found ≡ occurs var (tree term.now)) }
+{
+    let letters = spell(alloc, term)?;
+    Ok(has_variable(&letters, var))
 }

@@ -3,6 +3,8 @@
 
 mod letters;
 mod prims;
+mod solving;
 
-pub use letters::{Letter, build, spell};
+pub use letters::{Letter, build, occurs_in, same_terms, spell};
 pub use prims::{Kind, Prim};
+pub use solving::{Replaced, apply, solve};

@@ -1,4 +1,4 @@
-use Rattle.std.proofs.Common.{arith, rules, ap, length}
+use Rattle.std.proofs.Common.{arith}
 use Rattle.std.proofs.lemmas.Grind.{common_steps}
 use Rattle.kan_model.proofs.LettersLaws.{only_more}
 use Rattle.kan_model.proofs.letters.only.Goals as goal
