@@ -1,2 +1,3 @@
+pub mod SpellingLaws
 pub mod TableLaws
 pub mod TreeLaws
