@@ -1,3 +1,4 @@
+pub mod ListLaws
 pub mod SpellingLaws
 pub mod TableLaws
 pub mod TreeLaws

@@ -1,4 +1,5 @@
 pub mod Bound
+pub mod Lists
 pub mod Memory
 pub mod Reading
 pub mod Spelling
