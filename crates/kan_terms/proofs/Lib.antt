@@ -2,3 +2,4 @@ pub mod ListLaws
 pub mod SpellingLaws
 pub mod TableLaws
 pub mod TreeLaws
+pub mod ValuationLaws
