@@ -76,8 +76,8 @@ one-tree (t ∷ u ∷ more) marks one e = absurd (omega arith)
 -- marks spell one tree exactly where the test says so
 pub Decides-spells_many : (marks : List Mark) → Decides (spells_many 1 marks) (SpellsTree marks)
 Decides-spells_many marks = (
-    (λ e. let read = trees-spells_many 1 marks e in one-tree (trees marks) marks read.0 read.1),
-    (λ spells. ap (spells_many 1) (sym spells.1 ∙ sym (append-nil (spelling spells.0))) ∙ spells_many-spelling spells.0 0 []),
+  (λ e. let read = trees-spells_many 1 marks e in one-tree (trees marks) marks read.0 read.1),
+  (λ spells. ap (spells_many 1) (sym spells.1 ∙ sym (append-nil (spelling spells.0))) ∙ spells_many-spelling spells.0 0 []),
 )
 
 -- a mark that is no pair

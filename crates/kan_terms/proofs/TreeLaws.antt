@@ -57,8 +57,9 @@ leaves-same_fill f g (Tree.truth b) e v h = absurd (omega arith)
 leaves-same_fill f g Tree.nil e v h = absurd (omega arith)
 leaves-same_fill f g (Tree.pair a b) e v h =
     elim (Contains-append_cases (leaves a) (leaves b) v h) [
-      inl in_a ↦ leaves-same_fill f g a (cc) v in_a
-    | inr in_b ↦ leaves-same_fill f g b (cc) v in_b ]
+      | inl in_a ↦ leaves-same_fill f g a (cc) v in_a
+      | inr in_b ↦ leaves-same_fill f g b (cc) v in_b
+    ]
 
 -- two truth values are the same exactly where the test says so
 pub Decides-bool_eq : (a b : Bool) → Decides (bool_eq a b) (a ≡ b)
@@ -146,8 +147,9 @@ occurs-leaves x (Tree.truth b) e = cc
 occurs-leaves x Tree.nil e = cc
 occurs-leaves x (Tree.pair a b) e =
     elim (or-split (occurs x a) (occurs x b) e) [
-      inl in_a ↦ Contains-append_left (leaves a) (leaves b) x (occurs-leaves x a in_a)
-    | inr in_b ↦ Contains-append_right (leaves a) (leaves b) x (occurs-leaves x b in_b) ]
+      | inl in_a ↦ Contains-append_left (leaves a) (leaves b) x (occurs-leaves x a in_a)
+      | inr in_b ↦ Contains-append_right (leaves a) (leaves b) x (occurs-leaves x b in_b)
+    ]
 
 -- each leaf of a term stands in it
 pub leaves-occurs : (x : ℕ) (t : Tm) → Contains (leaves t) x → occurs x t ≡ true
@@ -158,8 +160,9 @@ leaves-occurs x (Tree.truth b) h = absurd (omega arith)
 leaves-occurs x Tree.nil h = absurd (omega arith)
 leaves-occurs x (Tree.pair a b) h =
     elim (Contains-append_cases (leaves a) (leaves b) x h) [
-      inl in_a ↦ or-left (occurs x a) (occurs x b) (leaves-occurs x a in_a)
-    | inr in_b ↦ or-right (occurs x a) (occurs x b) (leaves-occurs x b in_b) ]
+      | inl in_a ↦ or-left (occurs x a) (occurs x b) (leaves-occurs x a in_a)
+      | inr in_b ↦ or-right (occurs x a) (occurs x b) (leaves-occurs x b in_b)
+    ]
 
 -- a variable stands in a term exactly where it is one of the term's leaves
 pub Decides-occurs : (x : ℕ) (t : Tm) → Decides (occurs x t) (Contains (leaves t) x)
@@ -193,8 +196,9 @@ occurs-fill x f (Tree.truth b) e = cc
 occurs-fill x f Tree.nil e = cc
 occurs-fill x f (Tree.pair a b) e =
     elim (or-split (occurs x (fill f a)) (occurs x (fill f b)) e) [
-      inl in_a ↦ (let found = occurs-fill x f a in_a in (found.0, or-left (occurs found.0 a) (occurs found.0 b) found.1, found.2))
-    | inr in_b ↦ (let found = occurs-fill x f b in_b in (found.0, or-right (occurs found.0 a) (occurs found.0 b) found.1, found.2)) ]
+      | inl in_a ↦ (let found = occurs-fill x f a in_a in (found.0, or-left (occurs found.0 a) (occurs found.0 b) found.1, found.2))
+      | inr in_b ↦ (let found = occurs-fill x f b in_b in (found.0, or-right (occurs found.0 a) (occurs found.0 b) found.1, found.2))
+    ]
 
 pub fill-occurs : (x y : ℕ) (f : ℕ → Tm) (t : Tm) → occurs y t ≡ true → occurs x (f y) ≡ true → occurs x (fill f t) ≡ true
 fill-occurs x y f (Tree.leaf v) e h = rw (← eqb-true y v e) h
@@ -204,8 +208,9 @@ fill-occurs x y f (Tree.truth b) e h = cc
 fill-occurs x y f Tree.nil e h = cc
 fill-occurs x y f (Tree.pair a b) e h =
     elim (or-split (occurs y a) (occurs y b) e) [
-      inl in_a ↦ or-left (occurs x (fill f a)) (occurs x (fill f b)) (fill-occurs x y f a in_a h)
-    | inr in_b ↦ or-right (occurs x (fill f a)) (occurs x (fill f b)) (fill-occurs x y f b in_b h) ]
+      | inl in_a ↦ or-left (occurs x (fill f a)) (occurs x (fill f b)) (fill-occurs x y f a in_a h)
+      | inr in_b ↦ or-right (occurs x (fill f a)) (occurs x (fill f b)) (fill-occurs x y f b in_b h)
+    ]
 
 -- a tree has at least one node
 pub size-positive : {V : Type 0} (t : Tree V) → 1 ≤ size t
@@ -225,5 +230,6 @@ size-fill x f (Tree.truth b) e = cc
 size-fill x f Tree.nil e = cc
 size-fill x f (Tree.pair a b) e =
     elim (or-split (occurs x a) (occurs x b) e) [
-      inl in_a ↦ omega (arith, size-fill x f a in_a)
-    | inr in_b ↦ omega (arith, size-fill x f b in_b) ]
+      | inl in_a ↦ omega (arith, size-fill x f a in_a)
+      | inr in_b ↦ omega (arith, size-fill x f b in_b)
+    ]
