@@ -4,8 +4,8 @@ use Rattle.std.specs.Bool.{Decides}
 use Rattle.std.proofs.Common.{sym, ◌∙◌, ap, arith, append_assoc, get_or, add-one}
 use Rattle.std.proofs.lemmas.Bool.{ne_eqb}
 use Rattle.std.proofs.Math.Seq.{drop-cons}
-use Rattle.std.proofs.lemmas.List.{append-nil}
-use Rattle.kan_terms.specs.Tree.{Tree, Gd}
+use Rattle.std.proofs.lemmas.List.{append-nil, length-append}
+use Rattle.kan_terms.specs.Tree.{Tree, Gd, size}
 use Rattle.kan_terms.specs.Spelling.{spelling, SpellsTree}
 use Rattle.kan_terms.specs.Reading.{trees, joined, tree_of, tree_of-spelling}
 use Rattle.kan_terms.specs.declared.marks.Mark.{Mark}
@@ -19,6 +19,15 @@ spelling-same s t e = sym (tree_of-spelling s) ∙ ap tree_of e ∙ tree_of-spel
 pub spelling-tree_of : (marks : List Mark) → SpellsTree marks → spelling (tree_of marks) ≡ marks
 spelling-tree_of marks spells =
     ap (λ l. spelling (tree_of l)) (sym spells.1) ∙ ap spelling (tree_of-spelling spells.0) ∙ spells.1
+
+-- a term has as many marks as nodes
+pub length-spelling : (t : Gd) → length (spelling t) ≡ size t
+length-spelling (Tree.leaf none) = absurd none
+length-spelling (Tree.sym s) = refl
+length-spelling (Tree.num n) = refl
+length-spelling (Tree.truth b) = refl
+length-spelling Tree.nil = refl
+length-spelling (Tree.pair a b) = omega (arith, length-append (spelling a) (spelling b), length-spelling a, length-spelling b)
 
 -- whether marks spell so many trees and no more
 abbrev pub spells_many : ℕ → List Mark → Bool

@@ -42,7 +42,8 @@ impl Model for Ground {
 }
 
 impl Ground {
-    /// The ground term that marks spell, or the marks where they don't spell one whole term and nothing after it.
+    /// The ground term that marks spell, or the marks where they don't spell one whole term and nothing after it. It takes no
+    /// memory.
     pub fn of_marks(marks: Vec<Mark>) -> Result<Ground, Vec<Mark>>
         ensures whole { IsOk result ↔ SpellsTree marks.items }
         ensures spelled { IfOk result (λ term. spelling term ≡ marks.items) }
@@ -55,7 +56,7 @@ impl Ground {
         }
     }
 
-    /// The marks of the term.
+    /// The marks of the term. It takes no memory.
     pub fn marks(&self) -> &[Mark]
         ensures { result.now ≡ spelling self.now }
     {

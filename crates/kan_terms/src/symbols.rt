@@ -55,7 +55,7 @@ impl Names {
         Ok(number as u32)
     }
 
-    /// The number of a text.
+    /// The number of a text. It takes no memory.
     pub fn find(&self, text: &str) -> Option<u32>
         ensures number { result ≡ number_of self.now text.now }
         ensures distinct { IsDistinct self.now }
@@ -66,7 +66,7 @@ impl Names {
         }
     }
 
-    /// The text that has a number.
+    /// The text that has a number. It takes no memory.
     pub fn name(&self, number: u32) -> Option<&str>
         ensures text { option_copied result ≡ name_of self.now number }
         ensures distinct { IsDistinct self.now }
