@@ -195,7 +195,7 @@ pub Inserts-full : {K : Type 0} (bytes : K → List ℕ) (keys new : List K) (ow
     → Inserts bytes keys new text number
 Inserts-full {K} bytes keys new owned text number same none is_new is_number =
     let table : map bytes new ≡ interned (map bytes keys) text =
-      ap (map bytes) is_new ∙ interned-keys bytes keys owned ∙ ap (interned (map bytes keys)) same in
+    ap (map bytes) is_new ∙ interned-keys bytes keys owned ∙ ap (interned (map bytes keys)) same in
     let pushed : map bytes new ≡ map bytes keys ++ text ∷ [] = table ∙ interned-new (map bytes keys) text none in
     let at : number ≡ position_or_len (λ k. bytes_eq text (bytes k)) keys = is_number ∙ ap (λ t. position_or_len (λ k. bytes_eq t (bytes k)) keys) same in
     record {

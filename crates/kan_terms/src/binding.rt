@@ -6,9 +6,8 @@ ghost use Rattle.kan_terms.specs.Bound.{bound_to};
 ghost use Rattle.kan_terms.specs.Terms.{tree};
 ghost use Rattle.kan_terms.specs.Tree.{Tm};
 
-use std::alloc::Global;
-
 use crate::terms::{Memory, Term};
+use std::alloc::Global;
 
 /// Terms that variables are bound to. A binding is never changed or taken back: `bind` makes new bindings beside the old
 /// ones, which stay as they were.

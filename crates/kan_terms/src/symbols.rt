@@ -1,14 +1,13 @@
 //! The table of names.
 
-ghost use Rattle.std.specs.Prelude.{◌≡◌, ◌<◌, [], length, Some, IfOk, OnOk, OnErr};
+ghost use Rattle.std.specs.Prelude.{◌≡◌, ◌-◌, ◌^◌, ◌<◌, [], length, Some, IfOk, OnOk, OnErr};
 ghost use Rattle.std.specs.Option.{option_copied};
 ghost use Rattle.kan_terms.specs.Table.{IsDistinct, interned, name_of, number_of};
 
+use crate::terms::Memory;
 use indexmap::IndexSet;
 use std::alloc::Global;
 use std::marker::Model;
-
-use crate::terms::Memory;
 
 /// The table of symbols: texts with numbers from 0 on, without a gap. A symbol's number never changes.
 #[derive(Drop)]
@@ -18,14 +17,15 @@ pub struct Names {
 }
 
 impl Model for Names {
-    ghost use Rattle.std.specs.Prelude.{◌<◌, ℕ, List, length, map, string_bytes};
+    ghost use Rattle.std.specs.Prelude.{◌^◌, ◌<◌, ℕ, List, length, map, string_bytes};
     ghost use Rattle.kan_terms.specs.Table.{IsDistinct};
 
     ghost Value = { List (List ℕ) };
 
     ghost view = { λ names. map string_bytes names.texts.keys };
 
-    ghost invariant = { λ names. IsDistinct (map string_bytes names.texts.keys) × (length names.texts.keys < 4294967296) };
+    ghost invariant = { λ names.
+        IsDistinct (map string_bytes names.texts.keys) × (length names.texts.keys < 2 ^ 32) };
 }
 
 impl Names {
@@ -41,7 +41,7 @@ impl Names {
 
     /// The number of a text, which is put into the table where it isn't there.
     pub fn intern(&mut self, text: &str) -> Result<u32, Memory>
-        requires { length self.old < 4294967295 }
+        requires { length self.old < 2 ^ 32 - 1 }
         ensures table { OnOk result (self.new ≡ interned self.old text.now) }
         ensures number { IfOk result (λ number. number_of self.new text.now ≡ Some number) }
         ensures distinct { IsDistinct self.new }
@@ -55,7 +55,7 @@ impl Names {
         Ok(number as u32)
     }
 
-    /// The number of a text.
+    /// The number of a text. It takes no memory.
     pub fn find(&self, text: &str) -> Option<u32>
         ensures number { result ≡ number_of self.now text.now }
         ensures distinct { IsDistinct self.now }
@@ -66,7 +66,7 @@ impl Names {
         }
     }
 
-    /// The text that has a number.
+    /// The text that has a number. It takes no memory.
     pub fn name(&self, number: u32) -> Option<&str>
         ensures text { option_copied result ≡ name_of self.now number }
         ensures distinct { IsDistinct self.now }
