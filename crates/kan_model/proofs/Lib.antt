@@ -1,6 +1,9 @@
 pub mod Examples
 pub mod RunExamples
 pub mod ConstraintExamples
+pub mod MeaningExamples
+pub mod AnswerExamples
 pub mod WorkLaws
 pub mod VariableCount
 pub mod SolveLaws
+pub mod DerivationLaws

@@ -1,3 +1,4 @@
 pub mod Memory
 pub mod Tree
 pub mod Terms
+pub mod Valuation
