@@ -7,3 +7,5 @@ pub mod WorkLaws
 pub mod VariableCount
 pub mod SolveLaws
 pub mod DerivationLaws
+pub mod UnifierLaws
+pub mod ReplacedLaws

@@ -18,3 +18,4 @@ pub mod Bounds
 pub mod InForm
 pub mod Covers
 pub mod Tables
+pub mod Unifiers
