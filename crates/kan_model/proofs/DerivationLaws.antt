@@ -3,7 +3,7 @@ use Rattle.std.proofs.Common.{◌≡◌, true, eqb, List, [], ◌∷◌, ◌++�
 use Rattle.std.proofs.lemmas.Bool.{and_parts, and_from, eqb-true, eq-eqb, true≢false}
 use Rattle.kan_terms.specs.Tree.{Gd}
 use Rattle.kan_model.specs.Goals.{Goal, Relation, Program}
-use Rattle.kan_model.specs.Derivations.{Derivation, Step, spelled, values, derives, Derives}
+use Rattle.kan_model.specs.Derivations.{Derivation, Step, spelled, values, derives, Derives, TestIsFamily, SpelledOnce}
 
 module _ (program : Program) where
   -- what the test accepts is in the family
@@ -39,6 +39,9 @@ module _ (program : Program) where
       and_from (eqb (length vs) (length vs)) (derives program g' (us ++ vs) d') (eq-eqb (length vs) (length vs) refl) (test_from-Derives g' (us ++ vs) d' below)
   test_from-Derives g us d (Derives.enter {args = args} {rel = rel} {d = d'} e below) = rw (e, derives) (test_from-Derives rel.body (values us args) d' below)
 
+pub test_is_family : TestIsFamily
+test_is_family program g us d = (Derives-from_test program g us d, test_from-Derives program g us d)
+
 without_first : List Step → List Step
 without_first [] = []
 without_first (s ∷ ss) = ss
@@ -58,5 +61,5 @@ spelled_once (Derivation.choose us d) (Derivation.choose vs d') more last h = le
 spelled_once (Derivation.enter d) (Derivation.enter d') more last h = let (below, after) = spelled_once d d' more last (ap without_first h) in (ap Derivation.enter below, after)
 spelled_once _ _ more last h = cc
 
-pub spelled-same : (d e : Derivation) → spelled d ≡ spelled e → d ≡ e
-spelled-same d e h = (spelled_once d e [] [] (ap (λ ss. ss ++ []) h)).0
+pub spelled_one : SpelledOnce
+spelled_one d e h = (spelled_once d e [] [] (ap (λ ss. ss ++ []) h)).0

@@ -7,5 +7,6 @@ pub mod WorkLaws
 pub mod VariableCount
 pub mod SolveLaws
 pub mod DerivationLaws
+pub mod StreamLaws
 pub mod UnifierLaws
 pub mod ReplacedLaws

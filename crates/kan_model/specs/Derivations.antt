@@ -1,5 +1,5 @@
 -- Derivations: the finite trees that show that a goal holds of ground values.
-use Rattle.std.specs.Prelude.{◌≡◌, ℕ, Bool, true, false, ◌&&◌, eqb, List, [], ◌∷◌, ◌++◌, length, Some, None, slice_get}
+use Rattle.std.specs.Prelude.{◌≡◌, Decides, ℕ, Bool, true, false, ◌&&◌, eqb, List, [], ◌∷◌, ◌++◌, length, Some, None, slice_get}
 use Rattle.kan_terms.specs.Tree.{Gd}
 use Rattle.kan_terms.specs.Valuation.{value}
 use Rattle.kan_model.specs.Goals.{Primitive, Goal, Template, Relation, Program}
@@ -75,3 +75,11 @@ InMeaning program rel us = (length us ≡ rel.params) × ((d : Derivation) × (d
 -- a ground term is a solution of a run where the run's goal has a derivation at it
 abbrev pub IsRunSolution : Program → Goal → Gd → Type 0
 IsRunSolution program g u = (d : Derivation) × (derives program g (u ∷ []) d ≡ true)
+
+-- the test accepts exactly what is in the family
+abbrev pub TestIsFamily : Type 0
+TestIsFamily = (program : Program) (g : Goal) (us : List Gd) (d : Derivation) → Decides (derives program g us d) (Derives program g us d)
+
+-- steps spell one derivation at most
+abbrev pub SpelledOnce : Type 0
+SpelledOnce = (d e : Derivation) → spelled d ≡ spelled e → d ≡ e
