@@ -10,3 +10,5 @@ pub mod DerivationLaws
 pub mod StreamLaws
 pub mod UnifierLaws
 pub mod ReplacedLaws
+pub mod ListLaws
+pub mod NameLaws
