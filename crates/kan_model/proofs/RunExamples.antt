@@ -59,3 +59,9 @@ pub behind_two_nevers : output_of never 10 (Some 1) (Goal.either (Goal.call 0 []
     line (codes "a") ++ line (codes "; 1 answers, 3 pulls, limit")
 unfolding solve_by rounds steps digits
 behind_two_nevers = refl
+
+pub behind_three_nevers :
+    output_of never 10 (Some 1) (Goal.either (Goal.call 0 []) (Goal.either (Goal.call 0 []) (Goal.either (Goal.call 0 []) (equal q (Tree.sym 0))))) ≡
+    line (codes "a") ++ line (codes "; 1 answers, 7 pulls, limit")
+unfolding solve_by rounds steps digits
+behind_three_nevers = refl

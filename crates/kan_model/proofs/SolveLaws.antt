@@ -9,11 +9,11 @@ use Rattle.kan_model.proofs.WorkLaws.{OneIs, work_explained}
 use Rattle.kan_model.proofs.VariableCount.{stands_in_sides, stands, count, Below, count_bounded, count_le, count_lt, above_stands, stands_replaced, replaced_gone}
 
 -- what stands in fewer equations lies below the same bound
-below_less : (b : ℕ) (es fs : List Equation) → ((v : ℕ) → stands v es ≡ true → stands v fs ≡ true) → Below b fs → Below b es
+pub below_less : (b : ℕ) (es fs : List Equation) → ((v : ℕ) → stands v es ≡ true → stands v fs ≡ true) → Below b fs → Below b es
 below_less b es fs h below v s = below v (h v s)
 
 -- the parts of pairs have the pairs' variables, and are smaller
-parts_stand : (e first rest : Equation) (es : List Equation) → e.left ≡ Tree.pair first.left rest.left → e.right ≡ Tree.pair first.right rest.right →
+pub parts_stand : (e first rest : Equation) (es : List Equation) → e.left ≡ Tree.pair first.left rest.left → e.right ≡ Tree.pair first.right rest.right →
     (v : ℕ) → stands v (first ∷ rest ∷ es) ≡ true → stands v (e ∷ es) ≡ true
 parts_stand e first rest es l r v = rw (l, r) (four (occurs v first.left) (occurs v first.right) (occurs v rest.left) (occurs v rest.right) (stands v es))
   where
@@ -36,15 +36,15 @@ sizes_rest e es = omega (arith, size-positive e.left)
 is_inside : (x : ℕ) (a : Tm) → a ≡ Tree.leaf x → occurs x a ≡ true
 is_inside x a h = rw h (eq-eqb x x refl)
 
-replaced_stands : (e : Equation) (es : List Equation) (x : ℕ) (t : Tm) → OneIs x t e.left e.right → stands x (e ∷ es) ≡ true
+pub replaced_stands : (e : Equation) (es : List Equation) (x : ℕ) (t : Tm) → OneIs x t e.left e.right → stands x (e ∷ es) ≡ true
 replaced_stands e es x t (inl (l, r)) = or_left (stands_in_sides x e) (stands x es) (or_left (occurs x e.left) (occurs x e.right) (is_inside x e.left l))
 replaced_stands e es x t (inr (l, r)) = or_left (stands_in_sides x e) (stands x es) (or_right (occurs x e.left) (occurs x e.right) (is_inside x e.right r))
 
-term_stands : (e : Equation) (es : List Equation) (x : ℕ) (t : Tm) → OneIs x t e.left e.right → (v : ℕ) → occurs v t ≡ true → stands v (e ∷ es) ≡ true
+pub term_stands : (e : Equation) (es : List Equation) (x : ℕ) (t : Tm) → OneIs x t e.left e.right → (v : ℕ) → occurs v t ≡ true → stands v (e ∷ es) ≡ true
 term_stands e es x t (inl (l, r)) v h = or_left (stands_in_sides v e) (stands v es) (or_right (occurs v e.left) (occurs v e.right) (rw r h))
 term_stands e es x t (inr (l, r)) v h = or_left (stands_in_sides v e) (stands v es) (or_left (occurs v e.left) (occurs v e.right) (rw l h))
 
-after_stand : (e : Equation) (es : List Equation) (x : ℕ) (t : Tm) → OneIs x t e.left e.right →
+pub after_stand : (e : Equation) (es : List Equation) (x : ℕ) (t : Tm) → OneIs x t e.left e.right →
     (v : ℕ) → stands v (map (replace_sides x t) es) ≡ true → stands v (e ∷ es) ≡ true
 after_stand e es x t one v h = elim (stands_replaced v x t es h) [
   | inl (there, other) ↦ or_right (stands_in_sides v e) (stands v es) there

@@ -13,3 +13,12 @@ pub mod Order
 pub mod Text
 pub mod AnswerText
 pub mod Output
+pub mod Holds
+pub mod Scope
+pub mod Derivations
+pub mod Pulls
+pub mod Bounds
+pub mod InForm
+pub mod Covers
+pub mod Tables
+pub mod Unifiers

@@ -1,5 +1,5 @@
 -- Streams as data: stores, and then the end or a suspension, which is a finite tree.
-use Rattle.std.specs.Prelude.{ℕ, List, [], ◌∷◌, ◌++◌}
+use Rattle.std.specs.Prelude.{◌≡◌, ℕ, List, [], ◌∷◌, ◌++◌}
 use Rattle.kan_terms.specs.Tree.{Tm}
 use Rattle.kan_model.specs.Goals.{Goal}
 use Rattle.kan_model.specs.Stores.{Store}
@@ -41,3 +41,7 @@ append_each goal_at (st ∷ sts) last = append (goal_at st) (append_each goal_at
 abbrev pub bind_all : (Store → Stream) → Goal → List Tm → Stream → Stream
 bind_all goal_at g env (Stream.ends hs) = append_each goal_at hs empty
 bind_all goal_at g env (Stream.goes_on hs i) = append_each goal_at hs (Stream.goes_on [] (Thunk.bind g env i))
+
+-- the empty stream in front changes nothing
+abbrev pub AppendEmpty : Type 0
+AppendEmpty = (t : Stream) → append empty t ≡ t
