@@ -1,1 +1,2 @@
 mod TokenExamples
+mod FaultExamples

@@ -1,2 +1,4 @@
 pub mod Tokens
 pub mod Written
+pub mod Open
+pub mod Faults
