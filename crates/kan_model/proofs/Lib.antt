@@ -1,2 +1,5 @@
 mod TokenExamples
 mod FaultExamples
+mod DeepExamples
+mod Complete
+mod Sound

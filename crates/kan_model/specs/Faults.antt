@@ -16,8 +16,8 @@ is_bad at bad = Some (fault at 4)
 is_bad at _ = None
 
 -- the token is a close, directly after a prefix
-abbrev pub closes_prefix : {D : Type 0} → Open D → Token → Option Fault
-closes_prefix (awaiting (after_prefix outer at p)) (closing s) = Some (fault at 4)
+abbrev pub closes_prefix : {D : Type 0} → Token → Open D → Option Fault
+closes_prefix (closing s) (awaiting (after_prefix outer at p)) = Some (fault at 4)
 closes_prefix _ _ = None
 
 abbrev pub innermost : {D : Type 0} → Open D → Option Shape
@@ -30,20 +30,20 @@ is_shape (Some square) square = true
 is_shape _ _ = false
 
 -- the token is a close, and no list is open or the innermost open list has the other shape
-abbrev pub is_stray : {D : Type 0} → Open D → ℕ → Token → Option Fault
-is_stray o at (closing s) = if is_shape (innermost o) s then None else Some (fault at 3)
-is_stray o at _ = None
+abbrev pub is_stray : {D : Type 0} → ℕ → Token → Open D → Option Fault
+is_stray at (closing s) o = if is_shape (innermost o) s then None else Some (fault at 3)
+is_stray at _ o = None
 
 -- the token is a close, directly after a dot
-abbrev pub closes_dot : {D : Type 0} → Open D → Token → Option Fault
-closes_dot (awaiting (after_dot outer at s e ds point)) (closing r) = Some (fault point 5)
+abbrev pub closes_dot : {D : Type 0} → Token → Open D → Option Fault
+closes_dot (closing r) (awaiting (after_dot outer at s e ds point)) = Some (fault point 5)
 closes_dot _ _ = None
 
 -- the token is a dot, and not one directly inside a list after an element and after no other dot
-abbrev pub is_misplaced : {D : Type 0} → Open D → ℕ → Token → Option Fault
-is_misplaced (awaiting (in_list outer start s (d ∷ ds))) at dot = None
-is_misplaced _ at dot = Some (fault at 5)
-is_misplaced _ at _ = None
+abbrev pub is_misplaced : {D : Type 0} → ℕ → Token → Open D → Option Fault
+is_misplaced at dot (awaiting (in_list outer start s (d ∷ ds))) = None
+is_misplaced at dot _ = Some (fault at 5)
+is_misplaced at _ _ = None
 
 -- the token begins a datum
 abbrev pub begins : Token → Bool
@@ -53,14 +53,14 @@ begins (atom a) = true
 begins _ = false
 
 -- the token begins a second datum after a dot in its list
-abbrev pub is_second : {D : Type 0} → Open D → Token → Option Fault
-is_second (ended outer start s e ds point d) t = if begins t then Some (fault point 5) else None
-is_second (awaiting p) t = None
+abbrev pub is_second : {D : Type 0} → Token → Open D → Option Fault
+is_second t (ended outer start s e ds point d) = if begins t then Some (fault point 5) else None
+is_second t (awaiting p) = None
 
 -- the token begins a datum that stands too deep
-abbrev pub is_too_deep : {D : Type 0} → Open D → ℕ → Token → Option Fault
-is_too_deep (awaiting p) at t = if begins t then (if nat_le (depth p) deepest then None else Some (fault at 6)) else None
-is_too_deep (ended outer start s e ds point d) at t = None
+abbrev pub is_too_deep : {D : Type 0} → ℕ → Token → Open D → Option Fault
+is_too_deep at t (awaiting p) = if begins t then (if nat_le (depth p) deepest then None else Some (fault at 6)) else None
+is_too_deep at t (ended outer start s e ds point d) = None
 
 -- the token is a number out of range
 abbrev pub is_out_of_range : ℕ → Token → Option Fault
@@ -80,7 +80,7 @@ first_fault (None ∷ more) = first_fault more
 
 -- the questions at a token, in their order
 abbrev pub refusal : {D : Type 0} → Open D → ℕ → Token → Option Fault
-refusal o at t = first_fault (is_bad at t ∷ closes_prefix o t ∷ is_stray o at t ∷ closes_dot o t ∷ is_misplaced o at t ∷ is_second o t ∷ is_too_deep o at t ∷ is_out_of_range at t ∷ is_reserved_name at t ∷ [])
+refusal o at t = first_fault (is_bad at t ∷ closes_prefix t o ∷ is_stray at t o ∷ closes_dot t o ∷ is_misplaced at t o ∷ is_second t o ∷ is_too_deep at t o ∷ is_out_of_range at t ∷ is_reserved_name at t ∷ [])
 
 -- what is open after a token that no question refuses
 abbrev pub after : {D : Type 0} → Build D → Open D → ℕ → Token → Open D

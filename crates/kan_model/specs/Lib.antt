@@ -2,3 +2,4 @@ pub mod Tokens
 pub mod Written
 pub mod Open
 pub mod Faults
+pub mod Laws
