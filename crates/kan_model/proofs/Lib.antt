@@ -3,3 +3,4 @@ mod FaultExamples
 mod DeepExamples
 mod Complete
 mod Sound
+mod Exactly
