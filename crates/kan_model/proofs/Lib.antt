@@ -4,3 +4,4 @@ mod DeepExamples
 mod Complete
 mod Sound
 mod Exactly
+mod PrintExamples

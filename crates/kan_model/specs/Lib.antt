@@ -2,4 +2,5 @@ pub mod Tokens
 pub mod Written
 pub mod Open
 pub mod Faults
+pub mod Printed
 pub mod Laws
