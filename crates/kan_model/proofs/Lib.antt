@@ -5,3 +5,4 @@ mod Complete
 mod Sound
 mod Exactly
 mod PrintExamples
+mod First

@@ -67,20 +67,20 @@ abbrev pub SoundOpen : ℕ → Open Written → Type 0
 SoundOpen limit (awaiting p) = Sound limit p
 SoundOpen limit (ended outer at s e ds point d) = Sound limit outer × IsTrue (nat_le (depth outer) limit) × IsTrue (row_allowed limit (depth outer) 0 (e ∷ ds)) × IsTrue (is_allowed limit (depth outer + suc (length ds)) d)
 
-are_allowed-snoc : (limit : ℕ) (ds : List Written) (d : Written) → are_allowed limit ds ≡ true → is_allowed limit 0 d ≡ true → are_allowed limit (ds ++ d ∷ []) ≡ true
+pub are_allowed-snoc : (limit : ℕ) (ds : List Written) (d : Written) → are_allowed limit ds ≡ true → is_allowed limit 0 d ≡ true → are_allowed limit (ds ++ d ∷ []) ≡ true
 are_allowed-snoc limit [] d h k = and_both _ _ k refl
 are_allowed-snoc limit (e ∷ ds) d h k = and_both _ _ (and_left _ _ h) (are_allowed-snoc limit ds d (and_right _ _ h) k)
 
-row_allowed-snoc : (limit k count : ℕ) (ds : List Written) (d : Written) → row_allowed limit k count ds ≡ true → is_allowed limit (k + suc (count + length ds)) d ≡ true → row_allowed limit k count (ds ++ d ∷ []) ≡ true
+pub row_allowed-snoc : (limit k count : ℕ) (ds : List Written) (d : Written) → row_allowed limit k count ds ≡ true → is_allowed limit (k + suc (count + length ds)) d ≡ true → row_allowed limit k count (ds ++ d ∷ []) ≡ true
 row_allowed-snoc limit k count [] d h g = and_both _ _ (let e : count + 0 ≡ count = omega arith in rw e at g) refl
 row_allowed-snoc limit k count (e ∷ ds) d h g = and_both _ _ (and_left _ _ h) (row_allowed-snoc limit k (suc count) ds d (and_right _ _ h) (let e : count + suc (length ds) ≡ suc count + length ds = omega arith in rw e at g))
 
 -- a row before a close, and before a dot and a datum
-row-close : (limit k count : ℕ) (ds : List Written) (at : ℕ) → row_allowed limit k count ds ≡ true → are_allowed_within limit k count (row ds (close at)) ≡ true
+pub row-close : (limit k count : ℕ) (ds : List Written) (at : ℕ) → row_allowed limit k count ds ≡ true → are_allowed_within limit k count (row ds (close at)) ≡ true
 row-close limit k count [] at h = refl
 row-close limit k count (d ∷ ds) at h = and_both _ _ (and_left _ _ h) (row-close limit k (suc count) ds at (and_right _ _ h))
 
-row-dotted : (limit k count : ℕ) (ds : List Written) (at : ℕ) (d : Written) (end : ℕ) → row_allowed limit k count ds ≡ true → nat_lt 0 (count + length ds) ≡ true → is_allowed limit (k + (count + length ds)) d ≡ true → are_allowed_within limit k count (row ds (dotted at d end)) ≡ true
+pub row-dotted : (limit k count : ℕ) (ds : List Written) (at : ℕ) (d : Written) (end : ℕ) → row_allowed limit k count ds ≡ true → nat_lt 0 (count + length ds) ≡ true → is_allowed limit (k + (count + length ds)) d ≡ true → are_allowed_within limit k count (row ds (dotted at d end)) ≡ true
 row-dotted limit k count [] at d end h g i = let e : count + 0 ≡ count = omega arith in and_both _ _ (rw e at g) (rw e at i)
 row-dotted limit k count (f ∷ ds) at d end h g i =
     let e : count + suc (length ds) ≡ suc count + length ds = omega arith in

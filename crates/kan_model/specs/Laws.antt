@@ -1,10 +1,43 @@
 -- What ties the reading of tokens to the grammar of data.
-use Rattle.std.specs.Prelude.{◌≡◌, ◌↔◌, List, [], IsTrue}
-use Rattle.kan_model.specs.Tokens.{Placed}
+use Rattle.std.specs.Prelude.{◌≡◌, ℕ, ◌+◌, max, ◌⊎◌, ◌↔◌, List, [], ◌∷◌, ◌++◌, IsTrue, Option, Some}
+use Rattle.kan_model.specs.Tokens.{Placed, placed, Token}
 use Rattle.kan_model.specs.Written.{Written, spell_all, are_allowed, deepest}
-use Rattle.kan_model.specs.Open.{as_written}
-use Rattle.kan_model.specs.Faults.{data_are, read_tokens}
+use Rattle.kan_model.specs.Open.{as_written, Open, awaiting, after_prefix, depth}
+use Rattle.kan_model.specs.Faults.{Fault, refusal, going, run, beginning, data_are, refused, cut_off, read_tokens}
 
 -- tokens are read as data exactly where they spell them and they are allowed
 abbrev pub ReadsExactly : Type 0
 ReadsExactly = (ts : List Placed) (ds : List Written) → (read_tokens as_written ts ≡ data_are ds) ↔ ((spell_all ds [] ≡ ts) × IsTrue (are_allowed deepest ds))
+
+-- tokens begin data that stand no deeper than a limit: with more tokens they spell them
+abbrev pub Begins : ℕ → List Placed → Type 0
+Begins limit ts = (ds : List Written) × (more : List Placed) × (spell_all ds [] ≡ ts ++ more) × IsTrue (are_allowed limit ds)
+
+-- how deep data must be let stand for what is open to be completed: no deeper than they may, but for the datum that the last prefix still lacks, which can be one or two too deep
+abbrev pub reach : Open Written → ℕ
+reach (awaiting (after_prefix outer at p)) = max deepest (depth outer + 2)
+reach _ = deepest
+
+-- tokens before one begin data, with it they begin none that are allowed, and the table's first answer there is the fault
+pub record StopsAt (ts : List Placed) (f : Fault) : Type 0 where
+  pub before : List Placed
+  pub at : ℕ
+  pub token : Token
+  pub later : List Placed
+  pub is_open : Open Written
+  pub in_order : ts ≡ before ++ placed at token ∷ later
+  pub read_before : run as_written beginning before ≡ going is_open
+  pub answer : refusal is_open at token ≡ Some f
+  pub before_begins : Begins (reach is_open) before
+  pub begins_none : Begins deepest (before ++ placed at token ∷ []) → ⊥
+
+-- all tokens begin data, and something is open at the end
+pub record IsCutOff (ts : List Placed) (f : Fault) : Type 0 where
+  pub is_open : Open Written
+  pub read_all : run as_written beginning ts ≡ going is_open
+  pub answer : cut_off is_open ≡ refused f
+  pub all_begin : Begins (reach is_open) ts
+
+-- a refusal belongs to the first token at which the tokens so far begin no text that can be read, or to the end
+abbrev pub RefusesFirst : Type 0
+RefusesFirst = (ts : List Placed) (f : Fault) → read_tokens as_written ts ≡ refused f → StopsAt ts f ⊎ IsCutOff ts f

@@ -1,0 +1,132 @@
+-- A refusal belongs to the first token at which the tokens so far begin no text that can be read, or to the end.
+use Rattle.std.proofs.Common.{◌≡◌, ℕ, suc, ◌+◌, ◌≤◌, max, ◌⊎◌, Bool, true, false, nat_le, List, [], ◌∷◌, ◌++◌, length, refl, sym, ap, ◌∙◌, append_assoc, append-nil, arith}
+use Rattle.std.proofs.lemmas.Bool.{lt-ltb, leb-true, le-leb}
+use Rattle.std.specs.Prelude.{Option, Some, None, IsTrue}
+use Rattle.kan_model.specs.Tokens.{Atom, truth, Placed, placed, Token, opening, closing, prefix, dot}
+use Rattle.kan_model.specs.Written.{Written, Within, single, list, prefixed, close, dotted, spell, spell_within, spell_all, is_allowed, are_allowed, deepest}
+use Rattle.kan_model.specs.Open.{Place, top, in_list, after_dot, after_prefix, Open, awaiting, ended, depth, row, as_written}
+use Rattle.kan_model.specs.Faults.{Fault, refusal, after, Progress, going, stopped, settled, step, run, Reading, data_are, refused, cut_off, finish, beginning, read_tokens}
+use Rattle.kan_model.specs.Laws.{Begins, reach, StopsAt, IsCutOff, RefusesFirst}
+use Rattle.kan_model.proofs.Complete.{and_left, and_right, and_both, past}
+use Rattle.kan_model.proofs.Sound.{spelled, spelled_open, Sound, SoundOpen, IsWide, are_allowed-snoc, row_allowed, row_allowed-snoc, row-close, row-dotted, spell_all-snoc, spell_within-row}
+use Rattle.kan_model.proofs.Exactly.{run-stopped, run-spelled, reads_exactly}
+
+-- some data allowed to the limit are spelled by what has led to a place, the tokens of a datum, and more
+abbrev Completes : ℕ → Place Written → Written → Type 0
+Completes limit p d = (ds : List Written) × (more : List Placed) × (spell_all ds [] ≡ spelled p (spell d more)) × IsTrue (are_allowed limit ds)
+
+-- a datum at a place can be gone on with until nothing is open
+completes : (limit : ℕ) (p : Place Written) (d : Written) → Sound limit p → is_allowed limit (depth p) d ≡ true → Completes limit p d
+completes limit (top es) d g h = (es ++ d ∷ [], [], spell_all-snoc es d [], are_allowed-snoc limit es d g h)
+completes limit (in_list outer at s es) d g h =
+    let n : 0 + length es ≡ length es = omega arith in
+    let c : Completes limit outer (list at s (row (es ++ d ∷ []) (close 0))) = completes limit outer (list at s (row (es ++ d ∷ []) (close 0))) g.0 (and_both _ _ g.1 (row-close limit (depth outer) 0 (es ++ d ∷ []) 0 (row_allowed-snoc limit (depth outer) 0 es d g.2 (rw n h)))) in
+    (c.0, placed 0 (closing s) ∷ c.1, c.2 ∙ ap (λ (ts : List Placed). spelled outer (placed at (opening s) ∷ ts)) (spell_within-row s (es ++ d ∷ []) (close 0) c.1 ∙ spell_all-snoc es d (placed 0 (closing s) ∷ c.1)), c.3)
+completes limit (after_dot outer at s e es point) d g h =
+    let n : 0 + suc (length es) ≡ suc (length es) = omega arith in
+    let c : Completes limit outer (list at s (row (e ∷ es) (dotted point d 0))) = completes limit outer (list at s (row (e ∷ es) (dotted point d 0))) g.0 (and_both _ _ g.1 (row-dotted limit (depth outer) 0 (e ∷ es) point d 0 g.2 (lt-ltb 0 (0 + suc (length es)) (omega arith)) (rw n h))) in
+    (c.0, placed 0 (closing s) ∷ c.1, c.2 ∙ ap (λ (ts : List Placed). spelled outer (placed at (opening s) ∷ ts)) (spell_within-row s (e ∷ es) (dotted point d 0) c.1), c.3)
+completes limit (after_prefix outer at q) d g h = completes limit outer (prefixed at q d) g.0 (and_both _ _ g.1 h)
+
+-- an allowed datum stands within the limit, and so does the last of a row
+allowed-depth : (limit k : ℕ) (d : Written) → is_allowed limit k d ≡ true → nat_le k limit ≡ true
+allowed-depth limit k (single at a) h = and_left _ _ h
+allowed-depth limit k (list at s inner) h = and_left _ _ h
+allowed-depth limit k (prefixed at q d) h = and_left _ _ h
+
+row-depth : (limit k count : ℕ) (e : Written) (es : List Written) → row_allowed limit k count (e ∷ es) ≡ true → nat_le (k + suc (count + length es)) limit ≡ true
+row-depth limit k count e [] h =
+    let n : count + 0 ≡ count = omega arith in rw n (allowed-depth limit (k + suc count) e (and_left _ _ h))
+row-depth limit k count e (f ∷ es) h =
+    let n : count + suc (length es) ≡ suc count + length es = omega arith in rw n (row-depth limit k (suc count) f es (and_right _ _ h))
+
+-- what is open can be completed
+abbrev OpenCompletes : ℕ → Open Written → Type 0
+OpenCompletes limit o = (ds : List Written) × (more : List Placed) × (spell_all ds [] ≡ spelled_open o more) × IsTrue (are_allowed limit ds)
+
+-- the least datum
+abbrev least : Written
+least = single 0 (truth true)
+
+open_completes : (o : Open Written) → SoundOpen (reach o) o → OpenCompletes (reach o) o
+open_completes (awaiting (top es)) g = (es, [], refl, g)
+open_completes (awaiting (in_list outer at s es)) g =
+    let c : Completes deepest outer (list at s (row es (close 0))) = completes deepest outer (list at s (row es (close 0))) g.0 (and_both _ _ g.1 (row-close deepest (depth outer) 0 es 0 g.2)) in
+    (c.0, placed 0 (closing s) ∷ c.1, c.2 ∙ ap (λ (ts : List Placed). spelled outer (placed at (opening s) ∷ ts)) (spell_within-row s es (close 0) c.1), c.3)
+open_completes (awaiting (after_dot outer at s e es point)) g =
+    let n : 0 + length es ≡ length es = omega arith in
+    let fits : nat_le (depth outer + suc (length es)) deepest ≡ true = rw n at (row-depth deepest (depth outer) 0 e es g.2) in
+    let c : Completes deepest (after_dot outer at s e es point) least = completes deepest (after_dot outer at s e es point) least g (and_both _ _ fits refl) in
+    (c.0, spell least c.1, c.2, c.3)
+open_completes (awaiting (after_prefix outer at q)) g =
+    let limit : ℕ = max deepest (depth outer + 2) in
+    let fits : nat_le (depth outer + 2) limit ≡ true = le-leb (depth outer + 2) limit (omega arith) in
+    let c : Completes limit (after_prefix outer at q) least = completes limit (after_prefix outer at q) least g (and_both _ _ fits refl) in
+    (c.0, spell least c.1, c.2, c.3)
+open_completes (ended outer at s e es point d) g =
+    let n : 0 + suc (length es) ≡ suc (length es) = omega arith in
+    let c : Completes deepest outer (list at s (row (e ∷ es) (dotted point d 0))) = completes deepest outer (list at s (row (e ∷ es) (dotted point d 0))) g.0 (and_both _ _ g.1 (row-dotted deepest (depth outer) 0 (e ∷ es) point d 0 g.2 (lt-ltb 0 (0 + suc (length es)) (omega arith)) (rw n g.3))) in
+    (c.0, placed 0 (closing s) ∷ c.1, c.2 ∙ ap (λ (ts : List Placed). spelled outer (placed at (opening s) ∷ ts)) (spell_within-row s (e ∷ es) (dotted point d 0) c.1), c.3)
+
+reach-wide : (o : Open Written) → IsWide (reach o)
+reach-wide (awaiting (top es)) = λ n h. h
+reach-wide (awaiting (in_list outer at s es)) = λ n h. h
+reach-wide (awaiting (after_dot outer at s e es point)) = λ n h. h
+reach-wide (awaiting (after_prefix outer at q)) = λ n h. let k : n ≤ deepest = leb-true n deepest h in le-leb n (max deepest (depth outer + 2)) (omega arith)
+reach-wide (ended outer at s e es point d) = λ n h. h
+
+-- tokens that are read so far begin data
+pub going_begins : (ts : List Placed) (o : Open Written) → run as_written beginning ts ≡ going o → Begins (reach o) ts
+going_begins ts o h =
+    let so = run-spelled (reach o) (reach-wide o) (awaiting (top [])) ts o h refl in
+    let c : OpenCompletes (reach o) o = open_completes o so.0 in
+    (c.0, c.1, c.2 ∙ so.1 c.1, c.3)
+
+pub run-append : (p : Progress Written) (xs ys : List Placed) → run as_written p (xs ++ ys) ≡ run as_written (run as_written p xs) ys
+unfolding run
+run-append p [] ys = refl
+run-append p (x ∷ xs) ys = run-append (step as_written p x) xs ys
+
+-- where a reading stops
+abbrev Stops : Open Written → List Placed → Fault → Type 0
+Stops o ts f = (before : List Placed) × (at : ℕ) × (t : Token) × (later : List Placed) × (then : Open Written) × (ts ≡ before ++ placed at t ∷ later) × (run as_written (going o) before ≡ going then) × (refusal then at t ≡ Some f)
+
+stops : (o : Open Written) (ts : List Placed) (f : Fault) → run as_written (going o) ts ≡ stopped f → Stops o ts f
+unfolding run
+stops o [] f h = absurd cc
+stops o (placed at t ∷ ts) f h = by_answer (refusal o at t) refl (λ e. stops (after as_written o at t) ts f (sym (past as_written o at t ts e) ∙ h))
+  where
+    by_answer : (r : Option Fault) → refusal o at t ≡ r → (refusal o at t ≡ None → Stops (after as_written o at t) ts f) → Stops o (placed at t ∷ ts) f
+    by_answer None e next =
+        let n : Stops (after as_written o at t) ts f = next e in
+        (placed at t ∷ n.0, n.1, n.2, n.3, n.4, ap (λ (xs : List Placed). placed at t ∷ xs) n.5, past as_written o at t n.0 e ∙ n.6, n.7)
+    by_answer (Some g) e next =
+        let stop : run as_written (stopped g) ts ≡ stopped f = ap (λ (r : Option Fault). run as_written (settled r (after as_written o at t)) ts) (sym e) ∙ h in
+        let same : Path (Progress Written) (stopped g) (stopped f) = sym (run-stopped g ts) ∙ stop in
+        let eq : g ≡ f = cc in
+        ([], at, t, ts, o, refl, refl, e ∙ ap Some eq)
+
+stops_at : (ts : List Placed) (f : Fault) → Stops (awaiting (top [])) ts f → StopsAt ts f
+unfolding run read_tokens
+stops_at ts f n = record {
+    before = n.0; at = n.1; token = n.2; later = n.3; is_open = n.4; in_order = n.5; read_before = n.6; answer = n.7;
+    before_begins = going_begins n.0 n.4 n.6;
+    begins_none = λ b. none b.0 b.1 b.2 b.3 }
+  where
+    none : (ds : List Written) (more : List Placed) → spell_all ds [] ≡ (n.0 ++ placed n.1 n.2 ∷ []) ++ more → IsTrue (are_allowed deepest ds) → ⊥
+    none ds more e k =
+        let read : read_tokens as_written ((n.0 ++ placed n.1 n.2 ∷ []) ++ more) ≡ data_are ds = (reads_exactly ((n.0 ++ placed n.1 n.2 ∷ []) ++ more) ds).1 (e, k) in
+        let front : run as_written beginning (n.0 ++ placed n.1 n.2 ∷ []) ≡ stopped f = run-append beginning n.0 (placed n.1 n.2 ∷ []) ∙ ap (λ (p : Progress Written). run as_written p (placed n.1 n.2 ∷ [])) n.6 ∙ ap (λ (r : Option Fault). settled r (after as_written n.4 n.1 n.2)) n.7 in
+        let all : run as_written beginning ((n.0 ++ placed n.1 n.2 ∷ []) ++ more) ≡ stopped f = run-append beginning (n.0 ++ placed n.1 n.2 ∷ []) more ∙ ap (λ (p : Progress Written). run as_written p more) front ∙ run-stopped f more in
+        let both : data_are ds ≡ refused f = sym read ∙ ap finish all in
+        cc
+
+by_progress : (ts : List Placed) (f : Fault) (p : Progress Written) → run as_written beginning ts ≡ p → finish p ≡ refused f → StopsAt ts f ⊎ IsCutOff ts f
+by_progress ts f (going o) h e = ◌⊎◌.inr (record { is_open = o; read_all = h; answer = e; all_begin = going_begins ts o h })
+by_progress ts f (stopped g) h e =
+    let eq : g ≡ f = cc in
+    ◌⊎◌.inl (stops_at ts f (stops (awaiting (top [])) ts f (h ∙ ap stopped eq)))
+
+pub refuses_first : RefusesFirst
+unfolding read_tokens
+refuses_first ts f h = by_progress ts f (run as_written beginning ts) refl h
