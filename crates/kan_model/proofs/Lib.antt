@@ -6,3 +6,4 @@ mod Sound
 mod Exactly
 mod PrintExamples
 mod First
+pub mod Carried

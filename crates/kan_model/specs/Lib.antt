@@ -3,4 +3,5 @@ pub mod Written
 pub mod Open
 pub mod Faults
 pub mod Printed
+pub mod Made
 pub mod Laws
