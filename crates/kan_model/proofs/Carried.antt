@@ -1,11 +1,12 @@
 -- Readings of the same tokens agree but for what is built: what a map carries over, a reading carries over.
-use Rattle.std.proofs.Common.{◌≡◌, ℕ, suc, ◌+◌, Bool, true, false, List, [], ◌∷◌, ◌++◌, map, length, refl, sym, ap, ◌∙◌, append_assoc, append-nil}
-use Rattle.std.specs.Prelude.{Option, Some, None, if◌then◌else◌}
+use Rattle.std.proofs.Common.{◌≡◌, ℕ, suc, Bool, true, false, List, [], ◌∷◌, ◌++◌, map, length, refl, sym, ap, ◌∙◌, append_assoc, append-nil}
+use Rattle.std.specs.Prelude.{Option, Some, None}
 use Rattle.std.specs.Str.{is_utf8}
-use Rattle.kan_model.specs.Tokens.{Atom, Shape, Prefix, Placed, placed, Token, opening, closing, prefix, dot, atom, bad, tokens}
-use Rattle.kan_model.specs.Written.{Written, Within, single, list, prefixed, close, dotted, element, deepest}
+use Rattle.kan_model.specs.Tokens.{Placed, placed, tokens}
+use Rattle.kan_model.specs.Words.{Shape, Token, opening, closing, prefix, dot, atom, bad}
+use Rattle.kan_model.specs.Written.{Written, Within, close, dotted}
 use Rattle.kan_model.specs.Open.{Build, Place, top, in_list, after_dot, after_prefix, Open, awaiting, ended, depth, innermost_shape, put, row, as_written}
-use Rattle.kan_model.specs.Faults.{Fault, refusal, after, Progress, going, stopped, settled, step, run, Reading, data_are, refused, cut_off, finish, beginning, read_tokens, read_if, read_text}
+use Rattle.kan_model.specs.Faults.{Fault, refusal, after, Progress, going, stopped, settled, step, run, finish, beginning, read_tokens, read_if, read_text}
 use Rattle.kan_model.specs.Made.{made, made_within, Carries, map_reading}
 
 abbrev map_place : {C D : Type 0} → (C → D) → Place C → Place D
@@ -135,7 +136,8 @@ made-row b start s es (d ∷ ds) inner = made-row b start s (es ++ made b d ∷ 
 -- what a build makes of data as they are written is what it reads
 pub made_carries : {D : Type 0} (b : Build D) → Carries as_written b (made b)
 made_carries b = record {
-    atoms = λ at x. refl;
-    lists = λ at s ds end. made-row b at s [] ds (close end);
-    dotted_lists = λ at s ds point d end. made-row b at s [] ds (dotted point d end);
-    prefixes = λ at p d. refl }
+  atoms = λ at x. refl;
+  lists = λ at s ds end. made-row b at s [] ds (close end);
+  dotted_lists = λ at s ds point d end. made-row b at s [] ds (dotted point d end);
+  prefixes = λ at p d. refl;
+}

@@ -1,10 +1,11 @@
 -- Tokens that spell allowed data are read as these data.
-use Rattle.std.proofs.Common.{◌≡◌, ℕ, zero, suc, ◌+◌, Bool, true, false, ◌&&◌, nat_le, nat_lt, List, [], ◌∷◌, ◌++◌, length, refl, sym, ap, ◌∙◌, append_assoc, append-nil, length-append, arith}
-use Rattle.std.specs.Prelude.{Option, Some, None}
-use Rattle.kan_model.specs.Tokens.{Atom, symbol, number, truth, out_of_range, reserved, Shape, round, square, Prefix, Placed, placed, Token, opening, closing, prefix, dot, atom, bad}
+use Rattle.std.proofs.Common.{◌≡◌, ℕ, suc, Bool, true, false, ◌&&◌, nat_le, List, [], ◌∷◌, ◌++◌, length, refl, sym, ap, ◌∙◌, append_assoc, append-nil}
+use Rattle.std.specs.Prelude.{None}
+use Rattle.kan_model.specs.Tokens.{Placed, placed}
+use Rattle.kan_model.specs.Words.{Atom, symbol, number, truth, out_of_range, reserved, Shape, round, square, Prefix, Token, opening, closing, prefix, dot, atom}
 use Rattle.kan_model.specs.Written.{Written, Within, single, list, prefixed, close, dotted, element, spell, spell_within, spell_all, is_allowed_atom, is_allowed, are_allowed_within, are_allowed, deepest}
 use Rattle.kan_model.specs.Open.{Build, Place, top, in_list, after_dot, after_prefix, Open, awaiting, ended, depth, put, row, as_written}
-use Rattle.kan_model.specs.Faults.{refusal, after, Progress, going, stopped, settled, step, run, is_shape, finish, data_are, read_tokens}
+use Rattle.kan_model.specs.Faults.{refusal, after, going, settled, run, finish, data_are, read_tokens}
 
 pub and_left : (a b : Bool) → a && b ≡ true → a ≡ true
 and_left true b h = refl

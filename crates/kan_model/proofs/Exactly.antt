@@ -1,13 +1,13 @@
 -- Tokens are read as data exactly where they spell them and they are allowed.
-use Rattle.std.proofs.Common.{◌≡◌, ℕ, Bool, true, false, nat_le, List, [], ◌∷◌, ◌++◌, refl, sym, ap, ◌∙◌, append_assoc, append-nil}
+use Rattle.std.proofs.Common.{◌≡◌, ℕ, List, [], ◌∷◌, ◌++◌, refl, sym, ap, ◌∙◌, append-nil}
 use Rattle.std.specs.Prelude.{Option, Some, None, IsTrue}
-use Rattle.kan_model.specs.Tokens.{Placed, placed, Token}
+use Rattle.kan_model.specs.Tokens.{Placed, placed}
 use Rattle.kan_model.specs.Written.{Written, spell_all, are_allowed, deepest}
-use Rattle.kan_model.specs.Open.{Place, top, in_list, after_dot, after_prefix, Open, awaiting, ended, as_written}
-use Rattle.kan_model.specs.Faults.{Fault, fault, refusal, after, Progress, going, stopped, settled, step, run, Reading, data_are, refused, cut_off, finish, beginning, read_tokens}
+use Rattle.kan_model.specs.Open.{top, in_list, after_dot, after_prefix, Open, awaiting, ended, as_written}
+use Rattle.kan_model.specs.Faults.{Fault, refusal, after, Progress, going, stopped, settled, run, data_are, cut_off, finish, beginning, read_tokens}
 use Rattle.kan_model.specs.Laws.{ReadsExactly}
 use Rattle.kan_model.proofs.Complete.{past, spelled_are_read}
-use Rattle.kan_model.proofs.Sound.{spelled, spelled_open, Sound, SoundOpen, IsWide, after-sound, after-spelled}
+use Rattle.kan_model.proofs.Sound.{spelled_open, SoundOpen, IsWide, after-sound, after-spelled}
 
 -- a reading that has stopped stays there
 pub run-stopped : (f : Fault) (ts : List Placed) → run as_written (stopped f) ts ≡ stopped f

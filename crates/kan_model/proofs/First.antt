@@ -1,11 +1,12 @@
 -- A refusal belongs to the first token at which the tokens so far begin no text that can be read, or to the end.
-use Rattle.std.proofs.Common.{◌≡◌, ℕ, suc, ◌+◌, ◌≤◌, max, ◌⊎◌, Bool, true, false, nat_le, List, [], ◌∷◌, ◌++◌, length, refl, sym, ap, ◌∙◌, append_assoc, append-nil, arith}
+use Rattle.std.proofs.Common.{◌≡◌, ℕ, suc, ◌+◌, ◌≤◌, max, ◌⊎◌, true, nat_le, List, [], ◌∷◌, ◌++◌, length, refl, sym, ap, ◌∙◌, arith}
 use Rattle.std.proofs.lemmas.Bool.{lt-ltb, leb-true, le-leb}
 use Rattle.std.specs.Prelude.{Option, Some, None, IsTrue}
-use Rattle.kan_model.specs.Tokens.{Atom, truth, Placed, placed, Token, opening, closing, prefix, dot}
-use Rattle.kan_model.specs.Written.{Written, Within, single, list, prefixed, close, dotted, spell, spell_within, spell_all, is_allowed, are_allowed, deepest}
+use Rattle.kan_model.specs.Tokens.{Placed, placed}
+use Rattle.kan_model.specs.Words.{truth, Token, opening, closing}
+use Rattle.kan_model.specs.Written.{Written, single, list, prefixed, close, dotted, spell, spell_all, is_allowed, are_allowed, deepest}
 use Rattle.kan_model.specs.Open.{Place, top, in_list, after_dot, after_prefix, Open, awaiting, ended, depth, row, as_written}
-use Rattle.kan_model.specs.Faults.{Fault, refusal, after, Progress, going, stopped, settled, step, run, Reading, data_are, refused, cut_off, finish, beginning, read_tokens}
+use Rattle.kan_model.specs.Faults.{Fault, refusal, after, Progress, going, stopped, settled, step, run, data_are, refused, finish, beginning, read_tokens}
 use Rattle.kan_model.specs.Laws.{Begins, reach, StopsAt, IsCutOff, RefusesFirst}
 use Rattle.kan_model.proofs.Complete.{and_left, and_right, and_both, past}
 use Rattle.kan_model.proofs.Sound.{spelled, spelled_open, Sound, SoundOpen, IsWide, are_allowed-snoc, row_allowed, row_allowed-snoc, row-close, row-dotted, spell_all-snoc, spell_within-row}
@@ -109,9 +110,17 @@ stops o (placed at t ∷ ts) f h = by_answer (refusal o at t) refl (λ e. stops 
 stops_at : (ts : List Placed) (f : Fault) → Stops (awaiting (top [])) ts f → StopsAt ts f
 unfolding run read_tokens
 stops_at ts f n = record {
-    before = n.0; at = n.1; token = n.2; later = n.3; is_open = n.4; in_order = n.5; read_before = n.6; answer = n.7;
-    before_begins = going_begins n.0 n.4 n.6;
-    begins_none = λ b. none b.0 b.1 b.2 b.3 }
+  before = n.0;
+  at = n.1;
+  token = n.2;
+  later = n.3;
+  is_open = n.4;
+  in_order = n.5;
+  read_before = n.6;
+  answer = n.7;
+  before_begins = going_begins n.0 n.4 n.6;
+  begins_none = λ b. none b.0 b.1 b.2 b.3;
+}
   where
     none : (ds : List Written) (more : List Placed) → spell_all ds [] ≡ (n.0 ++ placed n.1 n.2 ∷ []) ++ more → IsTrue (are_allowed deepest ds) → ⊥
     none ds more e k =

@@ -1,9 +1,14 @@
-mod TokenExamples
-mod FaultExamples
-mod DeepExamples
-mod Complete
-mod Sound
-mod Exactly
-mod PrintExamples
-mod First
 pub mod Carried
+mod Complete
+mod CutExamples
+mod DeepExamples
+mod Exactly
+mod Examples
+mod First
+mod LongExamples
+mod OrderExamples
+mod PrintExamples
+mod RefusalExamples
+mod Sound
+mod TokenExamples
+mod WordExamples

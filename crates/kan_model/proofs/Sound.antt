@@ -1,12 +1,13 @@
 -- What tokens that are read have spelled: at each token the data so far and what is open.
-use Rattle.std.proofs.Common.{◌≡◌, ℕ, zero, suc, ◌+◌, Bool, true, false, ◌&&◌, nat_le, nat_lt, List, [], ◌∷◌, ◌++◌, length, refl, sym, ap, ◌∙◌, append_assoc, append-nil, arith, cond}
+use Rattle.std.proofs.Common.{◌≡◌, ℕ, suc, ◌+◌, Bool, true, false, ◌&&◌, nat_le, nat_lt, List, [], ◌∷◌, ◌++◌, length, refl, ap, ◌∙◌, arith}
 use Rattle.std.proofs.lemmas.Bool.{lt-ltb}
 use Rattle.std.specs.Prelude.{Option, Some, None, IsTrue, if◌then◌else◌}
-use Rattle.kan_model.specs.Tokens.{Atom, symbol, number, truth, out_of_range, reserved, Shape, round, square, Prefix, Placed, placed, Token, opening, closing, prefix, dot, atom, bad}
+use Rattle.kan_model.specs.Tokens.{Placed, placed}
+use Rattle.kan_model.specs.Words.{Atom, symbol, number, truth, out_of_range, reserved, Shape, round, square, Token, opening, closing, prefix, dot, atom, bad}
 use Rattle.kan_model.specs.Written.{Written, Within, single, list, prefixed, close, dotted, element, spell, spell_within, spell_all, is_allowed_atom, is_allowed, are_allowed_within, are_allowed, deepest}
-use Rattle.kan_model.specs.Open.{Build, Place, top, in_list, after_dot, after_prefix, Open, awaiting, ended, depth, innermost_shape, put, row, as_written}
-use Rattle.kan_model.specs.Faults.{Fault, fault, refusal, first_fault, after, Progress, going, stopped, settled, step, run, is_shape, is_out_of_range, is_reserved_name}
-use Rattle.kan_model.proofs.Complete.{and_left, and_right, and_both, length-snoc}
+use Rattle.kan_model.specs.Open.{Place, top, in_list, after_dot, after_prefix, Open, awaiting, ended, depth, put, row, as_written}
+use Rattle.kan_model.specs.Faults.{Fault, refusal, first_fault, after, is_out_of_range, is_reserved_name}
+use Rattle.kan_model.proofs.Complete.{and_left, and_right, and_both}
 
 -- the tokens before what follows, and what follows them
 mutual

@@ -1,10 +1,11 @@
 -- The faults of a text: the questions at each token in their order, the two at the end, and the reading that asks them.
-use Rattle.std.specs.Prelude.{ℕ, Bool, true, false, not, nat_le, if◌then◌else◌, List, [], ◌∷◌, Option, Some, None}
+use Rattle.std.specs.Prelude.{ℕ, Bool, true, false, nat_le, if◌then◌else◌, List, [], ◌∷◌, Option, Some, None}
 use Rattle.std.specs.Str.{is_utf8}
 use Rattle.std.specs.Str.Lossy.{utf8_valid_len}
-use Rattle.kan_model.specs.Tokens.{Atom, out_of_range, reserved, Shape, round, square, Prefix, Token, opening, closing, prefix, dot, atom, bad, Placed, placed, tokens}
+use Rattle.kan_model.specs.Tokens.{Placed, placed, tokens}
+use Rattle.kan_model.specs.Words.{out_of_range, reserved, Shape, round, square, Token, opening, closing, prefix, dot, atom, bad}
 use Rattle.kan_model.specs.Written.{deepest}
-use Rattle.kan_model.specs.Open.{Build, Place, top, in_list, after_dot, after_prefix, Open, awaiting, ended, depth, innermost_shape, put}
+use Rattle.kan_model.specs.Open.{Build, top, in_list, after_dot, after_prefix, Open, awaiting, ended, depth, innermost_shape, put}
 
 -- an offset and the number of a refusal
 pub data Fault : Type 0 where
@@ -20,10 +21,12 @@ abbrev pub closes_prefix : {D : Type 0} → Token → Open D → Option Fault
 closes_prefix (closing s) (awaiting (after_prefix outer at p)) = Some (fault at 4)
 closes_prefix _ _ = None
 
+-- the shape of the innermost list
 abbrev pub innermost : {D : Type 0} → Open D → Option Shape
 innermost (awaiting p) = innermost_shape p
 innermost (ended outer at s e ds point d) = Some s
 
+-- there is a shape, and it is this
 abbrev pub is_shape : Option Shape → Shape → Bool
 is_shape (Some round) round = true
 is_shape (Some square) square = true
@@ -97,10 +100,12 @@ pub data Progress (D : Type 0) : Type 0 where
   going : Open D → Progress D
   stopped : Fault → Progress D
 
+-- a fault stops the reading
 abbrev pub settled : {D : Type 0} → Option Fault → Open D → Progress D
 settled None o = going o
 settled (Some f) o = stopped f
 
+-- the reading after one token more
 abbrev pub step : {D : Type 0} → Build D → Progress D → Placed → Progress D
 step b (going o) (placed at t) = settled (refusal o at t) (after b o at t)
 step b (stopped f) t = stopped f
@@ -123,6 +128,7 @@ cut_off (awaiting (in_list outer at s ds)) = refused (fault at 2)
 cut_off (awaiting (after_dot outer at s e ds point)) = refused (fault at 2)
 cut_off (ended outer at s e ds point d) = refused (fault at 2)
 
+-- what a reading comes to at the end
 abbrev pub finish : {D : Type 0} → Progress D → Reading D
 finish (going o) = cut_off o
 finish (stopped f) = refused f

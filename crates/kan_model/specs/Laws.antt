@@ -1,6 +1,7 @@
 -- What ties the reading of tokens to the grammar of data.
-use Rattle.std.specs.Prelude.{◌≡◌, ℕ, ◌+◌, max, ◌⊎◌, ◌↔◌, List, [], ◌∷◌, ◌++◌, IsTrue, Option, Some}
-use Rattle.kan_model.specs.Tokens.{Placed, placed, Token}
+use Rattle.std.specs.Prelude.{◌≡◌, ℕ, ◌+◌, max, ◌⊎◌, ◌↔◌, List, [], ◌∷◌, ◌++◌, IsTrue, Some}
+use Rattle.kan_model.specs.Tokens.{Placed, placed}
+use Rattle.kan_model.specs.Words.{Token}
 use Rattle.kan_model.specs.Written.{Written, spell_all, are_allowed, deepest}
 use Rattle.kan_model.specs.Open.{as_written, Open, awaiting, after_prefix, depth}
 use Rattle.kan_model.specs.Faults.{Fault, refusal, going, run, beginning, data_are, refused, cut_off, read_tokens}

@@ -1,8 +1,8 @@
 -- What is made of data as they are written, and how one way to build carries over to another.
 use Rattle.std.specs.Prelude.{◌≡◌, ℕ, List, [], ◌∷◌, ◌++◌, map}
-use Rattle.kan_model.specs.Tokens.{Atom, Shape, Prefix}
+use Rattle.kan_model.specs.Words.{Atom, Shape, Prefix}
 use Rattle.kan_model.specs.Written.{Written, Within, single, list, prefixed, close, dotted, element}
-use Rattle.kan_model.specs.Open.{Build, as_written}
+use Rattle.kan_model.specs.Open.{Build}
 use Rattle.kan_model.specs.Faults.{Reading, data_are, refused}
 
 -- what a build makes of a datum, and of a list with elements made before what else stands in it

@@ -1,6 +1,6 @@
 -- What is open at a place in a text: where the next datum will stand, or that only a close may come.
 use Rattle.std.specs.Prelude.{ℕ, suc, ◌+◌, List, [], ◌∷◌, ◌++◌, length, Option, Some, None}
-use Rattle.kan_model.specs.Tokens.{Atom, Shape, Prefix}
+use Rattle.kan_model.specs.Words.{Atom, Shape, Prefix}
 use Rattle.kan_model.specs.Written.{Written, Within, single, list, prefixed, close, dotted, element}
 
 -- what is made of the data of a text: of an atom, of a list by its elements, of one with a dot, and of a prefixed datum, each with its offsets

@@ -1,8 +1,8 @@
 -- What data mean, read as pairs, and the texts that printing gives.
-use Rattle.std.specs.Prelude.{ℕ, ℤ, Bool, true, false, List, [], ◌∷◌, ◌++◌}
+use Rattle.std.specs.Prelude.{ℕ, Bool, true, false, List, [], ◌++◌}
 use Rattle.std.specs.Fmt.{signed_decimal}
 use Rattle.kan_terms.specs.Tree.{Tree, leaf, sym, num, truth, nil, pair}
-use Rattle.kan_model.specs.Tokens.{Atom, symbol, number, truth as truth_value, out_of_range, reserved, Prefix, quote, quasiquote, unquote}
+use Rattle.kan_model.specs.Words.{Atom, symbol, number, truth as truth_value, out_of_range, reserved, Prefix, quote, quasiquote, unquote}
 use Rattle.kan_model.specs.Written.{Written, Within, single, list, prefixed, close, dotted, element}
 use lib.Chars.{codes}
 
@@ -36,6 +36,7 @@ abbrev mutual
   pairs_within (dotted at d end) = pairs d
   pairs_within (element d inner) = pair (pairs d) (pairs_within inner)
 
+-- the text of a truth value
 abbrev pub truth_text : Bool → List ℕ
 truth_text true = codes "#t"
 truth_text false = codes "#f"

@@ -1,96 +1,16 @@
 -- The tokens of a text: its bytes cut by longest match, each token with its offset.
-use Rattle.std.specs.Prelude.{ℕ, zero, suc, ◌^◌, ℤ, pos, negsuc, Bool, true, false, not, ◌&&◌, ◌||◌, if◌then◌else◌, nat_lt, ◌==◌, List, [], ◌∷◌, take_while}
+use Rattle.std.specs.Prelude.{ℕ, zero, suc, true, false, not, if◌then◌else◌, ◌==◌, List, [], ◌∷◌, take_while}
 use Rattle.std.specs.List.{prefix_len}
-use Rattle.std.specs.Char.{is_ascii_digit, is_ascii_alphanumeric}
-use Rattle.std.specs.Str.Parse.{without_leading_sign, signed_digits_value}
+use Rattle.kan_model.specs.Words.{round, square, quote, quasiquote, unquote, Token, opening, closing, prefix, atom, truth, bad, is_one_of, is_word_byte, word_token}
 use lib.Chars.{codes}
-
--- what one word says by itself
-pub data Atom : Type 0 where
-  symbol : List ℕ → Atom
-  number : ℤ → Atom
-  truth : Bool → Atom
-  -- a number that no datum can hold
-  out_of_range : Atom
-  -- a name that answers use for their variables
-  reserved : Atom
-
--- the two shapes of parentheses
-pub data Shape : Type 0 where
-  round : Shape
-  square : Shape
-
-pub data Prefix : Type 0 where
-  quote : Prefix
-  quasiquote : Prefix
-  unquote : Prefix
-
-pub data Token : Type 0 where
-  opening : Shape → Token
-  closing : Shape → Token
-  prefix : Prefix → Token
-  dot : Token
-  atom : Atom → Token
-  -- what no text may hold
-  bad : Token
 
 -- a token and its offset
 pub data Placed : Type 0 where
   placed : ℕ → Token → Placed
 
--- a byte is one of these
-abbrev pub is_one_of : List ℕ → ℕ → Bool
-is_one_of [] b = false
-is_one_of (c ∷ cs) b = b == c || is_one_of cs b
-
--- the bytes of words: ASCII letters and digits, some signs, and each byte of a character above U+007F
-abbrev pub is_word_byte : ℕ → Bool
-is_word_byte b = is_ascii_alphanumeric b || (nat_lt 127 b || is_one_of (codes "!$%&*/:<=>?^_~+-.@") b)
-
 -- how many bytes come before the next line feed, or before the end
 abbrev pub comment_length : List ℕ → ℕ
 comment_length bs = prefix_len (λ b. not (b == 10)) bs
-
-abbrev pub begins_with_digit : List ℕ → Bool
-begins_with_digit [] = false
-begins_with_digit (b ∷ bs) = is_ascii_digit b
-
-abbrev pub all_digits : List ℕ → Bool
-all_digits [] = true
-all_digits (b ∷ bs) = is_ascii_digit b && all_digits bs
-
-abbrev pub without_leading_point : List ℕ → List ℕ
-without_leading_point [] = []
-without_leading_point (b ∷ bs) = if b == 46 then bs else b ∷ bs
-
--- after an optional sign and then an optional point comes a digit
-abbrev pub looks_like_number : List ℕ → Bool
-looks_like_number w = begins_with_digit (without_leading_point (without_leading_sign w))
-
--- the whole numbers that a datum holds are those of 128 bits
-abbrev pub is_in_range : ℤ → Bool
-is_in_range (pos n) = nat_lt n (2 ^ 127)
-is_in_range (negsuc n) = nat_lt n (2 ^ 127)
-
-abbrev pub number_atom : ℤ → Atom
-number_atom z = if is_in_range z then number z else out_of_range
-
--- the token of a word that looks like a number: it is one where digits alone follow the sign
-abbrev pub number_token : List ℕ → Token
-number_token w = if all_digits (without_leading_sign w) then atom (number_atom (signed_digits_value 10 w)) else bad
-
--- an underscore and one or more digits
-abbrev pub is_reserved : List ℕ → Bool
-is_reserved [] = false
-is_reserved (b ∷ bs) = b == 95 && (begins_with_digit bs && all_digits bs)
-
-abbrev pub is_dot : List ℕ → Bool
-is_dot (b ∷ []) = b == 46
-is_dot _ = false
-
--- the token of a word
-unfoldable pub word_token : List ℕ → Token
-word_token w = if is_dot w then dot else (if looks_like_number w then number_token w else (if is_reserved w then atom reserved else atom (symbol w)))
 
 -- the token of a number sign and the word after it
 abbrev pub hash_token : List ℕ → Token
@@ -102,7 +22,7 @@ abbrev pub comma_token : List ℕ → Token
 comma_token [] = prefix unquote
 comma_token (b ∷ bs) = if b == 64 then bad else prefix unquote
 
--- what a byte begins
+-- what a byte can begin: nothing, a comment, a token of its own, or one that later bytes decide
 pub data Start : Type 0 where
   separator : Start
   comment : Start
@@ -111,6 +31,7 @@ pub data Start : Type 0 where
   hash : Start
   in_word : Start
 
+-- what each byte begins
 abbrev pub start : ℕ → Start
 start b = if is_one_of (codes " \t\n\r") b then separator else (if b == 59 then comment
     else (if b == 40 then whole (opening round) else (if b == 91 then whole (opening square)
@@ -124,7 +45,7 @@ pub data Piece : Type 0 where
   blank : ℕ → Piece
   spelled : Token → ℕ → Piece
 
--- the piece that a byte begins, by what it begins, before the bytes that follow
+-- the piece of a byte that begins this, before the bytes that follow
 abbrev pub piece_of : Start → ℕ → List ℕ → Piece
 piece_of separator b bs = blank 0
 piece_of comment b bs = blank (comment_length bs)
@@ -133,6 +54,7 @@ piece_of comma b bs = spelled (comma_token bs) 0
 piece_of hash b bs = spelled (hash_token (take_while is_word_byte bs)) (prefix_len is_word_byte bs)
 piece_of in_word b bs = spelled (word_token (b ∷ take_while is_word_byte bs)) (prefix_len is_word_byte bs)
 
+-- the piece that a byte begins, before the bytes that follow
 unfoldable pub piece : ℕ → List ℕ → Piece
 piece b bs = piece_of (start b) b bs
 
@@ -152,5 +74,6 @@ tokens_from at skip [] = []
 tokens_from at (suc skip) (b ∷ bs) = tokens_from (suc at) skip bs
 tokens_from at zero (b ∷ bs) = placed_before at (piece b bs) (tokens_from (suc at) (more (piece b bs)) bs)
 
+-- the tokens of a text
 unfoldable pub tokens : List ℕ → List Placed
 tokens bs = tokens_from 0 0 bs

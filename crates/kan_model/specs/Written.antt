@@ -1,6 +1,7 @@
 -- Data as they are written: trees with the offsets of their tokens, the tokens that spell them, and which of them are allowed.
 use Rattle.std.specs.Prelude.{ℕ, suc, ◌+◌, Bool, true, false, ◌&&◌, nat_lt, nat_le, List, [], ◌∷◌}
-use Rattle.kan_model.specs.Tokens.{Atom, symbol, number, truth, out_of_range, reserved, Shape, Prefix, opening, closing, prefix, dot, atom, Placed, placed}
+use Rattle.kan_model.specs.Tokens.{Placed, placed}
+use Rattle.kan_model.specs.Words.{Atom, symbol, number, truth, out_of_range, reserved, Shape, Prefix, opening, closing, prefix, dot, atom}
 
 -- a datum begins at its offset; what stands in a list goes on to its close, the datum after a dot being the last
 mutual
