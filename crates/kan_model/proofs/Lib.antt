@@ -1,6 +1,7 @@
 pub mod Carried
 mod Complete
 mod CutExamples
+pub mod Cutting
 mod DeepExamples
 mod Exactly
 mod Examples
