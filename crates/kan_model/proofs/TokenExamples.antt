@@ -45,7 +45,7 @@ truth_values : cut (codes "#t#f(#x") ≡ placed 0 (atom (truth true)) ∷ placed
 unfolding cut
 truth_values = refl
 
-comma_and_at : cut (codes ",@x , @x") ≡ placed 0 bad ∷ placed 1 (atom (symbol (codes "@x"))) ∷ placed 4 (prefix unquote) ∷ placed 6 (atom (symbol (codes "@x"))) ∷ []
+comma_and_at : cut (codes ",@x , @x") ≡ placed 0 bad ∷ placed 2 (atom (symbol (codes "x"))) ∷ placed 4 (prefix unquote) ∷ placed 6 (atom (symbol (codes "@x"))) ∷ []
 unfolding cut
 comma_and_at = refl
 

@@ -1,6 +1,6 @@
 -- What ties the reading of tokens to the grammar of data.
-use Rattle.std.specs.Prelude.{◌≡◌, ℕ, ◌+◌, max, ◌⊎◌, ◌↔◌, List, [], ◌∷◌, ◌++◌, IsTrue, Some}
-use Rattle.kan_model.specs.Tokens.{Placed, placed, tokens_from}
+use Rattle.std.specs.Prelude.{◌≡◌, ℕ, suc, ◌+◌, max, ◌⊎◌, ◌↔◌, List, [], ◌∷◌, ◌++◌, length, take, IsTrue, Some}
+use Rattle.kan_model.specs.Tokens.{Placed, placed, tokens, tokens_from}
 use Rattle.kan_model.specs.Words.{Token}
 use Rattle.kan_model.specs.Written.{Written, spell_all, are_allowed, deepest}
 use Rattle.kan_model.specs.Open.{as_written, Open, awaiting, after_prefix, depth}
@@ -46,3 +46,11 @@ pub record IsCutOff (ts : List Placed) (f : Fault) : Type 0 where
 -- a refusal belongs to the first token at which the tokens so far begin no text that can be read, or to the end
 abbrev pub RefusesFirst : Type 0
 RefusesFirst = (ts : List Placed) (f : Fault) → read_tokens as_written ts ≡ refused f → StopsAt ts f ⊎ IsCutOff ts f
+
+-- a line feed ends each token: after it the tokens are those of what follows
+abbrev pub EndsAtLine : Type 0
+EndsAtLine = (front back : List ℕ) → tokens (front ++ 10 ∷ back) ≡ tokens front ++ tokens_from (suc (length front)) 0 back
+
+-- a text cut where a token begins has the tokens before it
+abbrev pub CutsBefore : Type 0
+CutsBefore = (bytes : List ℕ) (before : List Placed) (at : ℕ) (t : Token) (later : List Placed) → tokens bytes ≡ before ++ placed at t ∷ later → tokens (take at bytes) ≡ before

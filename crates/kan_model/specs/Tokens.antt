@@ -17,11 +17,6 @@ abbrev pub hash_token : List ℕ → Token
 hash_token (b ∷ []) = if b == 116 then atom (truth true) else (if b == 102 then atom (truth false) else bad)
 hash_token _ = bad
 
--- the token of a comma before these bytes
-abbrev pub comma_token : List ℕ → Token
-comma_token [] = prefix unquote
-comma_token (b ∷ bs) = if b == 64 then bad else prefix unquote
-
 -- what a byte can begin: nothing, a comment, a token of its own, or one that later bytes decide
 pub data Start : Type 0 where
   separator : Start
@@ -45,12 +40,17 @@ pub data Piece : Type 0 where
   blank : ℕ → Piece
   spelled : Token → ℕ → Piece
 
+-- the piece of a comma before these bytes: with an at sign it is one bad token
+abbrev pub comma_piece : List ℕ → Piece
+comma_piece [] = spelled (prefix unquote) 0
+comma_piece (b ∷ bs) = if b == 64 then spelled bad 1 else spelled (prefix unquote) 0
+
 -- the piece of a byte that begins this, before the bytes that follow
 abbrev pub piece_of : Start → ℕ → List ℕ → Piece
 piece_of separator b bs = blank 0
 piece_of comment b bs = blank (comment_length bs)
 piece_of (whole t) b bs = spelled t 0
-piece_of comma b bs = spelled (comma_token bs) 0
+piece_of comma b bs = comma_piece bs
 piece_of hash b bs = spelled (hash_token (take_while is_word_byte bs)) (prefix_len is_word_byte bs)
 piece_of in_word b bs = spelled (word_token (b ∷ take_while is_word_byte bs)) (prefix_len is_word_byte bs)
 
