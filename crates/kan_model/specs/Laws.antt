@@ -23,7 +23,7 @@ abbrev pub reach : Open Written → ℕ
 reach (awaiting (after_prefix outer at p)) = max deepest (depth outer + 2)
 reach _ = deepest
 
--- the tokens before one begin a text, with it they begin none that is allowed, and the table's first answer there is the fault
+-- the tokens before one begin a text, with it they begin none that is allowed, and the first question that refuses it there gives the fault
 pub record StopsAt (ts : List Placed) (f : Fault) : Type 0 where
   pub before : List Placed
   pub at : ℕ
