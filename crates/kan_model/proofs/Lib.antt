@@ -15,3 +15,18 @@ pub mod UnifierLaws
 pub mod ReplacedLaws
 pub mod ListLaws
 pub mod NameLaws
+pub mod Carried
+mod Complete
+mod CutExamples
+pub mod Cutting
+mod DeepExamples
+mod Exactly
+mod Examples
+mod First
+mod LongExamples
+mod OrderExamples
+mod PrintExamples
+mod RefusalExamples
+mod Sound
+mod TokenExamples
+mod WordExamples

@@ -22,3 +22,11 @@ pub mod InForm
 pub mod Covers
 pub mod Tables
 pub mod Unifiers
+pub mod Words
+pub mod Tokens
+pub mod Written
+pub mod Open
+pub mod Faults
+pub mod Printed
+pub mod Made
+pub mod Laws

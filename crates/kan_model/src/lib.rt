@@ -4,6 +4,7 @@
 pub mod laws;
 mod letters;
 mod prims;
+pub mod reading_laws;
 mod solving;
 
 pub use letters::{Letter, build, occurs_in, same_terms, spell};
