@@ -12,6 +12,7 @@ pub mod Answers
 pub mod Order
 pub mod Text
 pub mod AnswerText
+pub mod StoreCalls
 pub mod Output
 pub mod Holds
 pub mod Scope
