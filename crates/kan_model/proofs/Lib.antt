@@ -2,6 +2,7 @@ pub mod OutputExamples
 pub mod LettersLaws
 pub mod SolvingLaws
 pub mod SolvingSteps
+pub mod PlainLaws
 pub mod RunExamples
 pub mod ConstraintExamples
 pub mod MeaningExamples

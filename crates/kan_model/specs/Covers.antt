@@ -1,8 +1,8 @@
 -- Instances of an answer: the ground terms that it covers.
 use Rattle.std.specs.Prelude.{◌≡◌, Bool, true, ◌&&◌, not, List}
 use Rattle.std.specs.List.{list_all}
-use Rattle.kan_terms.specs.Tree.{Gd, has_symbol}
-use Rattle.kan_terms.specs.Valuations.{value_at, value, ground_eq}
+use Rattle.kan_terms.specs.Tree.{Gd, has_symbol, ground_eq}
+use Rattle.kan_terms.specs.Valuations.{value_at, value}
 use Rattle.kan_model.specs.Holds.{is_symbol, is_number}
 use Rattle.kan_model.specs.Answers.{NamedPair, Absence, Answer}
 

@@ -1,8 +1,8 @@
 -- When a primitive holds of ground values, and the solutions of a store.
 use Rattle.std.specs.Prelude.{◌≡◌, Bool, true, false, not, List, length, ◌++◌}
 use Rattle.std.specs.List.{list_all}
-use Rattle.kan_terms.specs.Tree.{Tree, Tm, Gd, has_symbol}
-use Rattle.kan_terms.specs.Valuations.{value, ground_eq}
+use Rattle.kan_terms.specs.Tree.{Tree, Tm, Gd, has_symbol, ground_eq}
+use Rattle.kan_terms.specs.Valuations.{value}
 use Rattle.kan_model.specs.Goals.{Primitive, on_sides}
 use Rattle.kan_model.specs.Stores.{Store}
 

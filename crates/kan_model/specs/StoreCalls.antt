@@ -1,20 +1,20 @@
 -- What the calls of a store answer.
 use Rattle.std.specs.Prelude.{◌≡◌, ℕ, Bool, true, false, List, [], ◌∷◌, Option, Some, None, ◌↔◌, Contains, All, Any, map, unwrap_or, is_some, if◌then◌else◌}
 use Rattle.std.specs.List.{list_all}
-use Rattle.kan_terms.specs.Tree.{Tree, Tm, Gd}
-use Rattle.kan_terms.specs.Valuations.{value, ground_eq}
+use Rattle.kan_terms.specs.Tree.{Tree, Tm, Gd, ground_eq}
+use Rattle.kan_terms.specs.Valuations.{value}
 use Rattle.kan_model.specs.Goals.{Primitive}
 use Rattle.kan_model.specs.Stores.{Store, Equation, equations, with_prim}
 use Rattle.kan_model.specs.Solve.{Replacement, image, apply, solve, solved}
 use Rattle.kan_model.specs.Kept.{is_kept, is_symbol_variable, is_number_variable}
-use Rattle.kan_model.specs.Answers.{has_absence}
+use Rattle.kan_model.specs.Answers.{has_absence, same_form}
 use Rattle.kan_model.specs.declared.prims.Kind.{Kind}
 use Rattle.kan_model.specs.declared.prims.Kind.TheVariants.{Symbol, Number}
 
--- the longer store where it is kept, and none exactly where it isn't
-abbrev pub Asserts : Store → Primitive Tm → Option Store → Type 0
-Asserts st p None = is_kept (with_prim st p) ≡ false
-Asserts st p (Some new) = (is_kept (with_prim st p) ≡ true) × (new ≡ with_prim st p)
+-- the store where it is kept, and none exactly where it isn't
+abbrev pub Gives : Store → Option Store → Type 0
+Gives st None = is_kept st ≡ false
+Gives st (Some new) = (is_kept st ≡ true) × (new ≡ st)
 
 -- the answer of a kept store's equations
 abbrev pub answer : Store → Replacement
@@ -70,3 +70,8 @@ SaysTheSame st e pairs = (us : List Gd) → all_equal us (equations st.prims) �
 pub record AreDifferences (st : Store) (lists : List (List Equation)) : Type 0 where
   pub all : All (λ e. can_unify (answer st) e ≡ true → Any (SaysTheSame st e) lists) (differences st.prims)
   pub each : All (λ pairs. Any (λ e. SaysTheSame st e pairs) (differences st.prims)) lists
+
+-- the replacement is the answer
+abbrev pub is_answer : Replacement → Option Replacement → Bool
+is_answer s None = false
+is_answer s (Some r) = same_form s r

@@ -1,6 +1,10 @@
 //! The primitives that stores are made of.
 
-use kan_terms::Term;
+ghost use Rattle.std.specs.Prelude.{◌≡◌, map, IfOk};
+ghost use Rattle.kan_model.specs.Prims.{prim as primitive};
+
+use kan_terms::{Memory, Term};
+use std::alloc::Global;
 
 /// A primitive over terms.
 #[derive(Drop)]
@@ -24,4 +28,30 @@ pub enum Kind {
     Symbol,
     /// The variable stands for a number.
     Number,
+}
+
+impl Prim {
+    /// The primitive once more, over the same terms.
+    pub fn again(&self) -> Result<Prim, Memory>
+        ensures { IfOk result (λ copy. primitive copy ≡ primitive self.now) }
+    {
+        Ok(match self {
+            Prim::Same(left, right) => Prim::Same(left.again()?, right.again()?),
+            Prim::Differ(left, right) => Prim::Differ(left.again()?, right.again()?),
+            Prim::Symbol(term) => Prim::Symbol(term.again()?),
+            Prim::Number(term) => Prim::Number(term.again()?),
+            Prim::Absent(tag, term) => Prim::Absent(*tag, term.again()?),
+        })
+    }
+}
+
+/// Primitives once more, in the same order.
+pub fn copied(alloc: Global, prims: &[Prim]) -> Result<Vec<Prim>, Memory>
+    ensures { IfOk result (λ copies. map primitive copies.items ≡ map primitive prims.now) }
+{
+    let mut copies = Vec::new(alloc);
+    for prim in prims {
+        copies.push(prim.again()?)?;
+    }
+    Ok(copies)
 }

@@ -22,7 +22,7 @@ pub struct Replaced {
 }
 
 // What replaces a variable, where it is replaced.
-fn found<'a>(replacement: &'a [Replaced], var: u64) -> Option<&'a Term>
+pub(crate) fn found<'a>(replacement: &'a [Replaced], var: u64) -> Option<&'a Term>
     ensures { IsImage (map replaced_by replacement.now) var result }
 {
     for replaced in replacement {
@@ -31,6 +31,21 @@ fn found<'a>(replacement: &'a [Replaced], var: u64) -> Option<&'a Term>
         }
     }
     None
+}
+
+/// A replacement once more.
+pub(crate) fn copied_answer(alloc: Global, answer: &[Replaced]) -> Result<Vec<Replaced>, Memory>
+    ensures { IfOk result (λ copies. map replaced_by copies.items ≡ map replaced_by answer.now) }
+{
+    let mut copies = Vec::new(alloc);
+    for replaced in answer {
+        let by = replaced.by.again()?;
+        copies.push(Replaced {
+            var: replaced.var,
+            by,
+        })?;
+    }
+    Ok(copies)
 }
 
 // Writes the letters that stand for a letter under a replacement.

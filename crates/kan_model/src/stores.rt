@@ -7,7 +7,7 @@ ghost use Rattle.kan_model.specs.Kept.{is_kept};
 ghost use Rattle.kan_model.specs.Scope.{is_counted, sides_below};
 ghost use Rattle.kan_model.specs.Prims.{prim as primitive};
 ghost use Rattle.kan_model.specs.Solving.{equation};
-ghost use Rattle.kan_model.specs.StoreCalls.{Asserts, WalksTo, IsFree, kind_at, AreTags, AreDifferences, answer, is_equation};
+ghost use Rattle.kan_model.specs.StoreCalls.{Gives, WalksTo, IsFree, kind_at, AreTags, AreDifferences, answer, is_equation};
 
 use crate::prims::{Kind, Prim};
 use kan_terms::{Memory, PairLists, Tags, Term};
@@ -38,7 +38,7 @@ pub trait Store: Sized + Drop {
         requires below { sides_below (meaning self.now).counter (primitive prim.now) ≡ true }
         // Until the other primitives are built.
         requires equation { is_equation (primitive prim.now) ≡ true }
-        ensures { IfOk result (λ made. Asserts (meaning self.now) (primitive prim.now) (option_map meaning made)) };
+        ensures { IfOk result (λ made. Gives (facts.with_prim (meaning self.now) (primitive prim.now)) (option_map meaning made)) };
 
     /// An equal store.
     fn again(&self, alloc: Global) -> Result<Self, Memory>
