@@ -1,0 +1,4 @@
+pub mod Spots
+pub mod Faults
+pub mod Reads
+pub mod Writes

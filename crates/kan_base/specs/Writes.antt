@@ -1,0 +1,9 @@
+-- What a write puts of a piece.
+use Rattle.std.specs.Prelude.{ℕ, ◌<◌, ◌≤◌, List, length, take, Option}
+use Rattle.std.specs.Io.KnownBytes.{Appends}
+
+-- what was put grows by the first n bytes of the piece, by at least one where the piece isn't empty
+pub record Writes (old new : Option (List ℕ)) (n : ℕ) (piece : List ℕ) : Type 0 where
+  pub within : n ≤ length piece
+  pub some : 0 < length piece → 1 ≤ n
+  pub put : Appends old new (take n piece)

@@ -1,0 +1,6 @@
+//! The outside of the program: where bytes come from and where they go, and what becomes of a run.
+#![tactic(auto)]
+
+mod outside;
+
+pub use outside::{Failed, Place, Sink, Source};
