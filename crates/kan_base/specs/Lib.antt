@@ -2,3 +2,4 @@ pub mod Spots
 pub mod Faults
 pub mod Reads
 pub mod Writes
+pub mod Taken

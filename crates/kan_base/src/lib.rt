@@ -2,5 +2,7 @@
 #![tactic(auto)]
 
 mod outside;
+mod text;
 
 pub use outside::{Failed, Place, Sink, Source};
+pub use text::{GREATEST_TEXT, TextStop, take_text};

@@ -1,12 +1,11 @@
 //! A whole text, read to its end.
 
-ghost use Rattle.std.specs.Prelude.{◌≡◌, ℕ, ◌+◌, ◌<◌, ◌≤◌, ◌++◌, List, length, drop, Option, IfOk, OnOk, OnErr, vec_len};
-ghost use Rattle.std.specs.Io.KnownBytes.{Keeps};
-ghost use Rattle.kan_base.specs.Spots.{Spot, spot, HoldTheSame};
-ghost use Rattle.kan_base.specs.Faults.{CountsFaults, Rose};
-ghost use Rattle.kan_base.specs.Taken.{Taken, Whole, TookFront};
+ghost use Rattle.std.specs.Prelude.{◌≡◌, ◌+◌, ◌<◌, ◌≤◌, length, IfOk, IfErr};
+ghost use Rattle.std.specs.Io.KnownBytes.{IsAtEnd};
+ghost use Rattle.kan_base.specs.Spots.{spot, HoldTheSame};
+ghost use Rattle.kan_base.specs.Taken.{IsWhole, Stops, StopsAfter, CountsFault, AddsPiece};
 
-use crate::outside::{Failed, Place, Source};
+use crate::outside::{Place, Source};
 use std::alloc::Global;
 
 /// The greatest length of a text, in bytes.
@@ -24,4 +23,70 @@ pub enum TextStop {
     TooLong,
     /// There was no memory for the text.
     Memory,
+}
+
+/// Opens a place and reads it to its end.
+pub fn take_text<S: Source>(
+    alloc: Global,
+    source: &mut S,
+    place: Place<'_>,
+) -> Result<Vec<u8>, TextStop>
+    ensures fits { IfOk result (λ text. length text.items ≤ GREATEST_TEXT) }
+    ensures whole { IfOk result (λ text. IsWhole (S.holds source.old (spot place.entry)) (S.left source.new) text.items) }
+    ensures stopped { IfErr result (λ stop. Stops stop (S.holds source.old (spot place.entry)) (S.left source.new)) }
+    ensures same { HoldTheSame (S.holds source.old) (S.holds source.new) }
+    ensures faults { CountsFault (S.faults source.old) (S.faults source.new) result }
+{
+    if source.open(place).is_err() {
+        return Err(TextStop::Fault);
+    }
+    read_to_end(alloc, source)
+}
+
+/// Reads what is left of the opened place.
+fn read_to_end<S: Source>(alloc: Global, source: &mut S) -> Result<Vec<u8>, TextStop>
+    ensures fits { IfOk result (λ text. length text.items ≤ GREATEST_TEXT) }
+    ensures whole { IfOk result (λ text. IsWhole (S.left source.old) (S.left source.new) text.items) }
+    ensures stopped { IfErr result (λ stop. Stops stop (S.left source.old) (S.left source.new)) }
+    ensures same { HoldTheSame (S.holds source.old) (S.holds source.new) }
+    ensures faults { CountsFault (S.faults source.old) (S.faults source.new) result }
+{
+    let Ok(mut buffer) = vec![in alloc; 0u8; PIECE] else {
+        return Err(TextStop::Memory);
+    };
+    let mut text = Vec::new(alloc);
+    loop {
+        // One byte past the greatest text tells that there is more.
+        let want = PIECE.min(GREATEST_TEXT + 1 - text.len());
+        if add_piece(source, &mut buffer[..want], &mut text)? == 0 {
+            return Ok(text);
+        }
+    }
+}
+
+/// Reads one piece and adds it to the text. Answers how many bytes it has.
+fn add_piece<S: Source>(
+    source: &mut S,
+    buffer: &mut [u8],
+    text: &mut Vec<u8>,
+) -> Result<usize, TextStop>
+    requires some { 0 < length buffer.old }
+    requires fits { length text.old.items ≤ GREATEST_TEXT }
+    requires room { length text.old.items + length buffer.old ≤ GREATEST_TEXT + 1 }
+    ensures added { IfOk result (λ n. AddsPiece (S.left source.old) (S.left source.new) text.old.items text.new.items n) }
+    ensures at_end { IfOk result (λ n. n ≡ 0 → IsAtEnd (S.left source.old)) }
+    ensures stopped { IfErr result (λ stop. StopsAfter text.old.items stop (S.left source.old) (S.left source.new)) }
+    ensures same { HoldTheSame (S.holds source.old) (S.holds source.new) }
+    ensures faults { CountsFault (S.faults source.old) (S.faults source.new) result }
+{
+    let Ok(n) = source.read(buffer) else {
+        return Err(TextStop::Fault);
+    };
+    if text.len() + n > GREATEST_TEXT {
+        return Err(TextStop::TooLong);
+    }
+    if text.extend_from_slice(&buffer[..n]).is_err() {
+        return Err(TextStop::Memory);
+    }
+    Ok(n)
 }
