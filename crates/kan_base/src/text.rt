@@ -6,7 +6,7 @@ ghost use Rattle.kan_base.specs.Spots.{spot, HoldTheSame};
 ghost use Rattle.kan_base.specs.Taken.{IsWhole, Stops, StopsAfter, CountsFault, AddsPiece};
 
 use crate::outside::{Place, Source};
-use std::alloc::Global;
+use std::alloc::{AllocError, Global};
 
 /// The greatest length of a text, in bytes.
 pub const GREATEST_TEXT: usize = 1_048_576;
@@ -51,17 +51,26 @@ fn read_to_end<S: Source>(alloc: Global, source: &mut S) -> Result<Vec<u8>, Text
     ensures same { HoldTheSame (S.holds source.old) (S.holds source.new) }
     ensures faults { CountsFault (S.faults source.old) (S.faults source.new) result }
 {
-    let Ok(mut buffer) = vec![in alloc; 0u8; PIECE] else {
+    let Ok(mut buffer) = new_buffer(alloc) else {
         return Err(TextStop::Memory);
     };
     let mut text = Vec::new(alloc);
     loop {
         // One byte past the greatest text tells that there is more.
         let want = PIECE.min(GREATEST_TEXT + 1 - text.len());
-        if add_piece(source, &mut buffer[..want], &mut text)? == 0 {
-            return Ok(text);
+        match add_piece(source, &mut buffer[..want], &mut text) {
+            Ok(0) => return Ok(text),
+            Ok(_) => {}
+            Err(stop) => return Err(stop),
         }
     }
+}
+
+/// Room for one piece.
+fn new_buffer(alloc: Global) -> Result<Vec<u8>, AllocError>
+    ensures { IfOk result (λ buffer. length buffer.items ≡ PIECE) }
+{
+    vec![in alloc; 0u8; PIECE]
 }
 
 /// Reads one piece and adds it to the text. Answers how many bytes it has.
