@@ -2,7 +2,11 @@
 #![tactic(auto)]
 
 mod outside;
+mod put;
+mod status;
 mod text;
 
 pub use outside::{Failed, Place, Sink, Source};
+pub use put::put_all;
+pub use status::Status;
 pub use text::{GREATEST_TEXT, TextStop, take_text};
