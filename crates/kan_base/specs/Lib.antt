@@ -4,3 +4,7 @@ pub mod Reads
 pub mod Writes
 pub mod Taken
 pub mod Statuses
+pub mod Plans
+pub mod Memories
+pub mod Files
+pub mod Opened

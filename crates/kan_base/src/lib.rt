@@ -1,7 +1,9 @@
 //! The outside of the program: where bytes come from and where they go, and what becomes of a run.
 #![tactic(auto)]
 
+mod memory_source;
 mod outside;
+mod plan;
 mod put;
 mod status;
 mod text;
