@@ -8,3 +8,4 @@ pub mod Plans
 pub mod Memories
 pub mod Files
 pub mod Opened
+pub mod Steady

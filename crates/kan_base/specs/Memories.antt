@@ -1,5 +1,5 @@
 -- Sources and sinks in memory as clauses see them.
-use Rattle.std.specs.Prelude.{ℕ, Bool, ◌||◌, List, [], ◌∷◌, length, drop, min, Option, None, Some, is_none, unwrap_or, if◌then◌else◌}
+use Rattle.std.specs.Prelude.{ℕ, ◌-◌, Bool, ◌||◌, ◌&&◌, nat_lt, nat_le, List, [], ◌∷◌, ◌++◌, length, take, drop, min, Option, None, Some, is_none, unwrap_or, if◌then◌else◌}
 use Rattle.std.specs.Str.{bytes_eq}
 use Rattle.kan_base.specs.Spots.{Spot}
 use Rattle.kan_base.specs.Plans.{CallPlan, is_due, passed, failed}
@@ -46,3 +46,26 @@ after_read source n = record source { left = drop n source.left; plan = passed s
 -- the source after a call that failed
 abbrev pub after_fault : SourceState → SourceState
 after_fault source = record source { plan = failed source.plan }
+
+-- what was put into a sink in memory, how much it has room for, and how much a write takes at most
+pub record SinkState : Type 0 where
+  pub put : List ℕ
+  pub room : ℕ
+  pub piece : ℕ
+  pub plan : CallPlan
+
+-- a write is to fail: its call is planned to, or nothing of a piece that isn't empty fits
+abbrev pub write_fails : SinkState → List ℕ → Bool
+write_fails sink piece = is_due sink.plan || (nat_lt 0 (length piece) && nat_le sink.room (length sink.put))
+
+-- how many bytes a write takes: as many as the piece has, as it takes at most, and as fit
+abbrev pub write_count : SinkState → List ℕ → ℕ
+write_count sink piece = min (min (length piece) sink.piece) (sink.room - length sink.put)
+
+-- the sink after the first n bytes of a piece were put
+abbrev pub after_write : SinkState → ℕ → List ℕ → SinkState
+after_write sink n piece = record sink { put = sink.put ++ take n piece; plan = passed sink.plan }
+
+-- the sink after a write that failed
+abbrev pub after_refusal : SinkState → SinkState
+after_refusal sink = record sink { plan = failed sink.plan }

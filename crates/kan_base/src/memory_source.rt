@@ -10,6 +10,7 @@ ghost use Rattle.kan_base.specs.Memories.{file_of, held, open_fails, read_count,
 ghost use Rattle.kan_base.specs.Files.{all_named, FindsAt};
 ghost use Rattle.kan_base.specs.Opened.{opened_bytes};
 
+use crate::copy::copy_front;
 use crate::outside::{Failed, Place, Source};
 use crate::plan::Plan;
 use std::marker::Model;
@@ -133,7 +134,9 @@ impl Source for MemorySource {
             return Err(Failed);
         }
         let text = opened_text(self.opened, self.input.as_slice(), self.files.as_slice());
-        let n = copy_front(&text[self.at..], buf, self.piece as usize);
+        let left = &text[self.at..];
+        let n = left.len().min(buf.len()).min(self.piece as usize);
+        copy_front(left, buf, n);
         self.at += n;
         self.plan.pass();
         Ok(n)
@@ -152,16 +155,6 @@ fn opened_text<'a>(opened: Opened, input: &'a [u8], files: &'a [(String, Vec<u8>
             None => &[],
         },
     }
-}
-
-/// Copies as many first bytes as are left, fit and stand in a piece.
-fn copy_front(left: &[u8], buf: &mut [u8], piece: usize) -> usize
-    ensures count { result ≡ min (min (length left.now) (length buf.old)) piece }
-    ensures bytes { take result buf.new ≡ take result left.now }
-{
-    let n = left.len().min(buf.len()).min(piece);
-    buf[..n].copy_from_slice(&left[..n]);
-    n
 }
 
 /// The place of the first file of a name.
