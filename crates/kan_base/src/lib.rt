@@ -8,6 +8,7 @@ mod outside;
 mod plan;
 mod put;
 mod status;
+mod std_edge;
 mod steady;
 mod text;
 
@@ -16,5 +17,6 @@ pub use memory_source::MemorySource;
 pub use outside::{Failed, Place, Sink, Source};
 pub use put::put_all;
 pub use status::Status;
+pub use std_edge::{StdSink, StdSource};
 pub use steady::{CountSink, SteadySource};
 pub use text::{GREATEST_TEXT, TextStop, take_text};
