@@ -27,10 +27,10 @@ impl Model for MemorySink {
     ghost Value = { SinkState };
 
     ghost view = { λ sink. record {
-        put = sink.bytes.items;
-        room = sink.room;
-        piece = sink.piece;
-        plan = sink.plan
+      put = sink.bytes.items;
+      room = sink.room;
+      piece = sink.piece;
+      plan = sink.plan;
     } };
 
     ghost invariant = { λ sink. (1 ≤ sink.piece) × (length sink.bytes.items ≤ sink.room)
@@ -49,10 +49,10 @@ impl MemorySink {
     ) -> Result<MemorySink, Vec<u32>>
         requires { 1 ≤ piece }
         ensures made { IfOk result (λ sink. sink ≡ record {
-            put = [];
-            room = room;
-            piece = piece;
-            plan = new_plan fails.items
+          put = [];
+          room = room;
+          piece = piece;
+          plan = new_plan fails.items;
         }) }
         ensures refused { IfErr result (λ list. list ≡ fails) }
     {

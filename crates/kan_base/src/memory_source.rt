@@ -43,11 +43,11 @@ impl Model for MemorySource {
     ghost Value = { SourceState };
 
     ghost view = { λ source. record {
-        input = source.input.items;
-        files = all_named source.files.items;
-        left = drop source.at (opened_bytes source.opened source.input.items source.files.items);
-        piece = source.piece;
-        plan = source.plan
+      input = source.input.items;
+      files = all_named source.files.items;
+      left = drop source.at (opened_bytes source.opened source.input.items source.files.items);
+      piece = source.piece;
+      plan = source.plan;
     } };
 
     ghost invariant = { λ source. (1 ≤ source.piece)
@@ -66,11 +66,11 @@ impl MemorySource {
     ) -> MemorySource
         requires { 1 ≤ piece }
         ensures { result ≡ record {
-            input = input.items;
-            files = all_named files.items;
-            left = [];
-            piece = piece;
-            plan = new_plan fails.items
+          input = input.items;
+          files = all_named files.items;
+          left = [];
+          piece = piece;
+          plan = new_plan fails.items;
         } }
     {
         MemorySource {

@@ -2,13 +2,13 @@
 
 ghost use Rattle.std.specs.Prelude.{◌≡◌, ℕ, ◌<◌, ◌≤◌, List, Option, None, IfOk, OnOk, OnErr, length};
 ghost use Rattle.kan_base.specs.Faults.{Rose};
+ghost use Rattle.kan_base.specs.Plans.{one_more};
 
 use crate::outside::{Failed, Place, Sink, Source};
-use std::fs;
-use std::io;
 use std::io::{Input, Print, Read, Write};
 use std::marker::Model;
 use std::rt::Files;
+use std::{fs, io};
 
 /// What a source over std has open.
 #[derive(Drop)]
@@ -48,6 +48,7 @@ impl<R: Files + Input + Drop> StdSource<R> {
 
     /// Counts a fault.
     fn fail(&mut self) -> Failed
+        ensures counted { self.new ≡ one_more self.old }
         ensures never_falls { self.old ≤ self.new }
         ensures rose { Rose self.old self.new }
     {
@@ -117,6 +118,7 @@ impl<R: Print + Drop> StdSink<R> {
 
     /// Counts a fault.
     fn fail(&mut self) -> Failed
+        ensures counted { self.new ≡ one_more self.old }
         ensures never_falls { self.old ≤ self.new }
         ensures rose { Rose self.old self.new }
     {
