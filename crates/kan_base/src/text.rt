@@ -3,7 +3,7 @@
 ghost use Rattle.std.specs.Prelude.{◌≡◌, ◌+◌, ◌<◌, ◌≤◌, length, IfOk, IfErr};
 ghost use Rattle.std.specs.Io.KnownBytes.{IsAtEnd};
 ghost use Rattle.kan_base.specs.Spots.{spot, HoldTheSame};
-ghost use Rattle.kan_base.specs.Taken.{IsWhole, Stops, StopsAfter, CountsFault, AddsPiece};
+ghost use Rattle.kan_base.specs.Taken.{greatest_text, IsWhole, Stops, StopsAfter, CountsFault, AddsPiece};
 
 use crate::outside::{Place, Source};
 use std::alloc::{AllocError, Global};
@@ -31,7 +31,7 @@ pub fn take_text<S: Source>(
     source: &mut S,
     place: Place<'_>,
 ) -> Result<Vec<u8>, TextStop>
-    ensures fits { IfOk result (λ text. length text.items ≤ GREATEST_TEXT) }
+    ensures fits { IfOk result (λ text. length text.items ≤ greatest_text) }
     ensures whole { IfOk result (λ text. IsWhole (S.holds source.old (spot place.entry)) (S.left source.new) text.items) }
     ensures stopped { IfErr result (λ stop. Stops stop (S.holds source.old (spot place.entry)) (S.left source.new)) }
     ensures same { HoldTheSame (S.holds source.old) (S.holds source.new) }
@@ -45,7 +45,7 @@ pub fn take_text<S: Source>(
 
 /// Reads what is left of the opened place.
 fn read_to_end<S: Source>(alloc: Global, source: &mut S) -> Result<Vec<u8>, TextStop>
-    ensures fits { IfOk result (λ text. length text.items ≤ GREATEST_TEXT) }
+    ensures fits { IfOk result (λ text. length text.items ≤ greatest_text) }
     ensures whole { IfOk result (λ text. IsWhole (S.left source.old) (S.left source.new) text.items) }
     ensures stopped { IfErr result (λ stop. Stops stop (S.left source.old) (S.left source.new)) }
     ensures same { HoldTheSame (S.holds source.old) (S.holds source.new) }
@@ -80,8 +80,8 @@ fn add_piece<S: Source>(
     text: &mut Vec<u8>,
 ) -> Result<usize, TextStop>
     requires some { 0 < length buffer.old }
-    requires fits { length text.old.items ≤ GREATEST_TEXT }
-    requires room { length text.old.items + length buffer.old ≤ GREATEST_TEXT + 1 }
+    requires fits { length text.old.items ≤ greatest_text }
+    requires room { length text.old.items + length buffer.old ≤ greatest_text + 1 }
     ensures added { IfOk result (λ n. AddsPiece (S.left source.old) (S.left source.new) text.old.items text.new.items n) }
     ensures at_end { IfOk result (λ n. n ≡ 0 → IsAtEnd (S.left source.old)) }
     ensures stopped { IfErr result (λ stop. StopsAfter text.old.items stop (S.left source.old) (S.left source.new)) }

@@ -1,4 +1,4 @@
-use Rattle.std.proofs.Common.{◌≡◌, List, ℕ, String, Vec, Global, sym, ap, ◌∙◌}
+use Rattle.std.proofs.Common.{List, ℕ, String, Vec, Global, sym, ap, ◌∙◌}
 use Rattle.kan_base.proofs.FileLemmas.{bytes_at-get_or, bytes_at-past}
 use Rattle.kan_base.proofs.memory_source.opened_text.Goals as goal
 
