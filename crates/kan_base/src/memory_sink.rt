@@ -84,7 +84,8 @@ impl Sink for MemorySink {
         ensures written { IfOk result (λ n. Writes (Some self.old.put) (Some self.new.put) n piece.now) }
         ensures unchanged { OnErr result (Some self.new.put ≡ Some self.old.put) }
         ensures faults { CountsFaults self.old.plan.faults self.new.plan.faults result }
-        // A write fails exactly where it is planned to, and where nothing fits of a piece that isn't empty.
+        // A write fails exactly where it is planned to, and where nothing fits of a piece that isn't
+        // empty.
         ensures fails { is_err result ≡ write_fails self.old piece.now }
         ensures count { IfOk result (λ n. n ≡ write_count self.old piece.now) }
         ensures ok { IfOk result (λ n. self.new ≡ after_write self.old n piece.now) }

@@ -1,6 +1,6 @@
 //! A source whose places are kept in memory.
 
-ghost use Rattle.std.specs.Prelude.{◌≡◌, ◌<◌, ◌≤◌, [], None, Some, MatchOption, IfOk, OnOk, OnErr, is_err, min, length, take, drop};
+ghost use Rattle.std.specs.Prelude.{◌≡◌, ◌<◌, ◌≤◌, [], None, Some, MatchOption, IfOk, OnOk, OnErr, is_err, length};
 ghost use Rattle.std.specs.Io.KnownBytes.{Keeps};
 ghost use Rattle.kan_base.specs.Spots.{spot, HoldTheSame};
 ghost use Rattle.kan_base.specs.Faults.{CountsFaults};
@@ -159,7 +159,9 @@ fn opened_text<'a>(opened: Opened, input: &'a [u8], files: &'a [(String, Vec<u8>
 
 /// The place of the first file of a name.
 fn find_file(files: &[(String, Vec<u8>)], name: &str) -> Option<usize>
-    ensures { MatchOption result (file_of name.now (all_named files.now) ≡ None) (λ at. FindsAt name.now files.now at) }
+    ensures { MatchOption result
+        (file_of name.now (all_named files.now) ≡ None)
+        (λ at. FindsAt name.now files.now at) }
 {
     for at in 0..files.len() {
         if files[at].0.as_str() == name {

@@ -1,6 +1,6 @@
 //! The source and the sink over std's input, files and output. What they hold isn't told.
 
-ghost use Rattle.std.specs.Prelude.{◌≡◌, ℕ, ◌<◌, ◌≤◌, List, Option, None, IfOk, OnOk, OnErr, length};
+ghost use Rattle.std.specs.Prelude.{◌≡◌, ◌≤◌, None, IfOk, length};
 ghost use Rattle.kan_base.specs.Faults.{Rose};
 ghost use Rattle.kan_base.specs.Plans.{one_more};
 

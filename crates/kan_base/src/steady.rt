@@ -111,7 +111,6 @@ impl Sink for CountSink {
 
     fn write(&mut self, piece: &[u8]) -> Result<usize, Failed>
         ensures written { IfOk result (λ n. Writes None None n piece.now) }
-        ensures unchanged { OnErr result (◌≡◌ {A = Option (List ℕ)} None None) }
         ensures faults { CountsFaults 0 0 result }
         ensures never_fails { IsOk result }
         ensures count { IfOk result (λ n. n ≡ length piece.now) }

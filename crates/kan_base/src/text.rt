@@ -32,8 +32,10 @@ pub fn take_text<S: Source>(
     place: Place<'_>,
 ) -> Result<Vec<u8>, TextStop>
     ensures fits { IfOk result (λ text. length text.items ≤ greatest_text) }
-    ensures whole { IfOk result (λ text. IsWhole (S.holds source.old (spot place.entry)) (S.left source.new) text.items) }
-    ensures stopped { IfErr result (λ stop. Stops stop (S.holds source.old (spot place.entry)) (S.left source.new)) }
+    ensures whole { IfOk result (λ text.
+        IsWhole (S.holds source.old (spot place.entry)) (S.left source.new) text.items) }
+    ensures stopped { IfErr result (λ stop.
+        Stops stop (S.holds source.old (spot place.entry)) (S.left source.new)) }
     ensures same { HoldTheSame (S.holds source.old) (S.holds source.new) }
     ensures faults { CountsFault (S.faults source.old) (S.faults source.new) result }
 {
@@ -82,9 +84,11 @@ fn add_piece<S: Source>(
     requires some { 0 < length buffer.old }
     requires fits { length text.old.items ≤ greatest_text }
     requires room { length text.old.items + length buffer.old ≤ greatest_text + 1 }
-    ensures added { IfOk result (λ n. AddsPiece (S.left source.old) (S.left source.new) text.old.items text.new.items n) }
+    ensures added { IfOk result (λ n.
+        AddsPiece (S.left source.old) (S.left source.new) text.old.items text.new.items n) }
     ensures at_end { IfOk result (λ n. n ≡ 0 → IsAtEnd (S.left source.old)) }
-    ensures stopped { IfErr result (λ stop. StopsAfter text.old.items stop (S.left source.old) (S.left source.new)) }
+    ensures stopped { IfErr result (λ stop.
+        StopsAfter text.old.items stop (S.left source.old) (S.left source.new)) }
     ensures same { HoldTheSame (S.holds source.old) (S.holds source.new) }
     ensures faults { CountsFault (S.faults source.old) (S.faults source.new) result }
 {
