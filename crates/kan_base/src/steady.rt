@@ -1,11 +1,7 @@
 //! A source and a sink that never fail.
 
-ghost use Rattle.std.specs.Prelude.{◌≡◌, ℕ, ◌+◌, ◌-◌, ◌^◌, ◌<◌, List, [], Option, None, Some, IfOk, OnOk, OnErr, IsOk, min, length, drop};
-ghost use Rattle.std.specs.Io.KnownBytes.{Keeps};
-ghost use Rattle.kan_base.specs.Spots.{HoldTheSame};
-ghost use Rattle.kan_base.specs.Faults.{CountsFaults};
+ghost use Rattle.std.specs.Prelude.{◌≡◌, ◌+◌, ◌-◌, ◌^◌, ◌<◌, [], None, Some, IfOk, IsOk, min, length, drop};
 ghost use Rattle.kan_base.specs.Reads.{Reads};
-ghost use Rattle.kan_base.specs.Writes.{Writes};
 
 use crate::copy::copy_front;
 use crate::outside::{Failed, Place, Sink, Source};
@@ -47,9 +43,6 @@ impl Source for SteadySource {
     ghost faults = { λ source. 0 };
 
     fn open(&mut self, _place: Place<'_>) -> Result<(), Failed>
-        ensures opened { OnOk result (Keeps (Some self.old.text) (Some self.new.left)) }
-        ensures same { HoldTheSame (λ place. Some self.old.text) (λ place. Some self.new.text) }
-        ensures faults { CountsFaults 0 0 result }
         ensures never_fails { IsOk result }
         ensures exact { self.new ≡ record self.old { left = self.old.text } }
     {
@@ -60,8 +53,6 @@ impl Source for SteadySource {
     fn read(&mut self, buf: &mut [u8]) -> Result<usize, Failed>
         requires { 0 < length buf.old }
         ensures read { IfOk result (λ n. Reads (Some self.old.left) (Some self.new.left) n buf.new) }
-        ensures same { HoldTheSame (λ place. Some self.old.text) (λ place. Some self.new.text) }
-        ensures faults { CountsFaults 0 0 result }
         ensures never_fails { IsOk result }
         ensures count { IfOk result (λ n. n ≡ min (length self.old.left) (length buf.old)) }
         ensures exact { IfOk result (λ n. self.new ≡ record self.old { left = drop n self.old.left }) }
@@ -110,8 +101,6 @@ impl Sink for CountSink {
     ghost faults = { λ sink. 0 };
 
     fn write(&mut self, piece: &[u8]) -> Result<usize, Failed>
-        ensures written { IfOk result (λ n. Writes None None n piece.now) }
-        ensures faults { CountsFaults 0 0 result }
         ensures never_fails { IsOk result }
         ensures count { IfOk result (λ n. n ≡ length piece.now) }
         ensures exact { self.new ≡ min (self.old + length piece.now) (2 ^ 64 - 1) }
