@@ -82,7 +82,6 @@ impl Sink for MemorySink {
 
     fn write(&mut self, piece: &[u8]) -> Result<usize, Failed>
         ensures written { IfOk result (λ n. Writes (Some self.old.put) (Some self.new.put) n piece.now) }
-        ensures unchanged { OnErr result (Some self.new.put ≡ Some self.old.put) }
         ensures faults { CountsFaults self.old.plan.faults self.new.plan.faults result }
         // A write fails exactly where it is planned to, and where nothing fits of a piece that isn't
         // empty.

@@ -1,8 +1,7 @@
 //! A source whose places are kept in memory.
 
 ghost use Rattle.std.specs.Prelude.{◌≡◌, ◌<◌, ◌≤◌, [], None, Some, MatchOption, IfOk, OnOk, OnErr, is_err, length};
-ghost use Rattle.std.specs.Io.KnownBytes.{Keeps};
-ghost use Rattle.kan_base.specs.Spots.{spot, HoldTheSame};
+ghost use Rattle.kan_base.specs.Spots.{spot};
 ghost use Rattle.kan_base.specs.Faults.{CountsFaults};
 ghost use Rattle.kan_base.specs.Reads.{Reads};
 ghost use Rattle.kan_base.specs.Plans.{is_due, new_plan};
@@ -92,8 +91,6 @@ impl Source for MemorySource {
     ghost faults = { λ source. source.plan.faults };
 
     fn open(&mut self, place: Place<'_>) -> Result<(), Failed>
-        ensures opened { OnOk result (Keeps (held self.old (spot place.entry)) (Some self.new.left)) }
-        ensures same { HoldTheSame (held self.old) (held self.new) }
         ensures faults { CountsFaults self.old.plan.faults self.new.plan.faults result }
         // An open fails exactly where it is planned to, and where the place isn't there.
         ensures fails { is_err result ≡ open_fails self.old (spot place.entry) }
@@ -121,7 +118,6 @@ impl Source for MemorySource {
     fn read(&mut self, buf: &mut [u8]) -> Result<usize, Failed>
         requires { 0 < length buf.old }
         ensures read { IfOk result (λ n. Reads (Some self.old.left) (Some self.new.left) n buf.new) }
-        ensures same { HoldTheSame (held self.old) (held self.new) }
         ensures faults { CountsFaults self.old.plan.faults self.new.plan.faults result }
         // A read fails exactly where it is planned to.
         ensures fails { is_err result ≡ is_due self.old.plan }
