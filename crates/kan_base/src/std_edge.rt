@@ -1,8 +1,9 @@
 //! The source and the sink over std's input, files and output. What they hold isn't told.
 
-ghost use Rattle.std.specs.Prelude.{◌≡◌, ◌≤◌, None, IfOk, length};
-ghost use Rattle.kan_base.specs.Faults.{Rose};
+ghost use Rattle.std.specs.Prelude.{◌≡◌, ◌≤◌, None, IfOk, OnErr, length};
+ghost use Rattle.kan_base.specs.Faults.{Rose, CountsFaults};
 ghost use Rattle.kan_base.specs.Plans.{one_more};
+ghost use Rattle.kan_base.specs.Writes.{Writes};
 
 use crate::outside::{Failed, Place, Sink, Source};
 use std::io::{Input, Print, Read, Write};
@@ -64,7 +65,10 @@ impl<R: Files + Input + Drop> Source for StdSource<R> {
 
     ghost faults = { λ source. source };
 
-    fn open(&mut self, place: Place<'_>) -> Result<(), Failed> {
+    fn open(&mut self, place: Place<'_>) -> Result<(), Failed>
+        ensures counted { OnErr result (self.new ≡ one_more self.old) }
+        ensures faults { CountsFaults self.old self.new result }
+    {
         match place {
             Place::Input => {
                 self.opened = Opened::Input(self.rt.reader());
@@ -80,7 +84,11 @@ impl<R: Files + Input + Drop> Source for StdSource<R> {
         }
     }
 
-    fn read(&mut self, buf: &mut [u8]) -> Result<usize, Failed> {
+    fn read(&mut self, buf: &mut [u8]) -> Result<usize, Failed>
+        ensures within { IfOk result (λ n. n ≤ length buf.new) }
+        ensures counted { OnErr result (self.new ≡ one_more self.old) }
+        ensures faults { CountsFaults self.old self.new result }
+    {
         let taken = match &mut self.opened {
             Opened::Nothing => Ok(0),
             Opened::Input(reader) => reader.read(buf),
@@ -141,7 +149,11 @@ impl<R: Print + Drop> Sink for StdSink<R> {
 
     ghost faults = { λ sink. sink };
 
-    fn write(&mut self, piece: &[u8]) -> Result<usize, Failed> {
+    fn write(&mut self, piece: &[u8]) -> Result<usize, Failed>
+        ensures written { IfOk result (λ n. Writes None None n piece.now) }
+        ensures counted { OnErr result (self.new ≡ one_more self.old) }
+        ensures faults { CountsFaults self.old self.new result }
+    {
         match write_through(io::writer(&self.rt), piece) {
             Ok(n) if n > 0 || piece.is_empty() => Ok(n),
             // An error of std, or a write that took nothing of a piece that isn't empty.
