@@ -1,0 +1,11 @@
+pub mod Spots
+pub mod Faults
+pub mod Reads
+pub mod Writes
+pub mod Taken
+pub mod Statuses
+pub mod Plans
+pub mod Memories
+pub mod Files
+pub mod Opened
+pub mod Steady
