@@ -12,3 +12,7 @@ pub mod UnifierLaws
 pub mod ReplacedLaws
 pub mod ListLaws
 pub mod NameLaws
+pub mod SolvedForms
+pub mod FormLaws
+pub mod ByteOrder
+pub mod AnswerLaws
