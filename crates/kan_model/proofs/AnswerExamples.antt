@@ -1,7 +1,7 @@
 -- Worked examples of answers in form, and of what answers cover.
 use Rattle.std.proofs.Common.{◌≡◌, ℕ, true, false, refl, sym, List, [], ◌∷◌, pos, codes, true≢false}
 use Rattle.kan_terms.specs.Tree.{Tree, Tm, Gd}
-use Rattle.kan_terms.specs.Valuation.{value}
+use Rattle.kan_terms.specs.Valuations.{value}
 use Rattle.kan_model.specs.Text.{Table}
 use Rattle.kan_model.specs.Answers.{Answer}
 use Rattle.kan_model.specs.InForm.{in_form}

@@ -1,4 +1,7 @@
-pub mod Examples
+pub mod OutputExamples
+pub mod LettersLaws
+pub mod SolvingLaws
+pub mod SolvingSteps
 pub mod RunExamples
 pub mod ConstraintExamples
 pub mod MeaningExamples

@@ -1,7 +1,7 @@
 -- Derivations: the finite trees that show that a goal holds of ground values.
 use Rattle.std.specs.Prelude.{◌≡◌, Decides, ℕ, Bool, true, false, ◌&&◌, eqb, List, [], ◌∷◌, ◌++◌, length, Some, None, slice_get}
 use Rattle.kan_terms.specs.Tree.{Gd}
-use Rattle.kan_terms.specs.Valuation.{value}
+use Rattle.kan_terms.specs.Valuations.{value}
 use Rattle.kan_model.specs.Goals.{Primitive, Goal, Template, Relation, Program}
 use Rattle.kan_model.specs.Holds.{holds_at}
 

@@ -2,7 +2,7 @@
 use Rattle.std.specs.Prelude.{◌≡◌, Bool, true, false, not, List, length, ◌++◌}
 use Rattle.std.specs.List.{list_all}
 use Rattle.kan_terms.specs.Tree.{Tree, Tm, Gd, has_symbol}
-use Rattle.kan_terms.specs.Valuation.{value, ground_eq}
+use Rattle.kan_terms.specs.Valuations.{value, ground_eq}
 use Rattle.kan_model.specs.Goals.{Primitive, on_sides}
 use Rattle.kan_model.specs.Stores.{Store}
 

@@ -1,6 +1,9 @@
 pub mod Goals
 pub mod Stores
+pub mod Prims
 pub mod Solve
+pub mod Letters
+pub mod Solving
 pub mod Kept
 pub mod Streams
 pub mod Running

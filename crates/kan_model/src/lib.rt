@@ -2,3 +2,10 @@
 #![tactic(auto)]
 
 pub mod laws;
+mod letters;
+mod prims;
+mod solving;
+
+pub use letters::{Letter, build, occurs_in, same_terms, spell};
+pub use prims::{Kind, Prim};
+pub use solving::{Replaced, apply, solve};

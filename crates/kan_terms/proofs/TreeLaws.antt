@@ -1,11 +1,13 @@
 -- The laws of trees: filling, leaves, equality, occurrence and size.
-use Rattle.std.specs.Prelude.{◌≡◌, ◌≢◌, ℕ, ◌≤◌, Bool, true, false, ◌&&◌, ◌||◌, eqb, [], ◌∷◌, refl, Contains}
+use Rattle.std.specs.Prelude.{◌≡◌, ◌≢◌, ℕ, suc, ◌≤◌, Bool, true, false, ◌&&◌, ◌||◌, eqb, [], ◌∷◌, refl, Contains, flat_map}
 use Rattle.std.specs.Bool.{Decides}
 use Rattle.std.proofs.Common.{sym, ◌∙◌, ap, arith, inl, inr, ◌⊎◌}
 use Rattle.std.proofs.lemmas.Bool.{eqb-true, eq-eqb}
 use Rattle.std.proofs.lemmas.Bool.Decides.{Decides-int_eq, not_from_Decides}
 use Rattle.std.proofs.lemmas.List.Elements.{Contains-append_left, Contains-append_right, Contains-append_cases, Contains-push_cases}
-use Rattle.kan_terms.specs.Tree.{Tree, Tm, Gd, fill, leaves, occurs, bool_eq, tree_eq, term_eq, size}
+use Rattle.std.proofs.lemmas.List.{append-nil}
+use Rattle.std.proofs.lemmas.Grind.{flat_map-append}
+use Rattle.kan_terms.specs.Tree.{Tree, Tm, Gd, fill, leaves, occurs, has_symbol, bool_eq, tree_eq, term_eq, ground_eq, size}
 
 -- filling twice is filling once
 pub fill-fill : {U V W : Type 0} (f : V → Tree W) (g : U → Tree V) (t : Tree U) → fill f (fill g t) ≡ fill (λ u. fill f (g u)) t
@@ -57,8 +59,9 @@ leaves-same_fill f g (Tree.truth b) e v h = absurd (omega arith)
 leaves-same_fill f g Tree.nil e v h = absurd (omega arith)
 leaves-same_fill f g (Tree.pair a b) e v h =
     elim (Contains-append_cases (leaves a) (leaves b) v h) [
-      inl in_a ↦ leaves-same_fill f g a (cc) v in_a
-    | inr in_b ↦ leaves-same_fill f g b (cc) v in_b ]
+      | inl in_a ↦ leaves-same_fill f g a (cc) v in_a
+      | inr in_b ↦ leaves-same_fill f g b (cc) v in_b
+    ]
 
 -- two truth values are the same exactly where the test says so
 pub Decides-bool_eq : (a b : Bool) → Decides (bool_eq a b) (a ≡ b)
@@ -111,9 +114,9 @@ term_eq-true s t = (Decides-term_eq s t).0
 pub eq-term_eq : (s t : Tm) → s ≡ t → term_eq s t ≡ true
 eq-term_eq s t = (Decides-term_eq s t).1
 
--- the test of ground terms is exact, and needs no test of leaves
-pub Decides-ground_eq : (s t : Gd) → Decides (tree_eq (λ a. absurd a) s t) (s ≡ t)
-Decides-ground_eq s t = Decides-tree_eq (λ a. absurd a) (λ a. absurd a) s t
+-- the test of ground terms is exact
+pub Decides-ground_eq : (s t : Gd) → Decides (ground_eq s t) (s ≡ t)
+Decides-ground_eq s t = Decides-tree_eq (λ none. absurd none) (λ none. absurd none) s t
 
 -- terms are the same or differ
 pub Term-decided : (s t : Tm) → (s ≡ t) ⊎ (s ≢ t)
@@ -146,8 +149,9 @@ occurs-leaves x (Tree.truth b) e = cc
 occurs-leaves x Tree.nil e = cc
 occurs-leaves x (Tree.pair a b) e =
     elim (or-split (occurs x a) (occurs x b) e) [
-      inl in_a ↦ Contains-append_left (leaves a) (leaves b) x (occurs-leaves x a in_a)
-    | inr in_b ↦ Contains-append_right (leaves a) (leaves b) x (occurs-leaves x b in_b) ]
+      | inl in_a ↦ Contains-append_left (leaves a) (leaves b) x (occurs-leaves x a in_a)
+      | inr in_b ↦ Contains-append_right (leaves a) (leaves b) x (occurs-leaves x b in_b)
+    ]
 
 -- each leaf of a term stands in it
 pub leaves-occurs : (x : ℕ) (t : Tm) → Contains (leaves t) x → occurs x t ≡ true
@@ -158,8 +162,9 @@ leaves-occurs x (Tree.truth b) h = absurd (omega arith)
 leaves-occurs x Tree.nil h = absurd (omega arith)
 leaves-occurs x (Tree.pair a b) h =
     elim (Contains-append_cases (leaves a) (leaves b) x h) [
-      inl in_a ↦ or-left (occurs x a) (occurs x b) (leaves-occurs x a in_a)
-    | inr in_b ↦ or-right (occurs x a) (occurs x b) (leaves-occurs x b in_b) ]
+      | inl in_a ↦ or-left (occurs x a) (occurs x b) (leaves-occurs x a in_a)
+      | inr in_b ↦ or-right (occurs x a) (occurs x b) (leaves-occurs x b in_b)
+    ]
 
 -- a variable stands in a term exactly where it is one of the term's leaves
 pub Decides-occurs : (x : ℕ) (t : Tm) → Decides (occurs x t) (Contains (leaves t) x)
@@ -193,8 +198,9 @@ occurs-fill x f (Tree.truth b) e = cc
 occurs-fill x f Tree.nil e = cc
 occurs-fill x f (Tree.pair a b) e =
     elim (or-split (occurs x (fill f a)) (occurs x (fill f b)) e) [
-      inl in_a ↦ (let found = occurs-fill x f a in_a in (found.0, or-left (occurs found.0 a) (occurs found.0 b) found.1, found.2))
-    | inr in_b ↦ (let found = occurs-fill x f b in_b in (found.0, or-right (occurs found.0 a) (occurs found.0 b) found.1, found.2)) ]
+      | inl in_a ↦ (let found = occurs-fill x f a in_a in (found.0, or-left (occurs found.0 a) (occurs found.0 b) found.1, found.2))
+      | inr in_b ↦ (let found = occurs-fill x f b in_b in (found.0, or-right (occurs found.0 a) (occurs found.0 b) found.1, found.2))
+    ]
 
 pub fill-occurs : (x y : ℕ) (f : ℕ → Tm) (t : Tm) → occurs y t ≡ true → occurs x (f y) ≡ true → occurs x (fill f t) ≡ true
 fill-occurs x y f (Tree.leaf v) e h = rw (← eqb-true y v e) h
@@ -204,8 +210,64 @@ fill-occurs x y f (Tree.truth b) e h = cc
 fill-occurs x y f Tree.nil e h = cc
 fill-occurs x y f (Tree.pair a b) e h =
     elim (or-split (occurs y a) (occurs y b) e) [
-      inl in_a ↦ or-left (occurs x (fill f a)) (occurs x (fill f b)) (fill-occurs x y f a in_a h)
-    | inr in_b ↦ or-right (occurs x (fill f a)) (occurs x (fill f b)) (fill-occurs x y f b in_b h) ]
+      | inl in_a ↦ or-left (occurs x (fill f a)) (occurs x (fill f b)) (fill-occurs x y f a in_a h)
+      | inr in_b ↦ or-right (occurs x (fill f a)) (occurs x (fill f b)) (fill-occurs x y f b in_b h)
+    ]
+
+-- a symbol that stands in a filled tree stands in the tree, or in what fills one of its leaves
+pub has_symbol-fill : {V W : Type 0} (s : ℕ) (f : V → Tree W) (t : Tree V) → has_symbol s (fill f t) ≡ true
+    → (has_symbol s t ≡ true) ⊎ ((v : V) × Contains (leaves t) v × (has_symbol s (f v) ≡ true))
+has_symbol-fill s f (Tree.leaf v) e = inr (v, (0, omega arith, refl), e)
+has_symbol-fill s f (Tree.sym r) e = inl e
+has_symbol-fill s f (Tree.num n) e = cc
+has_symbol-fill s f (Tree.truth b) e = cc
+has_symbol-fill s f Tree.nil e = cc
+has_symbol-fill s f (Tree.pair a b) e =
+    elim (or-split (has_symbol s (fill f a)) (has_symbol s (fill f b)) e) [
+      | inl in_a ↦ elim (has_symbol-fill s f a in_a) [
+        | inl h ↦ inl (or-left (has_symbol s a) (has_symbol s b) h)
+        | inr h ↦ inr (h.0, Contains-append_left (leaves a) (leaves b) h.0 h.1, h.2)
+      ]
+      | inr in_b ↦ elim (has_symbol-fill s f b in_b) [
+        | inl h ↦ inl (or-right (has_symbol s a) (has_symbol s b) h)
+        | inr h ↦ inr (h.0, Contains-append_right (leaves a) (leaves b) h.0 h.1, h.2)
+      ]
+    ]
+
+-- a symbol of a tree stands in the filled tree
+pub fill-has_symbol : {V W : Type 0} (s : ℕ) (f : V → Tree W) (t : Tree V) → has_symbol s t ≡ true → has_symbol s (fill f t) ≡ true
+fill-has_symbol s f (Tree.leaf v) e = cc
+fill-has_symbol s f (Tree.sym r) e = e
+fill-has_symbol s f (Tree.num n) e = cc
+fill-has_symbol s f (Tree.truth b) e = cc
+fill-has_symbol s f Tree.nil e = cc
+fill-has_symbol s f (Tree.pair a b) e =
+    elim (or-split (has_symbol s a) (has_symbol s b) e) [
+      | inl in_a ↦ or-left (has_symbol s (fill f a)) (has_symbol s (fill f b)) (fill-has_symbol s f a in_a)
+      | inr in_b ↦ or-right (has_symbol s (fill f a)) (has_symbol s (fill f b)) (fill-has_symbol s f b in_b)
+    ]
+
+-- and so does a symbol of what fills one of its leaves
+pub leaves-has_symbol : {V W : Type 0} (s : ℕ) (f : V → Tree W) (t : Tree V) (v : V) → Contains (leaves t) v → has_symbol s (f v) ≡ true → has_symbol s (fill f t) ≡ true
+leaves-has_symbol s f (Tree.leaf w) v h e = rw (one-item w v h) e
+leaves-has_symbol s f (Tree.sym r) v h e = absurd (omega arith)
+leaves-has_symbol s f (Tree.num n) v h e = absurd (omega arith)
+leaves-has_symbol s f (Tree.truth b) v h e = absurd (omega arith)
+leaves-has_symbol s f Tree.nil v h e = absurd (omega arith)
+leaves-has_symbol s f (Tree.pair a b) v h e =
+    elim (Contains-append_cases (leaves a) (leaves b) v h) [
+      | inl in_a ↦ or-left (has_symbol s (fill f a)) (has_symbol s (fill f b)) (leaves-has_symbol s f a v in_a e)
+      | inr in_b ↦ or-right (has_symbol s (fill f a)) (has_symbol s (fill f b)) (leaves-has_symbol s f b v in_b e)
+    ]
+
+-- the leaves of a filled tree are those of what fills its leaves
+pub leaves-fill : {V W : Type 0} (f : V → Tree W) (t : Tree V) → leaves (fill f t) ≡ flat_map (λ v. leaves (f v)) (leaves t)
+leaves-fill f (Tree.leaf v) = sym (append-nil (leaves (f v)))
+leaves-fill f (Tree.sym s) = refl
+leaves-fill f (Tree.num n) = refl
+leaves-fill f (Tree.truth b) = refl
+leaves-fill f Tree.nil = refl
+leaves-fill f (Tree.pair a b) = rw (leaves-fill f a, leaves-fill f b) (sym (flat_map-append (λ v. leaves (f v)) (leaves a) (leaves b)))
 
 -- a tree has at least one node
 pub size-positive : {V : Type 0} (t : Tree V) → 1 ≤ size t
@@ -225,5 +287,23 @@ size-fill x f (Tree.truth b) e = cc
 size-fill x f Tree.nil e = cc
 size-fill x f (Tree.pair a b) e =
     elim (or-split (occurs x a) (occurs x b) e) [
-      inl in_a ↦ omega (arith, size-fill x f a in_a)
-    | inr in_b ↦ omega (arith, size-fill x f b in_b) ]
+      | inl in_a ↦ omega (arith, size-fill x f a in_a)
+      | inr in_b ↦ omega (arith, size-fill x f b in_b)
+    ]
+
+-- a variable that stands inside a pair has a value that is smaller than the filled pair
+pub size-fill_pair : {W : Type 0} (x : ℕ) (f : ℕ → Tree W) (a b : Tm) → occurs x (Tree.pair a b) ≡ true → suc (size (f x)) ≤ size (fill f (Tree.pair a b))
+size-fill_pair x f a b e =
+    elim (or-split (occurs x a) (occurs x b) e) [
+      | inl in_a ↦ omega (arith, size-fill x f a in_a, size-positive (fill f b))
+      | inr in_b ↦ omega (arith, size-fill x f b in_b, size-positive (fill f a))
+    ]
+
+-- no filling makes a variable the same as a larger term in which it stands
+pub occurs-cyclic : {W : Type 0} (x : ℕ) (f : ℕ → Tree W) (t : Tm) → occurs x t ≡ true → t ≢ Tree.leaf x → f x ≢ fill f t
+occurs-cyclic x f (Tree.leaf v) e differs same = differs (ap Tree.leaf (sym (eqb-true x v e)))
+occurs-cyclic x f (Tree.sym s) e differs same = cc
+occurs-cyclic x f (Tree.num n) e differs same = cc
+occurs-cyclic x f (Tree.truth b) e differs same = cc
+occurs-cyclic x f Tree.nil e differs same = cc
+occurs-cyclic x f (Tree.pair a b) e differs same = omega (arith, size-fill_pair x f a b e, ap size same)

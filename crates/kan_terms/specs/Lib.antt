@@ -1,4 +1,9 @@
+pub mod Bound
+pub mod Lists
 pub mod Memory
+pub mod Reading
+pub mod Spelling
+pub mod Table
 pub mod Tree
 pub mod Terms
-pub mod Valuation
+pub mod Valuations

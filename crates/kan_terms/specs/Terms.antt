@@ -1,6 +1,7 @@
 -- What the terms of the code stand for.
 use Rattle.kan_terms.specs.Tree.{Tree, Tm}
 use Rattle.kan_terms.specs.declared.terms.Term.{Term}
+use Rattle.kan_terms.specs.declared.terms.TermPair.{TermPair}
 use Rattle.kan_terms.specs.declared.terms.Term.TheVariants.{Var, Sym, Num, Truth, Nil, Pair'}
 
 -- the tree of a term, whose pairs lie behind pointers
@@ -11,3 +12,7 @@ tree (Num n) = Tree.num n
 tree (Truth b) = Tree.truth b
 tree Nil = Tree.nil
 tree (Pair' place first rest) = Tree.pair (tree first) (tree rest)
+
+-- the two sides of a pair of terms
+abbrev pub sides : TermPair → Tm × Tm
+sides parts = (tree parts.first, tree parts.rest)

@@ -76,6 +76,10 @@ tree_eq same _ _ = false
 abbrev pub term_eq : Tm → Tm → Bool
 term_eq = tree_eq eqb
 
+-- two ground terms are the same
+abbrev pub ground_eq : Gd → Gd → Bool
+ground_eq = tree_eq (λ none. absurd none)
+
 -- how many nodes a tree has
 abbrev pub size : {V : Type 0} → Tree V → ℕ
 size (Tree.leaf v) = 1

@@ -1,8 +1,16 @@
 //! Terms, the table of names, and bindings of variables.
 #![tactic(auto)]
 
+mod binding;
 mod list;
+mod lists;
+mod marks;
+mod symbols;
 mod terms;
 
+pub use binding::Bindings;
 pub use list::ListOf;
+pub use lists::{Grounds, PairLists, Tags, TermPairs};
+pub use marks::{Ground, Mark};
+pub use symbols::Names;
 pub use terms::{Memory, Term, TermPair};

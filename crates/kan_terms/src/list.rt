@@ -2,6 +2,9 @@
 
 ghost use Rattle.std.specs.Prelude.{◌≡◌, ◌<◌, ◌↔◌, [], ◌∷◌, ◌++◌, length, slice_get, IsTrue, IfErr, IfSome, IfNone, OnOk, OnErr, IsSome};
 ghost use Rattle.std.specs.Option.{option_copied};
+ghost use Rattle.std.specs.Borrow.{Array, Lends, sem};
+ghost use Rattle.kan_terms.specs.Lists.{written_over};
+ghost use Rattle.kan_terms.specs.contracts.list.ListOf.{the_row};
 
 use std::alloc::Global;
 use std::marker::Model;
@@ -57,6 +60,14 @@ impl<T> ListOf<T> {
         ensures { result.now ≡ self.now }
     {
         &self.stored
+    }
+
+    /// All items in order, to be changed. The list is then what was written.
+    pub fn items_mut(&mut self) -> &mut [T]
+        ensures* written { sem 𝓛 (Lends (the_row T.row) (Array T.row 0) self.entry result (written_over self.old)) }
+        ensures shown { result.now ≡ self.old }
+    {
+        self.stored.as_mut_slice()
     }
 
     /// Takes the last item out.

@@ -1,0 +1,189 @@
+-- Letters of the terms that wait on a stack, and terms from their letters.
+use Rattle.std.proofs.Common.{◌≡◌, ℕ, List, [], ◌∷◌, ◌++◌, length, ◌<◌, refl, sym, ◌∙◌, ap, ap₂, append_assoc, append-nil, Option, Some, None, arith, Bool, true, false}
+use Rattle.std.specs.Prelude.{eqb, ◌||◌, IsTrue}
+use Rattle.std.specs.List.{list_any, flat_map}
+use Rattle.std.proofs.lemmas.Bool.{eqb-true, eq-eqb}
+use Rattle.std.proofs.lemmas.Bool.Decides.{Decides-int_eq}
+use Rattle.std.proofs.lemmas.List.Folds.{list_any-append}
+use Rattle.std.proofs.lemmas.Grind.{flat_map-append}
+use Rattle.kan_terms.specs.Tree.{occurs, term_eq}
+use Rattle.kan_terms.proofs.TreeLaws.{Decides-bool_eq, term_eq-true, eq-term_eq}
+use Rattle.kan_model.specs.Solve.{Replacement, image, apply}
+use Rattle.std.specs.Borrow.{Bor}
+use Rattle.kan_terms.specs.Tree.{Tree, Tm}
+use Rattle.kan_terms.specs.Terms.{tree}
+use Rattle.kan_terms.specs.declared.terms.Term.{Term}
+use Rattle.kan_model.specs.declared.letters.Letter.{Letter}
+use Rattle.kan_model.specs.declared.letters.Letter.TheVariants.{Pair, Var, Sym, Num, Truth, Nil}
+use Rattle.kan_model.specs.Letters.{letter_of, spelling, waiting_spelling, only_one, stack_terms, Gives, IsAtomOf, joined, put_letter, put_letter_on, built_from, is_letter_of, letter_eq, spliced}
+
+-- a term put on top is spelled first
+pub waiting-push : (ts : List (Bor Term)) (t : Bor Term) → waiting_spelling (ts ++ t ∷ []) ≡ spelling (tree t.now) ++ waiting_spelling ts
+waiting-push [] t = sym (append-nil (spelling (tree t.now)))
+waiting-push (u ∷ ts) t = rw (waiting-push ts t) (append_assoc (spelling (tree t.now)) (waiting_spelling ts) (spelling (tree u.now)))
+
+-- a letter written, and the parts of its term put on the stack
+pub written_step : (letters longer : List Letter) (x : Letter) (old rest new : List (Bor Term)) (t : Bor Term) (whole : List Letter) →
+    x ≡ letter_of (tree t.now) → longer ≡ letters ++ x ∷ [] → old ≡ rest ++ t ∷ [] → letters ++ waiting_spelling old ≡ whole →
+    letter_of (tree t.now) ∷ waiting_spelling new ≡ spelling (tree t.now) ++ waiting_spelling rest → longer ++ waiting_spelling new ≡ whole
+written_step letters longer x old rest new t whole first grown split kept parts =
+    ap (λ w. w ++ waiting_spelling new) grown ∙ append_assoc letters (x ∷ []) (waiting_spelling new) ∙ ap (λ y. letters ++ (y ∷ waiting_spelling new)) first
+    ∙ ap (λ w. letters ++ w) (parts ∙ sym (waiting-push rest t)) ∙ ap (λ w. letters ++ waiting_spelling w) (sym split) ∙ kept
+
+-- then fewer letters wait
+pub fewer_wait : (old rest new : List (Bor Term)) (t : Bor Term) →
+    old ≡ rest ++ t ∷ [] → letter_of (tree t.now) ∷ waiting_spelling new ≡ spelling (tree t.now) ++ waiting_spelling rest → length (waiting_spelling new) < length (waiting_spelling old)
+fewer_wait old rest new t split parts =
+    let same : length (letter_of (tree t.now) ∷ waiting_spelling new) ≡ length (waiting_spelling old) = ap length (parts ∙ sym (waiting-push rest t) ∙ ap waiting_spelling (sym split)) in
+    omega (arith, same)
+
+-- the two parts of a pair put on the stack
+pub parts_wait : (old middle new : List (Bor Term)) (a b : Bor Term) (t : Tm) →
+    middle ≡ old ++ b ∷ [] → new ≡ middle ++ a ∷ [] → t ≡ Tree.pair (tree a.now) (tree b.now) →
+    letter_of t ∷ waiting_spelling new ≡ spelling t ++ waiting_spelling old
+parts_wait old middle new a b t first second pair =
+    rw (pair, second, waiting-push, first, waiting-push, append_assoc)
+
+-- the top of a stack comes first
+pub stack-push : (ts : List Term) (t : Term) → stack_terms (ts ++ t ∷ []) ≡ tree t ∷ stack_terms ts
+stack-push [] t = refl
+stack-push (u ∷ ts) t = rw (stack-push ts t) refl
+
+-- letters in front of terms that may be missing
+abbrev pub built_on : List Letter → Option (List Tm) → Option (List Tm)
+built_on xs None = None
+built_on xs (Some ts) = built_from xs ts
+
+built_on-put : (x : Letter) (xs : List Letter) (r : Option (List Tm)) → put_letter_on x (built_on xs r) ≡ built_on (x ∷ xs) r
+built_on-put x xs None = refl
+built_on-put x xs (Some ts) = refl
+
+-- the letters at the end go first
+pub built_from-append : (xs ys : List Letter) (ts : List Tm) → built_from (xs ++ ys) ts ≡ built_on xs (built_from ys ts)
+built_from-append [] ys ts = go (built_from ys ts)
+  where
+    go : (r : Option (List Tm)) → r ≡ built_on [] r
+    go None = refl
+    go (Some us) = refl
+built_from-append (x ∷ xs) ys ts = ap (put_letter_on x) (built_from-append xs ys ts) ∙ built_on-put x xs (built_from ys ts)
+
+-- the letters of a term build it
+pub built_from-spelling : (t : Tm) (ts : List Tm) → built_from (spelling t) ts ≡ Some (t ∷ ts)
+built_from-spelling (Tree.leaf v) ts = refl
+built_from-spelling (Tree.sym s) ts = refl
+built_from-spelling (Tree.num n) ts = refl
+built_from-spelling (Tree.truth b) ts = refl
+built_from-spelling Tree.nil ts = refl
+built_from-spelling (Tree.pair a b) ts =
+    ap (put_letter_on Pair) (built_from-append (spelling a) (spelling b) ts ∙ ap (built_on (spelling a)) (built_from-spelling b ts) ∙ built_from-spelling a (b ∷ ts))
+
+-- terms with the same letters are the same
+pub spelling-same : (s t : Tm) → spelling s ≡ spelling t → s ≡ t
+spelling-same s t e =
+    let same : Some (s ∷ []) ≡ Some (t ∷ []) = sym (built_from-spelling s []) ∙ ap (λ xs. built_from xs []) e ∙ built_from-spelling t [] in cc
+
+-- the last letter taken, and its term put on the stack
+pub built_step : (letters rest : List Letter) (x : Letter) (old new : List Tm) (whole : Option (List Tm)) →
+    letters ≡ rest ++ x ∷ [] → built_from letters old ≡ whole → put_letter x old ≡ Some new → built_from rest new ≡ whole
+built_step letters rest x old new whole split kept put =
+    sym (ap (built_on rest) put) ∙ sym (built_from-append rest (x ∷ []) old) ∙ ap (λ xs. built_from xs old) (sym split) ∙ kept
+
+-- a letter that doesn't fit leaves nothing
+pub built_stop : (letters rest : List Letter) (x : Letter) (old : List Tm) (whole : Option (List Tm)) →
+    letters ≡ rest ++ x ∷ [] → built_from letters old ≡ whole → put_letter x old ≡ None → whole ≡ None
+built_stop letters rest x old whole split kept put =
+    sym kept ∙ ap (λ xs. built_from xs old) split ∙ built_from-append rest (x ∷ []) old ∙ ap (built_on rest) put
+
+-- the two terms on top made a pair
+pub joins_top : (old mid low new : List Term) (a b t : Term) →
+    old ≡ mid ++ a ∷ [] → mid ≡ low ++ b ∷ [] → new ≡ low ++ t ∷ [] → tree t ≡ Tree.pair (tree a) (tree b) →
+    joined (stack_terms old) ≡ Some (stack_terms new)
+joins_top old mid low new a b t first second put pair = rw (first, stack-push, second, stack-push, put, stack-push, pair) refl
+
+-- an atom put on the stack
+pub puts_atom : (old new : List Term) (x : Letter) (t : Term) →
+    new ≡ old ++ t ∷ [] → IsAtomOf x (Some (tree t)) → put_letter x (stack_terms old) ≡ Some (stack_terms new)
+puts_atom old new x t put is_atom = rw (put, stack-push) (is_atom (stack_terms old))
+
+-- what a stack of one term has, and one of several
+pub only_top : (old rest : List Term) (t : Term) → old ≡ rest ++ t ∷ [] → rest ≡ [] → Some (tree t) ≡ only_one (Some (stack_terms old))
+only_top old rest t split none = rw (split, none) refl
+
+not_alone : (us : List Tm) (a b : Tm) → only_one (Some (a ∷ (us ++ b ∷ []))) ≡ None
+not_alone [] a b = refl
+not_alone (u ∷ us) a b = refl
+
+pub only_more : (old rest : List Term) (t : Term) → old ≡ rest ++ t ∷ [] → (rest ≡ [] → ⊥) → None ≡ only_one (Some (stack_terms old))
+only_more old [] t split some = absurd (some refl)
+only_more old (u ∷ us) t split some = sym (ap (λ xs. only_one (Some (stack_terms xs))) split ∙ ap (λ xs. only_one (Some xs)) (stack-push (u ∷ us) t) ∙ not_alone (stack_terms us) (tree t) (tree u))
+
+pub only_none : (old : List Term) → old ≡ [] → None ≡ only_one (Some (stack_terms old))
+only_none old none = rw none refl
+
+-- what a test says of terms that may be there
+pub gives_some : (r : Option (List Tm)) (fits : Bool) (found : List Tm) → Gives r fits found → fits ≡ true → r ≡ Some found
+gives_some r true found g e = g
+gives_some r false found g e = cc
+
+pub gives_none : (r : Option (List Tm)) (fits : Bool) (found : List Tm) → Gives r fits found → fits ≡ false → r ≡ None
+gives_none r true found g e = cc
+gives_none r false found g e = g
+
+-- the test of letters is exact
+pub letter_eq-true : (x y : Letter) → letter_eq x y ≡ true → x ≡ y
+letter_eq-true Pair Pair e = refl
+letter_eq-true (Var v) (Var w) e = ap Var (eqb-true v w e)
+letter_eq-true (Sym v) (Sym w) e = ap Sym (sym (eqb-true w v e))
+letter_eq-true (Num v) (Num w) e = ap Num (sym ((Decides-int_eq w v).0 e))
+letter_eq-true (Truth v) (Truth w) e = ap Truth (sym ((Decides-bool_eq w v).0 e))
+letter_eq-true Nil Nil e = refl
+letter_eq-true _ _ e = cc
+
+pub letter_eq-same : (x : Letter) → letter_eq x x ≡ true
+letter_eq-same Pair = refl
+letter_eq-same (Var v) = eq-eqb v v refl
+letter_eq-same (Sym v) = eq-eqb v v refl
+letter_eq-same (Num v) = (Decides-int_eq v v).1 refl
+letter_eq-same (Truth v) = (Decides-bool_eq v v).1 refl
+letter_eq-same Nil = refl
+
+-- two tests that say the same
+pub same_tests : (s t : Tm) (r : Bool) → (IsTrue r → spelling s ≡ spelling t) → (spelling s ≡ spelling t → IsTrue r) → r ≡ term_eq s t
+same_tests s t true same rest = sym (eq-term_eq s t (spelling-same s t (same refl)))
+same_tests s t false same rest = go (term_eq s t) (λ e. rest (ap spelling (term_eq-true s t e)) ∙ sym e)
+  where
+    go : (b : Bool) → (b ≡ true → false ≡ b) → false ≡ b
+    go true f = f refl
+    go false f = refl
+
+or_false : (b : Bool) → (b || false) ≡ b
+or_false true = refl
+or_false false = refl
+
+-- a variable stands in a term where its letter is among the term's letters
+pub occurs-letters : (x : ℕ) (t : Tm) → list_any (is_letter_of x) (spelling t) ≡ occurs x t
+occurs-letters x (Tree.leaf v) = or_false (eqb x v)
+occurs-letters x (Tree.sym s) = refl
+occurs-letters x (Tree.num n) = refl
+occurs-letters x (Tree.truth b) = refl
+occurs-letters x Tree.nil = refl
+occurs-letters x (Tree.pair a b) =
+    list_any-append (is_letter_of x) (spelling a) (spelling b) ∙ ap₂ (λ l r. l || r) (occurs-letters x a) (occurs-letters x b)
+
+-- letters spliced into a term's letters spell the term under the replacement
+pub spelling-apply : (s : Replacement) (t : Tm) → flat_map (spliced s) (spelling t) ≡ spelling (apply s t)
+spelling-apply s (Tree.leaf v) = append-nil (spelling (image s v))
+spelling-apply s (Tree.sym x) = refl
+spelling-apply s (Tree.num n) = refl
+spelling-apply s (Tree.truth b) = refl
+spelling-apply s Tree.nil = refl
+spelling-apply s (Tree.pair a b) =
+    ap (λ w. Pair ∷ w) (flat_map-append (spliced s) (spelling a) (spelling b) ∙ ap₂ (λ l r. l ++ r) (spelling-apply s a) (spelling-apply s b))
+
+-- what is built from spliced letters
+pub applied_is : (s : Replacement) (t : Tm) (letters made : List Letter) (r : Option Tm) (u : Tm) →
+    letters ≡ spelling t → made ≡ flat_map (spliced s) letters → r ≡ only_one (built_from made []) → r ≡ Some u → u ≡ apply s t
+applied_is s t letters made r u l m built some =
+    let whole : made ≡ spelling (apply s t) = m ∙ ap (flat_map (spliced s)) l ∙ spelling-apply s t in
+    let same : Some u ≡ Some (apply s t) = sym some ∙ built ∙ ap (λ w. only_one (built_from w [])) whole ∙ ap only_one (built_from-spelling (apply s t) []) in
+    cc

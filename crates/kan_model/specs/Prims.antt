@@ -1,0 +1,13 @@
+-- What the primitives and types of the code stand for.
+use Rattle.kan_terms.specs.Tree.{Tm}
+use Rattle.kan_terms.specs.Terms.{tree}
+use Rattle.kan_model.specs.Goals.{Primitive}
+use Rattle.kan_model.specs.declared.prims.Prim.{Prim}
+use Rattle.kan_model.specs.declared.prims.Prim.TheVariants.{Same, Differ, Symbol, Number, Absent}
+
+abbrev pub prim : Prim → Primitive Tm
+prim (Same a b) = Primitive.same (tree a) (tree b)
+prim (Differ a b) = Primitive.differ (tree a) (tree b)
+prim (Symbol a) = Primitive.symbol (tree a)
+prim (Number a) = Primitive.number (tree a)
+prim (Absent tag a) = Primitive.absent tag (tree a)

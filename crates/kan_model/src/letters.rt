@@ -1,0 +1,192 @@
+//! Terms as lists of letters, so that plain code works on lists and never recurses on a term's depth.
+
+ghost use Rattle.std.specs.Prelude.{◌≡◌, [], ◌∷◌, ◌++◌, IfOk, OnOk, option_map, IsTrue, ◌↔◌};
+ghost use Rattle.std.specs.List.{list_any};
+ghost use Rattle.kan_terms.specs.Tree.{term_eq, occurs};
+ghost use Rattle.kan_terms.specs.Terms.{tree};
+ghost use Rattle.kan_model.specs.Letters.{spelling, letter_of, waiting_spelling, IsAtomOf, Gives, joined, stack_terms, put_letter, only_one, built_from, is_letter_of, letter_eq};
+
+use kan_terms::{Memory, Term};
+use std::alloc::Global;
+
+/// A letter of a term: its letters in preorder spell it.
+#[derive(Clone, Copy, Debug, PartialEq, Eq)]
+pub enum Letter {
+    /// A pair, whose two parts follow.
+    Pair,
+    /// A variable.
+    Var(u64),
+    /// A symbol.
+    Sym(u32),
+    /// A whole number.
+    Num(i128),
+    /// A truth value.
+    Truth(bool),
+    /// The empty list.
+    Nil,
+}
+
+// The first letter of a term.
+fn first_letter(term: &Term) -> Letter
+    ensures { result ≡ letter_of (tree term.now) }
+{
+    match term {
+        Term::Var(var) => Letter::Var(*var),
+        Term::Sym(name) => Letter::Sym(*name),
+        Term::Num(number) => Letter::Num(*number),
+        Term::Truth(truth) => Letter::Truth(*truth),
+        Term::Nil => Letter::Nil,
+        Term::Pair(_) => Letter::Pair,
+    }
+}
+
+// Puts the parts of a pair on a stack of waiting terms, the first part on top.
+fn wait_for_parts<'a>(term: &'a Term, waiting: &mut Vec<&'a Term>) -> Result<(), Memory>
+    ensures { OnOk result (letter_of (tree term.now) ∷ waiting_spelling waiting.new.items ≡ spelling (tree term.now) ++ waiting_spelling waiting.old.items) }
+{
+    if let Term::Pair(parts) = term {
+        waiting.push(&parts.rest)?;
+        waiting.push(&parts.first)?;
+    }
+    Ok(())
+}
+
+/// The letters of a term.
+pub fn spell(alloc: Global, term: &Term) -> Result<Vec<Letter>, Memory>
+    ensures { IfOk result (λ letters. letters.items ≡ spelling (tree term.now)) }
+{
+    let mut letters = Vec::new(alloc);
+    let mut waiting = Vec::new(alloc);
+    waiting.push(term)?;
+    while let Some(next) = waiting.pop() {
+        letters.push(first_letter(next))?;
+        wait_for_parts(next, &mut waiting)?;
+    }
+    Ok(letters)
+}
+
+// The term of a letter that is none of a pair.
+fn atom(letter: Letter) -> Option<Term>
+    ensures { IsAtomOf letter (option_map tree result) }
+{
+    match letter {
+        Letter::Pair => None,
+        Letter::Var(var) => Some(Term::Var(var)),
+        Letter::Sym(name) => Some(Term::Sym(name)),
+        Letter::Num(number) => Some(Term::Num(number)),
+        Letter::Truth(truth) => Some(Term::Truth(truth)),
+        Letter::Nil => Some(Term::Nil),
+    }
+}
+
+// Makes a pair of the two terms on top of the stack, where there are two.
+fn join_top(alloc: Global, stack: &mut Vec<Term>) -> Result<bool, Memory>
+    ensures { IfOk result (λ fits. Gives (joined (stack_terms stack.old.items)) fits (stack_terms stack.new.items)) }
+{
+    let Some(first) = stack.pop() else {
+        return Ok(false);
+    };
+    let Some(rest) = stack.pop() else {
+        return Ok(false);
+    };
+    stack.push(Term::pair(alloc, first, rest)?)?;
+    Ok(true)
+}
+
+// Puts the term of a letter on the stack, where a pair takes the two on top.
+fn put_on_stack(alloc: Global, letter: Letter, stack: &mut Vec<Term>) -> Result<bool, Memory>
+    ensures { IfOk result (λ fits. Gives (put_letter letter (stack_terms stack.old.items)) fits (stack_terms stack.new.items)) }
+{
+    match atom(letter) {
+        None => join_top(alloc, stack),
+        Some(term) => {
+            stack.push(term)?;
+            Ok(true)
+        }
+    }
+}
+
+// The one term of a stack.
+fn only(mut stack: Vec<Term>) -> Option<Term>
+    ensures { option_map tree result ≡ only_one (Some (stack_terms stack.items)) }
+{
+    let last = stack.pop()?;
+    if stack.is_empty() { Some(last) } else { None }
+}
+
+/// The term that letters spell, where they spell one and nothing after it.
+pub fn build(alloc: Global, mut letters: Vec<Letter>) -> Result<Option<Term>, Memory>
+    ensures { IfOk result (λ made. option_map tree made ≡ only_one (built_from letters.items [])) }
+{
+    let mut stack = Vec::new(alloc);
+    while let Some(letter) = letters.pop() {
+        let fits = put_on_stack(alloc, letter, &mut stack)?;
+        if !fits {
+            return Ok(None);
+        }
+    }
+    Ok(only(stack))
+}
+
+// Whether two letters are the same.
+fn same_letter(left: Letter, right: Letter) -> bool
+    ensures { result ≡ letter_eq left right }
+{
+    match left {
+        Letter::Pair => matches!(right, Letter::Pair),
+        Letter::Var(var) => is_variable(right, var),
+        Letter::Sym(name) => matches!(right, Letter::Sym(other) if other == name),
+        Letter::Num(number) => matches!(right, Letter::Num(other) if other == number),
+        Letter::Truth(truth) => matches!(right, Letter::Truth(other) if other == truth),
+        Letter::Nil => matches!(right, Letter::Nil),
+    }
+}
+
+// Whether two lists of letters are the same.
+fn same_letters(mut left: Vec<Letter>, mut right: Vec<Letter>) -> bool
+    ensures { IsTrue result ↔ (left.items ≡ right.items) }
+{
+    while let Some(letter) = left.pop() {
+        let Some(other) = right.pop() else {
+            return false;
+        };
+        if !same_letter(letter, other) {
+            return false;
+        }
+    }
+    right.is_empty()
+}
+
+// Whether a letter is the variable.
+fn is_variable(letter: Letter, var: u64) -> bool
+    ensures { result ≡ is_letter_of var letter }
+{
+    match letter {
+        Letter::Var(found) => var == found,
+        _ => false,
+    }
+}
+
+/// Whether two terms are the same.
+pub fn same_terms(alloc: Global, left: &Term, right: &Term) -> Result<bool, Memory>
+    ensures { IfOk result (λ same. same ≡ term_eq (tree left.now) (tree right.now)) }
+{
+    let left = spell(alloc, left)?;
+    let right = spell(alloc, right)?;
+    Ok(same_letters(left, right))
+}
+
+// Whether a variable is among letters.
+fn has_variable(letters: &[Letter], var: u64) -> bool
+    ensures { result ≡ list_any (is_letter_of var) letters.now }
+{
+    letters.iter().any(|letter| is_variable(*letter, var))
+}
+
+/// Whether a variable stands in a term.
+pub fn occurs_in(alloc: Global, var: u64, term: &Term) -> Result<bool, Memory>
+    ensures { IfOk result (λ found. found ≡ occurs var (tree term.now)) }
+{
+    let letters = spell(alloc, term)?;
+    Ok(has_variable(&letters, var))
+}
