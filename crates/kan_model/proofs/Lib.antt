@@ -19,3 +19,4 @@ pub mod SolvedForms
 pub mod FormLaws
 pub mod ByteOrder
 pub mod AnswerLaws
+pub mod OwnForm

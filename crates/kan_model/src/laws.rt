@@ -1,7 +1,7 @@
 //! Laws of the definitions. Each function has its law for its contract, and does nothing.
 
 ghost use Rattle.kan_model.specs.Derivations.{SpelledOnce, TestIsFamily};
-ghost use Rattle.kan_model.specs.InForm.{AnswerInForm};
+ghost use Rattle.kan_model.specs.InForm.{AnswerInForm, FormIsSolved};
 ghost use Rattle.kan_model.specs.Streams.{AppendEmpty};
 ghost use Rattle.kan_model.specs.Unifiers.{AnswerMostGeneral, AnswerUnifies, AppliedTwice, FactorsUnify, ReplacedIsGone};
 
@@ -57,4 +57,10 @@ pub fn steps_spell_one_derivation()
 #[tactic(auto, using(crate::proofs::AnswerLaws::answer_in_form))]
 pub fn answers_are_in_form()
     ensures { AnswerInForm }
+{}
+
+/// A disequality in form is what its own pairs solve to.
+#[tactic(auto, using(crate::proofs::OwnForm::form_is_solved))]
+pub fn forms_are_solved()
+    ensures { FormIsSolved }
 {}
