@@ -20,3 +20,18 @@ pub mod FormLaws
 pub mod ByteOrder
 pub mod AnswerLaws
 pub mod OwnForm
+pub mod Carried
+mod Complete
+mod CutExamples
+pub mod Cutting
+mod DeepExamples
+mod Exactly
+mod Examples
+mod First
+mod LongExamples
+mod OrderExamples
+mod PrintExamples
+mod RefusalExamples
+mod Sound
+mod TokenExamples
+mod WordExamples

@@ -12,6 +12,7 @@ pub mod Answers
 pub mod Order
 pub mod Text
 pub mod AnswerText
+pub mod StoreCalls
 pub mod Output
 pub mod Holds
 pub mod Scope
@@ -22,3 +23,11 @@ pub mod InForm
 pub mod Covers
 pub mod Tables
 pub mod Unifiers
+pub mod Words
+pub mod Tokens
+pub mod Written
+pub mod Open
+pub mod Faults
+pub mod Printed
+pub mod Made
+pub mod Laws

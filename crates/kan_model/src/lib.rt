@@ -4,8 +4,11 @@
 pub mod laws;
 mod letters;
 mod prims;
+pub mod reading_laws;
 mod solving;
+mod stores;
 
 pub use letters::{Letter, build, occurs_in, same_terms, spell};
 pub use prims::{Kind, Prim};
 pub use solving::{Replaced, apply, solve};
+pub use stores::Store;

@@ -1,0 +1,73 @@
+//! The trait of stores.
+
+ghost use Rattle.std.specs.Prelude.{◌≡◌, ◌+◌, ◌^◌, ◌≤◌, true, map, IfOk, option_map};
+ghost use Rattle.kan_terms.specs.Terms.{tree};
+ghost use Rattle.kan_model.specs.Stores as facts;
+ghost use Rattle.kan_model.specs.Kept.{is_kept};
+ghost use Rattle.kan_model.specs.Scope.{is_counted, sides_below};
+ghost use Rattle.kan_model.specs.Prims.{prim as primitive};
+ghost use Rattle.kan_model.specs.Solving.{equation};
+ghost use Rattle.kan_model.specs.StoreCalls.{Asserts, WalksTo, IsFree, kind_at, AreTags, AreDifferences, answer, is_equation};
+
+use crate::prims::{Kind, Prim};
+use kan_terms::{Memory, PairLists, Tags, Term};
+use std::alloc::Global;
+
+/// Constraints that were asserted one after the other, with a counter above all variables.
+///
+/// A store never changes: each call gives a new one. Every store is kept, so its constraints have a solution.
+pub trait Store: Sized + Drop {
+    // The primitives that were asserted, in their order, and the counter.
+    ghost meaning: { Self → facts.Store };
+
+    /// The store without primitives and variables.
+    fn empty(alloc: Global) -> Result<Self, Memory>
+        ensures { IfOk result (λ made. meaning made ≡ facts.bare 0) };
+
+    /// The number above all variables.
+    fn counter(&self) -> u64
+        ensures { result ≡ (meaning self.now).counter };
+
+    /// The store with more variables, those from its counter on.
+    fn fresh(&self, alloc: Global, count: u32) -> Result<Self, Memory>
+        requires { (meaning self.now).counter + count ≤ 2 ^ 63 }
+        ensures { IfOk result (λ made. meaning made ≡ facts.with_fresh (meaning self.now) count) };
+
+    /// The store with one more primitive, and None exactly where that isn't kept.
+    fn assert(&self, alloc: Global, prim: &Prim) -> Result<Option<Self>, Memory>
+        requires below { sides_below (meaning self.now).counter (primitive prim.now) ≡ true }
+        // Until the other primitives are built.
+        requires equation { is_equation (primitive prim.now) ≡ true }
+        ensures { IfOk result (λ made. Asserts (meaning self.now) (primitive prim.now) (option_map meaning made)) };
+
+    /// An equal store.
+    fn again(&self, alloc: Global) -> Result<Self, Memory>
+        ensures { IfOk result (λ made. meaning made ≡ meaning self.now) };
+
+    /// What a variable stands for, as far as its first pair; all else is given back. It takes no memory.
+    fn walk<'a>(&'a self, term: &'a Term) -> &'a Term
+        ensures { WalksTo (answer (meaning self.now)) (tree term.now) (tree result.now) };
+
+    /// The type of a variable that stands for itself. It takes no memory.
+    fn kind(&self, var: u64) -> Option<Kind>
+        requires { IsFree (meaning self.now) var }
+        ensures { result ≡ kind_at (meaning self.now) var };
+
+    /// The tags that must not stand in a variable that stands for itself.
+    fn tags(&self, alloc: Global, var: u64) -> Result<Tags, Memory>
+        requires { IsFree (meaning self.now) var }
+        ensures { IfOk result (AreTags (meaning self.now) var) };
+
+    /// For each disequality whose sides may still become equal, pairs that are all equal exactly where its sides are.
+    fn differences(&self, alloc: Global) -> Result<PairLists, Memory>
+        ensures { IfOk result (λ lists. AreDifferences (meaning self.now) (map (map equation) lists)) };
+
+    // Every store is kept.
+    ghost kept: { (store : Self) → is_kept (meaning store) ≡ true };
+
+    // The counter lies above all variables of the primitives.
+    ghost counted: { (store : Self) → is_counted (meaning store) ≡ true };
+
+    // The counter is at most 2^63.
+    ghost bounded: { (store : Self) → (meaning store).counter ≤ 2 ^ 63 };
+}
