@@ -16,6 +16,11 @@ pub mod UnifierLaws
 pub mod ReplacedLaws
 pub mod ListLaws
 pub mod NameLaws
+pub mod SolvedForms
+pub mod FormLaws
+pub mod ByteOrder
+pub mod AnswerLaws
+pub mod OwnForm
 pub mod Carried
 mod Complete
 mod CutExamples

@@ -1,12 +1,15 @@
 -- Answers in form: those that are written in just one way.
-use Rattle.std.specs.Prelude.{ℕ, suc, Bool, true, false, ◌&&◌, not, eqb, nat_lt, List, [], ◌∷◌, length}
+use Rattle.std.specs.Prelude.{◌≡◌, ℕ, suc, ◌<◌, Bool, true, false, ◌&&◌, not, eqb, nat_lt, List, [], ◌∷◌, length, map, Some}
 use Rattle.std.specs.List.{list_all, list_any}
 use Rattle.kan_terms.specs.Tree.{Tree, Tm, occurs, term_eq}
+use Rattle.kan_model.specs.Stores.{Store, Equation}
+use Rattle.kan_model.specs.Solve.{Replacement, solve_by}
+use Rattle.kan_model.specs.Kept.{is_kept}
 use Rattle.kan_model.specs.Order.{stands_in}
 use Rattle.kan_model.specs.Scope.{all_below}
-use Rattle.kan_model.specs.Text.{Table}
-use Rattle.kan_model.specs.Answers.{NamedPair, Absence, Answer, named_variables, tag_le}
-use Rattle.kan_model.specs.AnswerText.{difference_le}
+use Rattle.kan_model.specs.Text.{Table, symbol_text}
+use Rattle.kan_model.specs.Answers.{NamedPair, Absence, Answer, named_variables, tag_le, tags_of}
+use Rattle.kan_model.specs.AnswerText.{difference_le, answer_of}
 
 -- numbers that count up from n
 abbrev pub counts_up : ℕ → List ℕ → Bool
@@ -80,3 +83,23 @@ in_form table a =
     && list_all (difference_in_form (name_count a)) a.disequalities && all_different a.disequalities && ascends (difference_le table) a.disequalities
     && names_in_form (name_count a) a.numbers && names_in_form (name_count a) a.symbols && apart a.numbers a.symbols
     && list_all (absence_in_form (name_count a) a.numbers) a.absences && ascends (tag_before table) a.absences
+
+-- the pairs of a disequality as equations, and as a replacement
+abbrev pub pair_equations : List NamedPair → List Equation
+pair_equations = map (λ p. record { left = Tree.leaf p.name; right = p.by })
+
+abbrev pub pair_replacement : List NamedPair → Replacement
+pair_replacement = map (λ p. record { var = p.name; by = p.by })
+
+-- a disequality in form is its own solved form
+abbrev pub FormIsSolved : Type 0
+FormIsSolved = (n : ℕ) (ps : List NamedPair) → difference_in_form n ps ≡ true → solve_by nat_lt (pair_equations ps) ≡ Some (pair_replacement ps)
+
+-- no two symbols of a table have one text
+abbrev pub TextsDiffer : Table → Type 0
+TextsDiffer table = (r s : ℕ) → r < length table → s < length table → symbol_text table r ≡ symbol_text table s → r ≡ s
+
+-- the answer of a kept store whose tags have texts in the table is in form
+abbrev pub AnswerInForm : Type 0
+AnswerInForm = (table : Table) (st : Store) → TextsDiffer table → list_all (λ tag. nat_lt tag (length table)) (tags_of st.prims) ≡ true →
+    is_kept st ≡ true → in_form table (answer_of table st) ≡ true

@@ -1,6 +1,7 @@
 //! Laws of the definitions. Each function has its law for its contract, and does nothing.
 
 ghost use Rattle.kan_model.specs.Derivations.{SpelledOnce, TestIsFamily};
+ghost use Rattle.kan_model.specs.InForm.{AnswerInForm, FormIsSolved};
 ghost use Rattle.kan_model.specs.Streams.{AppendEmpty};
 ghost use Rattle.kan_model.specs.Unifiers.{AnswerMostGeneral, AnswerUnifies, AppliedTwice, FactorsUnify, ReplacedIsGone};
 
@@ -50,4 +51,16 @@ pub fn derivations_are_tested()
 #[tactic(auto, using(crate::proofs::DerivationLaws::spelled_one))]
 pub fn steps_spell_one_derivation()
     ensures { SpelledOnce }
+{}
+
+/// The answer of a kept store whose tags have texts in the table is in form.
+#[tactic(auto, using(crate::proofs::AnswerLaws::answer_in_form))]
+pub fn answers_are_in_form()
+    ensures { AnswerInForm }
+{}
+
+/// A disequality in form is what its own pairs solve to.
+#[tactic(auto, using(crate::proofs::OwnForm::form_is_solved))]
+pub fn forms_are_solved()
+    ensures { FormIsSolved }
 {}
