@@ -9,7 +9,7 @@ pub mod reading_laws;
 mod solving;
 mod stores;
 
-pub use letters::{Letter, build, occurs_in, same_terms, spell};
+pub use letters::{Letter, build, first_letter, occurs_in, same_terms, spell};
 pub use plain::PlainStore;
 pub use prims::{Kind, Prim};
 pub use solving::{Replaced, apply, solve};

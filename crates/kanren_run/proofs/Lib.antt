@@ -1,0 +1,4 @@
+pub mod WalkingLaws
+pub mod NamingLaws
+pub mod PrintingLaws
+pub mod AnswerLaws

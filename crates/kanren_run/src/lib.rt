@@ -1,0 +1,7 @@
+//! The program as a call: from the words and bytes that it is given to the bytes that it writes.
+#![tactic(auto)]
+
+mod answer;
+mod naming;
+mod printing;
+mod walking;
