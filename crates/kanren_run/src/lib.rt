@@ -2,6 +2,9 @@
 #![tactic(auto)]
 
 mod answer;
+mod engine;
+mod lexer;
 mod naming;
 mod printing;
+mod reader;
 mod walking;
