@@ -1,13 +1,13 @@
 -- What a run of one equation writes.
-use Rattle.std.proofs.Common.{◌≡◌, ℕ, Bool, true, false, List, [], ◌∷◌, ◌++◌, refl, sym, ◌∙◌, ap, ap₂, append_assoc, append-nil, Option, Some, None, subst, true≢false}
+use Rattle.std.proofs.Common.{◌≡◌, ℕ, Bool, true, false, List, [], ◌∷◌, ◌++◌, refl, sym, ◌∙◌, ap, append_assoc, append-nil, Option, Some, None, subst, true≢false}
 use Rattle.kan_terms.specs.Tree.{Tree, Tm}
-use Rattle.kan_model.specs.Goals.{Primitive, Goal, on_sides}
+use Rattle.kan_model.specs.Goals.{Primitive, on_sides}
 use Rattle.kan_model.specs.Stores.{Store, bare, with_prim}
 use Rattle.kan_model.specs.Kept.{is_kept}
 use Rattle.kan_model.specs.Scope.{all_below, sides_below}
-use Rattle.kan_model.specs.StoreCalls.{Gives, is_equation}
+use Rattle.kan_model.specs.StoreCalls.{Gives}
 use Rattle.kan_model.specs.Streams.{Stream, empty, one}
-use Rattle.kan_model.specs.Running.{instance, start, assert}
+use Rattle.kan_model.specs.Running.{instance, assert}
 use Rattle.kan_model.specs.Taking.{take, taken}
 use Rattle.kan_model.specs.Text.{Table}
 use Rattle.kan_model.specs.Output.{taken_text}
@@ -49,5 +49,5 @@ run_writes e p table made before after is_p is_table gives written =
     let given : Gives st made = subst (λ q. Gives (with_prim (bare 1) q) made) is_p gives in
     written ∙ ap (λ t. before ++ answers_text t made) is_table
     ∙ ap (λ w. before ++ w) (sym (taken_by (table_of e) st (is_kept st) made refl given)
-      ∙ sym (ap (λ q. taken_text (table_of e) (take no_relations default_fuel (assert (bare 1) q) None)) same)
-      ∙ sym (append-nil (taken_text (table_of e) (taken no_relations default_fuel (run_of e)))))
+    ∙ sym (ap (λ q. taken_text (table_of e) (take no_relations default_fuel (assert (bare 1) q) None)) same)
+    ∙ sym (append-nil (taken_text (table_of e) (taken no_relations default_fuel (run_of e)))))

@@ -1,8 +1,8 @@
 -- The texts that the program runs so far: no form at all, or one run of one equation between atoms.
-use Rattle.std.specs.Prelude.{ℕ, pos, Bool, true, false, ◌&&◌, ◌||◌, ◌++◌, not, if◌then◌else◌, nat_le, List, [], ◌∷◌, length, Option, Some, None, option_map, option_and_then, bytes_eq, codes}
+use Rattle.std.specs.Prelude.{ℕ, Bool, true, false, ◌&&◌, ◌||◌, ◌++◌, not, if◌then◌else◌, nat_le, List, [], ◌∷◌, length, Option, Some, None, option_map, option_and_then, bytes_eq, codes}
 use Rattle.std.specs.Str.Parse.{digits_value}
 use Rattle.kan_model.specs.Words.{all_digits, looks_like_number, is_reserved, is_dot}
-use Rattle.kanren_run.specs.Lexemes.{Lexeme, opening, closing, quote, word, other, lexemes}
+use Rattle.kanren_run.specs.Lexemes.{Lexeme, opening, closing, quote, word, lexemes}
 
 -- a number of 1 to 18 digits
 abbrev pub is_short_number : List ℕ → Bool

@@ -1,5 +1,5 @@
 -- The lexemes of the texts that the program reads so far: parentheses, quotes and words, by longest match.
-use Rattle.std.specs.Prelude.{ℕ, zero, suc, Bool, true, false, ◌&&◌, ◌||◌, if◌then◌else◌, ◌==◌, nat_lt, List, [], ◌∷◌, take_while}
+use Rattle.std.specs.Prelude.{ℕ, zero, suc, Bool, ◌&&◌, ◌||◌, if◌then◌else◌, ◌==◌, nat_lt, List, [], ◌∷◌, take_while}
 use Rattle.std.specs.List.{prefix_len}
 use Rattle.kan_model.specs.Words.{is_word_byte}
 

@@ -1,5 +1,5 @@
 -- What the top call did, by its status.
-use Rattle.std.specs.Prelude.{◌≡◌, ℕ, ◌+◌, ◌≤◌, List, [], ◌++◌, length, Option, Some, None, is_some, true, false, ⊤, ◌⊎◌}
+use Rattle.std.specs.Prelude.{◌≡◌, ℕ, ◌+◌, ◌≤◌, List, length, Option, Some, None, is_some, true, false, ⊤}
 use Rattle.std.specs.Io.KnownBytes.{Appends}
 use Rattle.kan_base.specs.Faults.{Rose}
 use Rattle.kan_base.specs.Writes.{PutsFront}
@@ -82,3 +82,11 @@ abbrev pub IsComplete : Ends → Status → Type 0
 IsComplete e s =
     (text : List ℕ) → e.held ≡ Some text → length text ≤ greatest_text → (Rose e.read_faults e.read_faults_after → ⊥) → (Rose e.write_faults e.write_faults_after → ⊥) →
     AnswersText text s
+
+-- what a status says of the writing of a text that was read whole: what was put before and after, and the counts of faults
+abbrev pub Answers : List ℕ → Option (List ℕ) → Option (List ℕ) → ℕ → ℕ → Status → Type 0
+Answers text put after faults more Done = (out : List ℕ) × (text_output text ≡ Some out) × Appends put after out × (more ≡ faults)
+Answers text put after faults more (Text at number) = (at ≡ 0) × (number ≡ 0) × (text_output text ≡ None) × Appends put after refusal_line × (more ≡ faults)
+Answers text put after faults more WriteFault = Rose faults more × PutsFront put after (all_output text) × (faults ≤ more)
+Answers text put after faults more Memory = (after ≡ put) × (more ≡ faults)
+Answers text put after faults more _ = ⊥

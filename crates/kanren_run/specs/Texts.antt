@@ -1,5 +1,5 @@
 -- What a text gives: the output of its runs, or the line that it isn't run yet.
-use Rattle.std.specs.Prelude.{◌≡◌, ℕ, pos, List, [], ◌∷◌, ◌++◌, map, Option, Some, None, option_map, unwrap_or, codes, refl}
+use Rattle.std.specs.Prelude.{◌≡◌, ℕ, pos, List, [], ◌∷◌, ◌++◌, Option, Some, None, option_map, unwrap_or, codes, refl}
 use Rattle.std.specs.Fmt.{digits}
 use Rattle.kan_terms.specs.Tree.{Tree}
 use Rattle.kan_terms.specs.Table.{number_of, interned}

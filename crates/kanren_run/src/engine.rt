@@ -69,7 +69,12 @@ fn solve_equation(alloc: Global, prim: &Prim) -> Result<Option<PlainStore>, Memo
 }
 
 // The line of a store's answer, where there is a store, and the summary line.
-fn write_answers<St: Store>(alloc: Global, store: &Option<St>, names: &Names, text: &mut String) -> Result<(), Memory>
+fn write_answers<St: Store>(
+    alloc: Global,
+    store: &Option<St>,
+    names: &Names,
+    text: &mut String,
+) -> Result<(), Memory>
     requires { ForSome store.now (λ st. list_all is_equation (St.meaning st).prims ≡ true) }
     ensures { OnOk result (string_bytes text.new ≡ string_bytes text.old ++ answers_text names.now (option_map St.meaning store.now)) }
 {

@@ -32,7 +32,23 @@ fn is_word_byte(byte: u8) -> bool
         || byte > 127
         || matches!(
             byte,
-            b'!' | b'$' | b'%' | b'&' | b'*' | b'/' | b':' | b'<' | b'=' | b'>' | b'?' | b'^' | b'_' | b'~' | b'+' | b'-' | b'.' | b'@'
+            b'!' | b'$'
+                | b'%'
+                | b'&'
+                | b'*'
+                | b'/'
+                | b':'
+                | b'<'
+                | b'='
+                | b'>'
+                | b'?'
+                | b'^'
+                | b'_'
+                | b'~'
+                | b'+'
+                | b'-'
+                | b'.'
+                | b'@'
         )
 }
 
@@ -49,7 +65,10 @@ fn word_length(bytes: &[u8]) -> usize
     ensures count { result ≡ prefix_len is_plain_byte bytes.now }
     ensures within { result ≤ length bytes.now }
 {
-    bytes.iter().take_while(|byte| is_plain_byte(**byte)).count()
+    bytes
+        .iter()
+        .take_while(|byte| is_plain_byte(**byte))
+        .count()
 }
 
 // The lexeme of a byte that is no part of a word.

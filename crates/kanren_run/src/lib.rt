@@ -7,4 +7,7 @@ mod lexer;
 mod naming;
 mod printing;
 mod reader;
+mod top;
 mod walking;
+
+pub use top::kanren_alone;

@@ -244,7 +244,14 @@ fn one_run<'a>(lexemes: &[Lexeme<'a>]) -> Option<Equated<'a>>
     ensures { option_map equated_seen result ≡ texts.one_run (map lexeme_of lexemes.now) }
 {
     match lexemes {
-        [Lexeme::Open, Lexeme::Word(run), Lexeme::Word(query), Lexeme::Open, Lexeme::Word(same), rest @ ..] => run_of(run, query, same, rest),
+        [
+            Lexeme::Open,
+            Lexeme::Word(run),
+            Lexeme::Word(query),
+            Lexeme::Open,
+            Lexeme::Word(same),
+            rest @ ..,
+        ] => run_of(run, query, same, rest),
         _ => None,
     }
 }

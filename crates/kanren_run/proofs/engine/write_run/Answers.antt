@@ -1,8 +1,7 @@
-use Rattle.std.proofs.Common.{string_bytes, ◌∙◌, sym, subst, ◌≡◌, true, rules}
-use Rattle.kan_model.specs.Scope.{sides_below}
+use Rattle.std.proofs.Common.{string_bytes}
 use Rattle.kan_model.specs.Prims.{prim as primitive}
 use Rattle.kanren_run.specs.Sides.{equated_seen}
-use Rattle.kanren_run.proofs.EngineLaws.{run_writes, equation_below}
+use Rattle.kanren_run.proofs.EngineLaws.{run_writes}
 use Rattle.kanren_run.proofs.engine.write_run.Goals as goal
 
 pub returns : goal.returns

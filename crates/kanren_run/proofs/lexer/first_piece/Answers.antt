@@ -1,4 +1,4 @@
-use Rattle.std.proofs.Common.{rules, refl, ◌∙◌, sym}
+use Rattle.std.proofs.Common.{rules, refl, ◌∙◌}
 use Rattle.kanren_run.proofs.ReadLaws.{word_piece, mark_piece, marked_is}
 use Rattle.kanren_run.proofs.lexer.first_piece.Goals as goal
 

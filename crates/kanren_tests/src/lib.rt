@@ -1,0 +1,7 @@
+//! Tests of what no clause says: that the calls answer, on worked texts and on each kind of source and sink.
+#![tactic(auto)]
+
+#[cfg(test)]
+mod outside;
+#[cfg(test)]
+mod top;
