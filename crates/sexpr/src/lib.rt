@@ -1,0 +1,10 @@
+//! The reader of data and their printing.
+#![tactic(auto)]
+
+mod bytes;
+mod data;
+mod lexer;
+mod token;
+mod word;
+
+pub use data::{Data, Datum, DatumKind, Prefix, ReadError};
