@@ -1,1 +1,3 @@
 pub mod PieceLaws
+pub mod SeenLaws
+pub mod FrameLaws

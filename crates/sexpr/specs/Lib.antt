@@ -1,2 +1,5 @@
 pub mod Meaning
 pub mod Pieces
+pub mod Seen
+pub mod Reads
+pub mod Frames

@@ -1,6 +1,11 @@
 //! Data as they are read.
 
+ghost use Rattle.std.specs.Prelude.{◌≡◌};
+ghost use Rattle.sexpr.specs.Reads.{memory_wanted};
+
+use kan_terms::Memory;
 use sqlite_items::{Boxed, Items};
+use std::alloc::{AllocError, AllocFailed};
 
 /// Data in a row.
 pub type Data = Items<Datum>;
@@ -49,4 +54,28 @@ pub enum ReadError {
     Fault(u32, u8),
     /// Want of memory.
     Memory,
+}
+
+impl From<AllocError> for ReadError {
+    ghost from_gives = { λ _ e. e ≡ memory_wanted };
+
+    fn from(_refused: AllocError) -> ReadError {
+        ReadError::Memory
+    }
+}
+
+impl<T: Drop> From<AllocFailed<T>> for ReadError {
+    ghost from_gives = { λ _ e. e ≡ memory_wanted };
+
+    fn from(_refused: AllocFailed<T>) -> ReadError {
+        ReadError::Memory
+    }
+}
+
+impl From<Memory> for ReadError {
+    ghost from_gives = { λ _ e. e ≡ memory_wanted };
+
+    fn from(_refused: Memory) -> ReadError {
+        ReadError::Memory
+    }
 }

@@ -3,7 +3,9 @@
 
 mod bytes;
 mod data;
+mod frame;
 mod lexer;
+mod open;
 mod token;
 mod word;
 

@@ -1,0 +1,26 @@
+-- What a reading of a text answers.
+use Rattle.std.specs.Prelude.{◌≡◌, ℕ, List, ◌++◌, length, ◌+◌, ◌≤◌, map, Option, Some, Result, Ok, Err}
+use Rattle.kan_model.specs.Faults.{Fault as Refusal, fault, read_text, data_are, refused}
+use Rattle.sexpr.specs.Seen.{Table, written, as_kept}
+use Rattle.sexpr.specs.declared.data.Datum.{Datum}
+use Rattle.sexpr.specs.declared.data.ReadError.{ReadError}
+use Rattle.sexpr.specs.declared.data.ReadError.TheVariants.{Fault, Memory}
+
+-- want of memory
+abbrev pub memory_wanted : ReadError
+memory_wanted = Memory
+
+-- the bytes are read as these data, under names; or they have this first fault; want of memory says nothing
+abbrev pub Reads : List ℕ → Table → Result (List Datum) ReadError → Type 0
+Reads bytes names (Ok ds) = read_text as_kept bytes ≡ data_are (map (written names) ds)
+Reads bytes names (Err (Fault at number)) = read_text as_kept bytes ≡ refused (fault at number)
+Reads bytes names (Err Memory) = Unit {0}
+
+-- a table goes on where another ends, by so many names at most
+abbrev pub Extends : ℕ → Table → Table → Type 0
+Extends most old new = (more : Table) × (new ≡ old ++ more) × (length more ≤ most)
+
+-- an error is the refusal that the questions give, or want of memory
+abbrev pub Refuses : ReadError → Option Refusal → Type 0
+Refuses (Fault at number) asked = asked ≡ Some (fault at number)
+Refuses Memory asked = Unit {0}
