@@ -1,10 +1,10 @@
 -- How stacks of frames grow and shrink, and which questions they answer.
 use Rattle.std.proofs.Common.{◌≡◌, ℕ, zero, suc, ◌+◌, ◌<◌, ◌≤◌, Bool, true, false, List, [], ◌∷◌, ◌++◌, length, map, refl, sym, ap, ◌∙◌, arith}
-use Rattle.std.specs.Prelude.{Option, None, Some, nat_le}
+use Rattle.std.specs.Prelude.{Option, None, Some, Result, Ok, Err, OnOk, nat_le}
 use Rattle.std.specs.List.{fold}
 use Rattle.std.proofs.lemmas.Bool.Decides.{nat_tests}
 use Rattle.kan_model.specs.Words.{Atom, Shape, Token, opening, closing, prefix, dot, atom, bad, symbol, number, truth, out_of_range, reserved}
-use Rattle.kan_model.specs.Written.{Written, deepest}
+use Rattle.kan_model.specs.Written.{Written, single, deepest, is_allowed_atom}
 use Rattle.kan_model.specs.Open.{Place, top, in_list, after_dot, after_prefix, Open, awaiting, ended, depth, put}
 use Rattle.kan_model.specs.Faults.{Fault, fault, refusal, after, begins, first_fault, is_out_of_range, is_reserved_name}
 use Rattle.sexpr.specs.Meaning.{prefix_of, shape_of}
@@ -80,6 +80,14 @@ refused_last names o at d e h t b =
     let k : depth (place names o) ≡ o.depth = depth_is names o d.inside_all in
     ap (λ x. refusal x at t) (open_awaits names o e) ∙ asked_last (place names o) at t b (rw k (grind (arith, nat_tests)))
 
+-- an atom that a datum may be
+allowed_last : (at : ℕ) (a : Atom) → is_allowed_atom a ≡ true → first_fault (is_out_of_range at (atom a) ∷ is_reserved_name at (atom a) ∷ []) ≡ None
+allowed_last at (symbol s) h = refl
+allowed_last at (number n) h = refl
+allowed_last at (truth b) h = refl
+allowed_last at out_of_range h = absurd cc
+allowed_last at reserved h = absurd cc
+
 -- a token that opens a frame is taken
 takes_frame : (names : Table) (o n : stacks.Open) (f : Frame) (at : ℕ) (t : Token) → o.ended ≡ None → refusal (open_of names o) at t ≡ None → after as_kept (awaiting (place names o)) at t ≡ awaiting (inside names (place names o) f) → n.top ≡ o.top → n.frames.items ≡ o.frames.items ++ f ∷ [] → n.ended ≡ None → Takes names o n at t
 takes_frame names o n f at t e r a s g m = (r, open_awaits names n m ∙ ap awaiting (grown_place names o n f s g) ∙ sym a ∙ ap (λ x. after as_kept x at t) (sym (open_awaits names o e)))
@@ -96,3 +104,13 @@ pub put_prefixed : (names : Table) (o n : stacks.Open) (at : ℕ) (q : Prefix) (
 put_prefixed names o n at q d t e =
     ap (λ p. put as_kept p (written names d)) (grown_place names n o (frames.Prefix at q) (sym t) e)
     ∙ ap (put as_kept (place names n)) (sym (written_prefixed names at q d))
+
+-- what follows where a call succeeds
+pub on_ok : {T E : Type 0} {P Q : Type 0} (r : Result T E) → (P → Q) → OnOk r P → OnOk r Q
+on_ok (Ok x) f p = f p
+on_ok (Err e) f p = p
+
+-- a datum of one token is taken
+pub takes_single : (names : Table) (o n : stacks.Open) (at : ℕ) (a : Atom) (d : Datum) → HasDepth o → o.ended ≡ None → o.depth ≤ 2048 → is_allowed_atom a ≡ true → written names d ≡ single at a → open_of names n ≡ put as_kept (place names o) (written names d) → Takes names o n at (atom a)
+takes_single names o n at a d k e h allowed w p =
+    (refused_last names o at k e h (atom a) refl ∙ allowed_last at a allowed, p ∙ ap (put as_kept (place names o)) w ∙ ap (λ x. after as_kept x at (atom a)) (sym (open_awaits names o e)))

@@ -1,5 +1,5 @@
 -- What is open, kept as stacks.
-use Rattle.std.specs.Prelude.{◌≡◌, ℕ, suc, ◌+◌, ◌≤◌, List, [], ◌∷◌, length, map, Option, None, Some}
+use Rattle.std.specs.Prelude.{◌≡◌, ℕ, suc, ◌+◌, ◌<◌, ◌≤◌, List, [], ◌∷◌, length, map, Option, None, Some}
 use Rattle.std.specs.List.{fold}
 use Rattle.kan_model.specs.Words.{Shape, Token}
 use Rattle.kan_model.specs.Written.{Written}
@@ -47,10 +47,16 @@ deepened n (frames.List l) = n + suc (length l.items)
 deepened n (frames.Dotted l) = n + length l.items
 deepened n (frames.Prefix at q) = n + 2
 
+-- a list whose last datum is there is still to be put at its place
+abbrev pub HasRoom : Option Ended → ℕ → Type 0
+HasRoom None n = Unit {0}
+HasRoom (Some e) n = n < 2050
+
 -- the depth that is kept is that inside all frames
 pub record HasDepth (o : stacks.Open) : Type 0 where
   pub inside_all : o.depth ≡ fold deepened 0 o.frames.items
   pub bounded : o.depth ≤ 2050
+  pub room : HasRoom o.ended o.depth
 
 -- a token is taken: no question refuses it, and what is open is what comes after it
 abbrev pub Takes : Table → stacks.Open → stacks.Open → ℕ → Token → Type 0

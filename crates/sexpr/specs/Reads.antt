@@ -1,6 +1,7 @@
 -- What a reading of a text answers.
 use Rattle.std.specs.Prelude.{◌≡◌, ℕ, List, ◌++◌, length, ◌+◌, ◌≤◌, map, Option, Some, Result, Ok, Err}
-use Rattle.kan_model.specs.Faults.{Fault as Refusal, fault, read_text, data_are, refused}
+use Rattle.kan_model.specs.Faults.{Fault as Refusal, fault, Reading, read_text, data_are, refused}
+use Rattle.kan_model.specs.Written.{Written}
 use Rattle.sexpr.specs.Seen.{Table, written, as_kept}
 use Rattle.sexpr.specs.declared.data.Datum.{Datum}
 use Rattle.sexpr.specs.declared.data.ReadError.{ReadError}
@@ -10,11 +11,15 @@ use Rattle.sexpr.specs.declared.data.ReadError.TheVariants.{Fault, Memory}
 abbrev pub memory_wanted : ReadError
 memory_wanted = Memory
 
--- the bytes are read as these data, under names; or they have this first fault; want of memory says nothing
+-- a reading comes to these data, under names, or to this first fault; want of memory says nothing of it
+abbrev pub Answers : Table → Reading Written → Result (List Datum) ReadError → Type 0
+Answers names reading (Ok ds) = reading ≡ data_are (map (written names) ds)
+Answers names reading (Err (Fault at number)) = reading ≡ refused (fault at number)
+Answers names reading (Err Memory) = Unit {0}
+
+-- the bytes of a text are read so
 abbrev pub Reads : List ℕ → Table → Result (List Datum) ReadError → Type 0
-Reads bytes names (Ok ds) = read_text as_kept bytes ≡ data_are (map (written names) ds)
-Reads bytes names (Err (Fault at number)) = read_text as_kept bytes ≡ refused (fault at number)
-Reads bytes names (Err Memory) = Unit {0}
+Reads bytes names answer = Answers names (read_text as_kept bytes) answer
 
 -- a table goes on where another ends, by so many names at most
 abbrev pub Extends : ℕ → Table → Table → Type 0

@@ -6,7 +6,9 @@ mod data;
 mod frame;
 mod lexer;
 mod open;
+mod reader;
 mod token;
 mod word;
 
 pub use data::{Data, Datum, DatumKind, Prefix, ReadError};
+pub use reader::read;

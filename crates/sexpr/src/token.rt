@@ -1,5 +1,9 @@
 //! The tokens of a text.
 
+ghost use Rattle.std.specs.Prelude.{◌≡◌, Some};
+ghost use Rattle.kan_model.specs.Faults.{is_shape};
+ghost use Rattle.sexpr.specs.Meaning.{shape_of};
+
 use crate::data::Prefix;
 
 /// The two shapes of parentheses.
@@ -7,6 +11,15 @@ use crate::data::Prefix;
 pub(crate) enum Shape {
     Round,
     Square,
+}
+
+impl Shape {
+    /// Whether a close of a shape closes what was opened with this one.
+    pub(crate) fn is_closed_by(self, close: Shape) -> bool
+        ensures { result ≡ is_shape (Some (shape_of self)) (shape_of close) }
+    {
+        matches!((self, close), (Shape::Round, Shape::Round) | (Shape::Square, Shape::Square))
+    }
 }
 
 /// What one word says by itself.

@@ -1,0 +1,82 @@
+//! Reading a text into its data.
+
+ghost use Rattle.std.specs.Prelude.{◌≡◌, ◌-◌, ◌^◌, ◌<◌, ◌≤◌, ◌++◌, length, true, Some, IfOk, IfErr, OnOk};
+ghost use Rattle.kan_model.specs.Faults.{refusal};
+ghost use Rattle.kan_model.specs.Words as words;
+ghost use Rattle.sexpr.specs.Meaning.{atom_of, token_of};
+ghost use Rattle.sexpr.specs.Seen.{Table};
+ghost use Rattle.sexpr.specs.Reads.{Extends, Reads, Refuses};
+ghost use Rattle.sexpr.specs.Frames.{HasDepth, Takes, open_of};
+
+use crate::data::{Data, DatumKind, ReadError};
+use crate::lexer::first_piece;
+use crate::open::Open;
+use crate::token::{Atom, Token};
+use kan_terms::Names;
+use std::alloc::Global;
+
+/// The data of a text, or its first fault: its offset and the number of its refusal. The names of symbols are added to the
+/// table, also where the text is refused; those that were there keep their numbers.
+pub fn read(alloc: Global, bytes: &[u8], names: &mut Names) -> Result<Data, ReadError>
+    requires size { length bytes.now ≤ 1048576 }
+    requires names { length names.old < 2 ^ 31 }
+    ensures reads { Reads bytes.now names.new result }
+    ensures names { Extends (length bytes.now) names.old names.new }
+{
+    let text = match std::str::from_utf8(bytes) {
+        Ok(text) => text,
+        Err(error) => return Err(ReadError::Fault(error.valid_up_to() as u32, 1)),
+    };
+    let mut open = Open::new(alloc);
+    let mut rest = text;
+    let mut at = 0;
+    while !rest.is_empty() {
+        let piece = first_piece(rest);
+        if let Some(token) = piece.token {
+            take(&mut open, at as u32, token, names)?;
+        }
+        at += piece.length;
+        rest = &rest[piece.length..];
+    }
+    open.finish()
+}
+
+/// Takes the next token, whose name is added to the table where it is a symbol.
+fn take(open: &mut Open, at: u32, token: Token<'_>, names: &mut Names) -> Result<(), ReadError>
+    requires depth { HasDepth open.old }
+    requires names { length names.old < 2 ^ 32 - 1 }
+    ensures taken { OnOk result ((more : Table) → Takes (names.new ++ more) open.old open.new at (token_of token.entry)) }
+    ensures refused { IfErr result (λ e. (names : Table) → Refuses e (refusal (open_of names open.old) at (token_of token.entry))) }
+    ensures depth { OnOk result (HasDepth open.new) }
+    ensures names { Extends 1 names.old names.new }
+{
+    match token {
+        Token::Open(shape) => open.begin_list(at, shape),
+        Token::Close(shape) => open.take_close(at, shape),
+        Token::Prefix(prefix) => open.begin_prefixed(at, prefix),
+        Token::Dot => open.take_dot(at),
+        Token::Atom(atom) => take_atom(open, at, atom, names),
+        Token::Bad => Err(ReadError::Fault(at, 4)),
+    }
+}
+
+/// Takes an atom.
+fn take_atom(open: &mut Open, at: u32, atom: Atom<'_>, names: &mut Names) -> Result<(), ReadError>
+    requires depth { HasDepth open.old }
+    requires names { length names.old < 2 ^ 32 - 1 }
+    ensures taken { OnOk result ((more : Table) → Takes (names.new ++ more) open.old open.new at (words.atom (atom_of atom.entry))) }
+    ensures refused { IfErr result (λ e. (names : Table) → Refuses e (refusal (open_of names open.old) at (words.atom (atom_of atom.entry)))) }
+    ensures depth { OnOk result (HasDepth open.new) }
+    ensures names { Extends 1 names.old names.new }
+{
+    match atom {
+        Atom::Symbol(text) => {
+            let number = names.intern(text)?;
+            open.take_single(at, DatumKind::Symbol(number))
+        }
+        Atom::Number(number) => open.take_single(at, DatumKind::Number(number)),
+        Atom::Truth(truth) => open.take_single(at, DatumKind::Truth(truth)),
+        Atom::OutOfRange => Err(open.out_of_range(at)),
+        Atom::Reserved => Err(open.reserved(at)),
+    }
+}
