@@ -1,3 +1,4 @@
 pub mod PieceLaws
 pub mod SeenLaws
 pub mod FrameLaws
+pub mod ReadLaws
