@@ -10,13 +10,13 @@ use lib.Chars.{codes}
 abbrev pub Named : Type 0
 Named = Tree (List ℕ)
 
--- an atom; those that no datum may be stand for nothing
+-- an atom; those that no datum may be have no name
 abbrev pub atom_tree : Atom → Named
 atom_tree (symbol s) = leaf s
 atom_tree (number n) = num n
 atom_tree (truth_value b) = truth b
-atom_tree out_of_range = nil
-atom_tree reserved = nil
+atom_tree out_of_range = leaf []
+atom_tree reserved = leaf []
 
 -- the symbol that a prefix stands for
 abbrev pub prefix_name : Prefix → List ℕ

@@ -2,3 +2,5 @@ pub mod PieceLaws
 pub mod SeenLaws
 pub mod FrameLaws
 pub mod ReadLaws
+pub mod PrintLaws
+pub mod KeptLaws

@@ -3,3 +3,5 @@ pub mod Pieces
 pub mod Seen
 pub mod Reads
 pub mod Frames
+pub mod Works
+pub mod Laws

@@ -2,7 +2,7 @@
 use Rattle.std.specs.Prelude.{ℕ, List, Option, None, Some}
 use Rattle.kan_terms.specs.Table.{name_of}
 use Rattle.kan_model.specs.Words.{Atom, symbol, number, truth, reserved, round}
-use Rattle.kan_model.specs.Written.{Written, single, list, prefixed, close, dotted}
+use Rattle.kan_model.specs.Written.{Written, Within, single, list, prefixed, close, dotted}
 use Rattle.kan_model.specs.Open.{Build, row}
 use Rattle.sexpr.specs.Meaning.{prefix_of}
 use Rattle.sexpr.specs.declared.data.Datum.{Datum, fold-Datum}
@@ -17,10 +17,14 @@ abbrev pub symbol_atom : Option (List ℕ) → Atom
 symbol_atom (Some text) = symbol text
 symbol_atom None = reserved
 
+-- elements up to the close, with a datum after a dot or without
+abbrev pub inner_of : List Written → Option Written → Within
+inner_of ds None = row ds (close 0)
+inner_of ds (Some d) = row ds (dotted 0 d 0)
+
 -- a list of elements, with a datum after its dot or without
 abbrev pub list_of : ℕ → List Written → Option Written → Written
-list_of at ds None = list at round (row ds (close 0))
-list_of at ds (Some d) = list at round (row ds (dotted 0 d 0))
+list_of at ds last = list at round (inner_of ds last)
 
 -- what a datum's kind stands for at an offset, from what the data in it stand for
 abbrev pub kind_of : Table → DatumKind-F (ℕ → Written) Written → ℕ → Written

@@ -6,9 +6,11 @@ mod data;
 mod frame;
 mod lexer;
 mod open;
+mod printer;
 mod reader;
 mod token;
 mod word;
 
 pub use data::{Data, Datum, DatumKind, Prefix, ReadError};
+pub use printer::print;
 pub use reader::read;
