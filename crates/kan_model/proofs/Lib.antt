@@ -20,7 +20,7 @@ mod Complete
 mod CutExamples
 pub mod Cutting
 mod DeepExamples
-mod Exactly
+pub mod Exactly
 mod Examples
 mod First
 mod LongExamples

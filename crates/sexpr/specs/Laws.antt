@@ -1,13 +1,13 @@
 -- What ties data as they are kept to data as they are written.
-use Rattle.std.specs.Prelude.{◌≡◌, ℕ, List, map, Bool, true, false, ◌&&◌, [], ◌∷◌, IsTrue, Result, Ok, Err}
+use Rattle.std.specs.Prelude.{◌≡◌, ℕ, List, map, Bool, true, false, ◌&&◌, [], ◌∷◌, IsTrue, Ok}
 use Rattle.kan_model.specs.Written.{Written, Within, single, list, prefixed, close, dotted, element, is_allowed_atom}
 use Rattle.kan_model.specs.Open.{as_written}
 use Rattle.kan_model.specs.Faults.{read_text}
 use Rattle.kan_model.specs.Printed.{pairs}
 use Rattle.kan_model.specs.Made.{made, map_reading}
 use Rattle.sexpr.specs.Seen.{Table, written, as_kept}
+use Rattle.sexpr.specs.Reads.{Reads}
 use Rattle.sexpr.specs.declared.data.Datum.{Datum}
-use Rattle.sexpr.specs.declared.data.ReadError.{ReadError}
 
 -- the data that are kept of a text are made of those that are written in it, and a fault is the same
 abbrev pub KeepsData : Type 0
@@ -35,6 +35,5 @@ are_named [] = true
 are_named (d ∷ ds) = is_named d && are_named ds
 
 -- each symbol in the data that are read has a name
-abbrev pub HasNames : Table → Result (List Datum) ReadError → Type 0
-HasNames names (Ok ds) = IsTrue (are_named (map (written names) ds))
-HasNames names (Err e) = Unit {0}
+abbrev pub ReadsNamed : Type 0
+ReadsNamed = (bytes : List ℕ) (names : Table) (ds : List Datum) → Reads bytes names (Ok ds) → IsTrue (are_named (map (written names) ds))

@@ -4,6 +4,7 @@
 mod bytes;
 mod data;
 mod frame;
+pub mod laws;
 mod lexer;
 mod open;
 mod printer;
