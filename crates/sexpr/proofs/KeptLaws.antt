@@ -1,18 +1,18 @@
 -- Data as they are kept: made of those as they are written, with the same meaning, and with names for their symbols.
-use Rattle.std.proofs.Common.{◌≡◌, ℕ, suc, ◌+◌, Bool, true, false, List, [], ◌∷◌, ◌++◌, map, refl, sym, ap, ◌∙◌, subst, append_assoc}
-use Rattle.std.specs.Prelude.{IsTrue, nat_le, nat_lt, ◌&&◌, Option, None, Some, Result, Ok, Err}
+use Rattle.std.proofs.Common.{◌≡◌, ℕ, suc, ◌+◌, Bool, true, false, List, [], ◌∷◌, ◌++◌, map, refl, sym, ap, ◌∙◌}
+use Rattle.std.specs.Prelude.{nat_le, nat_lt, ◌&&◌}
 use Rattle.std.specs.Str.{is_utf8}
 use Rattle.kan_model.specs.Words.{Shape}
-use Rattle.kan_model.specs.Tokens.{Placed, tokens}
+use Rattle.kan_model.specs.Tokens.{tokens}
 use Rattle.kan_model.specs.Written.{Written, Within, single, list, prefixed, close, dotted, element, is_allowed, are_allowed_within, are_allowed, is_allowed_atom, deepest}
 use Rattle.kan_model.specs.Open.{row, as_written}
-use Rattle.kan_model.specs.Faults.{Reading, data_are, refused, read_tokens, read_if, read_text}
+use Rattle.kan_model.specs.Faults.{Reading, data_are, refused, read_if, read_text}
 use Rattle.kan_model.specs.Made.{made, made_within, map_reading}
 use Rattle.kan_model.specs.Printed.{Named, pairs, pairs_within, prefix_name}
 use Rattle.kan_terms.specs.Tree.{leaf, nil, pair}
 use Rattle.kan_model.proofs.Exactly.{reads_exactly}
 use Rattle.kan_model.proofs.Carried.{read_text-map, made_carries}
-use Rattle.sexpr.specs.Seen.{Table, written, as_kept}
+use Rattle.sexpr.specs.Seen.{written, as_kept}
 use Rattle.sexpr.specs.Laws.{KeepsData, KeepsMeaning, ReadsNamed, is_named, are_named_within, are_named}
 
 pub keeps_data : KeepsData
@@ -74,8 +74,8 @@ mutual
   named_within limit depth count at s ds (dotted point d end) k h = named_row ds (dotted 0 (made as_kept d) 0) k (named_kept limit (depth + count) d (second_of_both (nat_lt 0 count) (is_allowed limit (depth + count) d) h))
   named_within limit depth count at s ds (element d inner) k h =
       named_within limit depth (suc count) at s (ds ++ made as_kept d ∷ []) inner
-          (named_push ds (made as_kept d) k (named_kept limit (depth + suc count) d (first_of_both (is_allowed limit (depth + suc count) d) (are_allowed_within limit depth (suc count) inner) h)))
-          (second_of_both (is_allowed limit (depth + suc count) d) (are_allowed_within limit depth (suc count) inner) h)
+      (named_push ds (made as_kept d) k (named_kept limit (depth + suc count) d (first_of_both (is_allowed limit (depth + suc count) d) (are_allowed_within limit depth (suc count) inner) h)))
+      (second_of_both (is_allowed limit (depth + suc count) d) (are_allowed_within limit depth (suc count) inner) h)
 
 named_all : (limit : ℕ) (ds : List Written) → are_allowed limit ds ≡ true → are_named (map (made as_kept) ds) ≡ true
 named_all limit [] h = refl

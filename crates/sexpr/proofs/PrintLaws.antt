@@ -1,9 +1,9 @@
 -- How printing goes on from one piece of work to the next.
-use Rattle.std.proofs.Common.{◌≡◌, ℕ, suc, ◌+◌, ◌<◌, ◌≤◌, List, [], ◌∷◌, ◌++◌, length, map, refl, sym, ap, ◌∙◌, arith, append_assoc, append-nil}
+use Rattle.std.proofs.Common.{◌≡◌, ℕ, ◌+◌, ◌<◌, List, [], ◌∷◌, ◌++◌, length, map, refl, sym, ap, ◌∙◌, arith, append_assoc, append-nil}
 use Rattle.std.specs.Prelude.{Option, None, Some, ℤ, Bool, codes}
 use Rattle.std.specs.Option.{option_map, option_copied}
 use Rattle.std.specs.Borrow.{Bor}
-use Rattle.kan_model.specs.Written.{Written, Within, single, list, prefixed, dotted, element}
+use Rattle.kan_model.specs.Written.{Written, single, list, prefixed, dotted, element}
 use Rattle.kan_terms.specs.Table.{name_of}
 use Rattle.kan_model.specs.Words.{round, number, truth}
 use Rattle.kan_model.specs.Printed.{named_text, pairs, pairs_within, prefix_name}

@@ -1,18 +1,18 @@
 -- How a reading goes on piece by piece, and what it comes to.
-use Rattle.std.proofs.Common.{◌≡◌, ℕ, zero, suc, ◌+◌, ◌-◌, ◌<◌, ◌≤◌, Bool, true, false, List, [], ◌∷◌, ◌++◌, length, drop, map, refl, sym, ap, ◌∙◌, subst, arith, append_assoc, append-nil}
-use Rattle.std.specs.Prelude.{Option, None, Some, Result, Ok, Err, IfErr}
+use Rattle.std.proofs.Common.{◌≡◌, ℕ, suc, ◌+◌, ◌-◌, ◌<◌, ◌≤◌, Bool, true, false, List, [], ◌∷◌, ◌++◌, length, drop, refl, sym, ap, ◌∙◌, subst, arith, append_assoc, append-nil}
+use Rattle.std.specs.Prelude.{None, Some, Result, Ok, Err, IfErr}
 use Rattle.std.specs.Result.{IsErrAnd}
 use Rattle.std.specs.Str.{IsUtf8, is_utf8}
 use Rattle.std.specs.Str.Lossy.{utf8_valid_len}
 use Rattle.std.proofs.lemmas.Str.{IsUtf8-from_is_utf8, is_utf8-from_IsUtf8}
 use Rattle.std.proofs.lemmas.List.{length-append}
-use Rattle.kan_terms.specs.Table.{name_of, number_of}
+use Rattle.kan_terms.specs.Table.{number_of}
 use Rattle.kan_terms.proofs.TableLaws.{name_of-number_of, name_of-append}
-use Rattle.kan_model.specs.Words.{Atom, symbol, Token}
+use Rattle.kan_model.specs.Words.{symbol, Token}
 use Rattle.kan_model.specs.Written.{Written, single}
-use Rattle.kan_model.specs.Tokens.{Placed, placed, Piece, blank, spelled, more, placed_before, tokens, tokens_from}
+use Rattle.kan_model.specs.Tokens.{Placed, placed, Piece, more, placed_before, tokens, tokens_from}
 use Rattle.kan_model.specs.Open.{Open, awaiting, top}
-use Rattle.kan_model.specs.Faults.{Fault, fault, refusal, after, Progress, going, stopped, settled, step, run, finish, cut_off, beginning, Reading, refused, read_tokens, read_if, read_text}
+use Rattle.kan_model.specs.Faults.{Fault, fault, refusal, after, going, stopped, settled, run, finish, cut_off, Reading, refused, read_tokens, read_if, read_text}
 use Rattle.kan_model.proofs.Cutting.{tokens_from-piece}
 use Rattle.sexpr.specs.Meaning.{token_of, piece_of, piece_with}
 use Rattle.sexpr.specs.Pieces.{first_piece}
@@ -104,8 +104,8 @@ pub refused_token : {T : Type 0} (r : Result T ReadError) (at : ℕ) (p : pieces
 refused_token (Ok x) at p t old e h = h
 refused_token (Err x) at p t old e h = λ names ts.
     answers_same names (finish (run as_kept (going (open_of names old)) (placed at (token_of t) ∷ ts))) (finish (run as_kept (going (open_of names old)) (placed_before at (piece_of p) ts))) (Err x)
-        (ap (λ xs. finish (run as_kept (going (open_of names old)) xs)) (sym (placed_token at p t ts e)))
-        (answers_refusal names old at (token_of t) ts x (h names))
+    (ap (λ xs. finish (run as_kept (going (open_of names old)) xs)) (sym (placed_token at p t ts e)))
+    (answers_refusal names old at (token_of t) ts x (h names))
 
 -- what is open and the text that is left read as the whole text does, under every table that goes on
 abbrev pub Left : Table → stacks.Open → ℕ → List ℕ → List ℕ → Type 0
@@ -137,16 +137,16 @@ left_next names old new at rest later bytes n p h e s d taken left = λ t.
 pub left_refused : (names : Table) (o : stacks.Open) (at : ℕ) (rest bytes : List ℕ) (n : ℕ) (p : Piece) (x : ReadError) → 0 < length rest → p ≡ first_piece rest → n ≡ suc (more (first_piece rest)) → ((t : Table) (ts : List Placed) → Answers t (finish (run as_kept (going (open_of t o)) (placed_before at p ts))) (Err x)) → Left names o at rest bytes → Reads bytes names (Err x)
 left_refused names o at rest bytes n p x h e s refuses left =
     answers_same names (finish (run as_kept (going (open_of names o)) (placed_before at p (tokens_from (at + n) 0 (drop n rest))))) (read_text as_kept bytes) (Err x)
-        (ap (λ ts. finish (run as_kept (going (open_of names o)) ts)) (sym (tokens_cut at rest n p h e s)) ∙ left_here names o at rest bytes left)
-        (refuses names (tokens_from (at + n) 0 (drop n rest)))
+    (ap (λ ts. finish (run as_kept (going (open_of names o)) ts)) (sym (tokens_cut at rest n p h e s)) ∙ left_here names o at rest bytes left)
+    (refuses names (tokens_from (at + n) 0 (drop n rest)))
 
 -- at the end of the text
 pub left_none : (names : Table) (o : stacks.Open) (at : ℕ) (rest bytes : List ℕ) (answer : Result (List Datum) ReadError) → length rest ≡ 0 → ((t : Table) → Answers t (cut_off (open_of t o)) answer) → Left names o at rest bytes → Reads bytes names answer
 unfolding run
 left_none names o at rest bytes answer h ends left =
     answers_same names (cut_off (open_of names o)) (read_text as_kept bytes) answer
-        (ap (λ ts. finish (run as_kept (going (open_of names o)) ts)) (sym (no_tokens at rest h)) ∙ left_here names o at rest bytes left)
-        (ends names)
+    (ap (λ ts. finish (run as_kept (going (open_of names o)) ts)) (sym (no_tokens at rest h)) ∙ left_here names o at rest bytes left)
+    (ends names)
 
 -- an error that is handed on
 pub reads_error : (bytes : List ℕ) (names : Table) (r : Result (List Datum) ReadError) (e : ReadError) → IsErrAnd r (λ x. x ≡ e) → Reads bytes names (Err e) → Reads bytes names r

@@ -1,6 +1,6 @@
 -- What data stand for, by their kinds.
-use Rattle.std.proofs.Common.{◌≡◌, ℕ, List, refl, map, ap, sym, ◌∙◌}
-use Rattle.std.specs.Prelude.{Option, None, Some, ℤ, Bool}
+use Rattle.std.proofs.Common.{◌≡◌, ℕ, List, map, ap, sym, ◌∙◌}
+use Rattle.std.specs.Prelude.{None, Some, ℤ, Bool}
 use Rattle.kan_terms.specs.Table.{name_of}
 use Rattle.kan_model.specs.Words.{number, truth}
 use Rattle.kan_model.specs.Written.{Written, single, prefixed}

@@ -1,5 +1,5 @@
 -- What ties data as they are kept to data as they are written.
-use Rattle.std.specs.Prelude.{◌≡◌, ℕ, List, map, Bool, true, false, ◌&&◌, [], ◌∷◌, IsTrue, Ok}
+use Rattle.std.specs.Prelude.{◌≡◌, ℕ, List, map, Bool, true, ◌&&◌, [], ◌∷◌, IsTrue, Ok}
 use Rattle.kan_model.specs.Written.{Written, Within, single, list, prefixed, close, dotted, element, is_allowed_atom}
 use Rattle.kan_model.specs.Open.{as_written}
 use Rattle.kan_model.specs.Faults.{read_text}

@@ -1,5 +1,5 @@
 -- What the tokens of the code stand for.
-use Rattle.std.specs.Prelude.{ℕ, zero, ◌-◌, Option, Some, None}
+use Rattle.std.specs.Prelude.{ℕ, ◌-◌, Option, Some, None}
 use Rattle.kan_model.specs.Words.{Atom, Shape, round, square, Prefix, quote, quasiquote, unquote, Token}
 use Rattle.kan_model.specs.Tokens.{Start, Piece, blank, spelled}
 use Rattle.sexpr.specs.declared.token.Shape.TheVariants.{Round, Square}

@@ -74,7 +74,8 @@ impl Open {
     {
         self.may_begin(at)?;
         let items = Data::new(self.alloc);
-        self.frames.push(Frame::List(OpenList { at, shape, items }))?;
+        self.frames
+            .push(Frame::List(OpenList { at, shape, items }))?;
         self.depth += 1;
         Ok(())
     }
@@ -212,7 +213,7 @@ impl Open {
         ensures shape { OnOk result (is_shape (Some (shape_of ended.list.shape)) (shape_of shape) ≡ true) }
         ensures open { OnOk result ((names : Table) → open_of names self.new
             ≡ put as_kept (place names self.old)
-                (list_of ended.list.at (map (written names) ended.list.items) (Some (written names ended.last)))) }
+            (list_of ended.list.at (map (written names) ended.list.items) (Some (written names ended.last)))) }
         ensures refused { IfErr result (λ e.
             Refuses e (if is_shape (Some (shape_of ended.list.shape)) (shape_of shape) then None else Some (fault at 3))) }
         ensures depth { OnOk result (HasDepth self.new) }
@@ -281,7 +282,7 @@ impl Open {
         requires place { self.old.ended ≡ None }
         ensures open { OnOk result ((names : Table) → open_of names self.new
             ≡ awaiting (in_list (place names self.old) list.at (shape_of list.shape)
-                (map (written names) list.items ++ written names datum ∷ []))) }
+            (map (written names) list.items ++ written names datum ∷ []))) }
         ensures refused { IfErr result (λ e. e ≡ memory_wanted) }
         ensures depth { OnOk result (HasDepth self.new) }
     {

@@ -41,7 +41,12 @@ pub fn print(alloc: Global, datum: &Datum, names: &Names) -> Result<Vec<u8>, Mem
 }
 
 /// Prints what is on top, as far as its first part.
-fn print_work<'a>(work: Work<'a>, names: &Names, text: &mut String, works: &mut Vec<Work<'a>>) -> Result<(), Memory>
+fn print_work<'a>(
+    work: Work<'a>,
+    names: &Names,
+    text: &mut String,
+    works: &mut Vec<Work<'a>>,
+) -> Result<(), Memory>
     ensures printed { OnOk result (string_bytes text.new ++ works_text names.now works.new.items
         ≡ string_bytes text.old ++ (work_text names.now work.entry ++ works_text names.now works.old.items)) }
     ensures falls { OnOk result (works_cost names.now works.new.items < work_cost names.now work.entry + works_cost names.now works.old.items) }
@@ -58,7 +63,12 @@ fn print_work<'a>(work: Work<'a>, names: &Names, text: &mut String, works: &mut 
 }
 
 /// Prints a datum, as far as its first part.
-fn print_datum<'a>(datum: &'a Datum, names: &Names, text: &mut String, works: &mut Vec<Work<'a>>) -> Result<(), Memory>
+fn print_datum<'a>(
+    datum: &'a Datum,
+    names: &Names,
+    text: &mut String,
+    works: &mut Vec<Work<'a>>,
+) -> Result<(), Memory>
     ensures printed { OnOk result (string_bytes text.new ++ works_text names.now works.new.items
         ≡ string_bytes text.old ++ (work_text names.now (work_variants.Datum datum.entry) ++ works_text names.now works.old.items)) }
     ensures falls { OnOk result (works_cost names.now works.new.items < work_cost names.now (work_variants.Datum datum.entry) + works_cost names.now works.old.items) }
@@ -68,7 +78,13 @@ fn print_datum<'a>(datum: &'a Datum, names: &Names, text: &mut String, works: &m
         DatumKind::Number(number) => write!(text, "{number}")?,
         DatumKind::Truth(true) => text.push_str("#t")?,
         DatumKind::Truth(false) => text.push_str("#f")?,
-        DatumKind::List(items, last) => return print_list(items.as_slice(), lent(last), names, text, works),
+        DatumKind::List(items, last) => return print_list(
+            items.as_slice(),
+            lent(last),
+            names,
+            text,
+            works,
+        ),
         DatumKind::Prefixed(prefix, inner) => {
             text.push('(')?;
             text.push_str(name_of(*prefix))?;
@@ -81,7 +97,13 @@ fn print_datum<'a>(datum: &'a Datum, names: &Names, text: &mut String, works: &m
 }
 
 /// Prints a list, as far as its first element.
-fn print_list<'a>(items: &'a [Datum], last: Option<&'a Datum>, names: &Names, text: &mut String, works: &mut Vec<Work<'a>>) -> Result<(), Memory>
+fn print_list<'a>(
+    items: &'a [Datum],
+    last: Option<&'a Datum>,
+    names: &Names,
+    text: &mut String,
+    works: &mut Vec<Work<'a>>,
+) -> Result<(), Memory>
     ensures printed { OnOk result (string_bytes text.new ++ works_text names.now works.new.items
         ≡ string_bytes text.old ++ (named_text (pairs_within (within names.now items.entry last.entry)) ++ works_text names.now works.old.items)) }
     ensures falls { OnOk result (works_cost names.now works.new.items
@@ -102,7 +124,13 @@ fn print_list<'a>(items: &'a [Datum], last: Option<&'a Datum>, names: &Names, te
 }
 
 /// Prints what follows an element of a list, as far as the next one.
-fn print_rest<'a>(items: &'a [Datum], last: Option<&'a Datum>, names: &Names, text: &mut String, works: &mut Vec<Work<'a>>) -> Result<(), Memory>
+fn print_rest<'a>(
+    items: &'a [Datum],
+    last: Option<&'a Datum>,
+    names: &Names,
+    text: &mut String,
+    works: &mut Vec<Work<'a>>,
+) -> Result<(), Memory>
     ensures printed { OnOk result (string_bytes text.new ++ works_text names.now works.new.items
         ≡ string_bytes text.old ++ (rest_text (pairs_within (within names.now items.entry last.entry)) ++ works_text names.now works.old.items)) }
     ensures falls { OnOk result (works_cost names.now works.new.items
@@ -121,7 +149,12 @@ fn print_rest<'a>(items: &'a [Datum], last: Option<&'a Datum>, names: &Names, te
 }
 
 /// Prints the datum after the dot of a list, as far as its first part: a list goes on with its elements.
-fn print_tail<'a>(datum: &'a Datum, names: &Names, text: &mut String, works: &mut Vec<Work<'a>>) -> Result<(), Memory>
+fn print_tail<'a>(
+    datum: &'a Datum,
+    names: &Names,
+    text: &mut String,
+    works: &mut Vec<Work<'a>>,
+) -> Result<(), Memory>
     ensures printed { OnOk result (string_bytes text.new ++ works_text names.now works.new.items
         ≡ string_bytes text.old ++ (work_text names.now (work_variants.Tail datum.entry) ++ works_text names.now works.old.items)) }
     ensures falls { OnOk result (works_cost names.now works.new.items < work_cost names.now (work_variants.Tail datum.entry) + works_cost names.now works.old.items) }
@@ -142,7 +175,12 @@ fn print_tail<'a>(datum: &'a Datum, names: &Names, text: &mut String, works: &mu
 }
 
 /// Prints the dot before a last part that is no list.
-fn print_last<'a>(datum: &'a Datum, names: &Names, text: &mut String, works: &mut Vec<Work<'a>>) -> Result<(), Memory>
+fn print_last<'a>(
+    datum: &'a Datum,
+    names: &Names,
+    text: &mut String,
+    works: &mut Vec<Work<'a>>,
+) -> Result<(), Memory>
     requires { rest_text (pairs (written names.now datum.now)) ≡ codes " . " ++ named_text (pairs (written names.now datum.now)) }
     ensures printed { OnOk result (string_bytes text.new ++ works_text names.now works.new.items
         ≡ string_bytes text.old ++ (work_text names.now (work_variants.Tail datum.entry) ++ works_text names.now works.old.items)) }

@@ -41,7 +41,12 @@ pub fn read(alloc: Global, bytes: &[u8], names: &mut Names) -> Result<Data, Read
 }
 
 /// Takes the next piece of a text.
-fn take_piece(opened: &mut Open, at: u32, piece: Piece<'_>, names: &mut Names) -> Result<(), ReadError>
+fn take_piece(
+    opened: &mut Open,
+    at: u32,
+    piece: Piece<'_>,
+    names: &mut Names,
+) -> Result<(), ReadError>
     requires depth { HasDepth opened.old }
     requires names { length names.old < 2 ^ 32 - 1 }
     ensures taken { OnOk result ((more : Table) (ts : List Placed) →

@@ -18,7 +18,10 @@ impl Shape {
     pub(crate) fn is_closed_by(self, close: Shape) -> bool
         ensures { result ≡ is_shape (Some (shape_of self)) (shape_of close) }
     {
-        matches!((self, close), (Shape::Round, Shape::Round) | (Shape::Square, Shape::Square))
+        matches!(
+            (self, close),
+            (Shape::Round, Shape::Round) | (Shape::Square, Shape::Square)
+        )
     }
 }
 

@@ -1,6 +1,6 @@
 -- A word's bytes are cut off as a text, which is the word of the piece.
-use Rattle.std.proofs.Common.{◌≡◌, ◌+◌, ℕ, List, take, ap, sym, ◌∙◌, arith}
-use Rattle.kan_model.specs.Words.{Token, word_token}
+use Rattle.std.proofs.Common.{◌≡◌, ◌+◌, ℕ, take, ap, sym, ◌∙◌, arith}
+use Rattle.kan_model.specs.Words.{word_token}
 use Rattle.kan_model.specs.Tokens.{start, in_word}
 use Rattle.sexpr.specs.Meaning.{token_of, piece_of}
 use Rattle.sexpr.proofs.PieceLaws.{text_word_boundary, text_word_piece}

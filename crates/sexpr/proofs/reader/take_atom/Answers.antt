@@ -1,6 +1,6 @@
 -- A symbol stands for its text, which is in the table now.
-use Rattle.std.proofs.Common.{◌≡◌, refl, sym, ap, ◌∙◌, ◌++◌}
-use Rattle.kan_model.specs.Words.{Atom, symbol}
+use Rattle.std.proofs.Common.{◌≡◌, sym, ap, ◌∙◌, ◌++◌}
+use Rattle.kan_model.specs.Words.{symbol}
 use Rattle.kan_model.specs.Written.{single, is_allowed_atom}
 use Rattle.sexpr.specs.Meaning.{atom_of}
 use Rattle.sexpr.proofs.FrameLaws.{on_ok}

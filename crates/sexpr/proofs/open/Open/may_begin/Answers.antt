@@ -1,6 +1,4 @@
 -- Below the greatest depth nothing may begin.
-use Rattle.std.proofs.Common.{◌<◌, ◌≡◌, arith}
-use Rattle.std.specs.Prelude.{None}
 use Rattle.sexpr.proofs.FrameLaws.{refused_deep}
 use Rattle.sexpr.proofs.open.Open.may_begin.Goals as goal
 
