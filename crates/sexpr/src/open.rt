@@ -1,6 +1,6 @@
 //! What is open at a place in a text: the stacks of open lists and of prefixes without their datum.
 
-ghost use Rattle.std.specs.Prelude.{◌≡◌, ◌<◌, ◌≤◌, [], ◌∷◌, ◌++◌, length, map, None, Some, true, if◌then◌else◌, IfErr, OnOk};
+ghost use Rattle.std.specs.Prelude.{◌≡◌, ◌<◌, ◌≤◌, [], ◌∷◌, ◌++◌, map, None, Some, true, if◌then◌else◌, IfErr, OnOk};
 ghost use Rattle.std.specs.List.{fold};
 ghost use Rattle.kan_model.specs.Words.{Atom, Token, opening, closing, prefix, dot, atom, out_of_range, reserved};
 ghost use Rattle.kan_model.specs.Written.{is_allowed_atom, single};

@@ -1,6 +1,6 @@
 //! Reading a text into its data.
 
-ghost use Rattle.std.specs.Prelude.{List, ◌≡◌, ◌-◌, ◌^◌, ◌<◌, ◌≤◌, ◌++◌, length, true, Some, IfOk, IfErr, OnOk};
+ghost use Rattle.std.specs.Prelude.{List, ◌≡◌, ◌-◌, ◌^◌, ◌<◌, ◌≤◌, ◌++◌, length, IfErr, OnOk};
 ghost use Rattle.kan_model.specs.Tokens.{Placed, placed_before};
 ghost use Rattle.kan_model.specs.Faults.{refusal, run, going, finish};
 ghost use Rattle.kan_model.specs.Words as words;
