@@ -4,4 +4,6 @@
 #[cfg(test)]
 mod outside;
 #[cfg(test)]
+mod reading;
+#[cfg(test)]
 mod top;
