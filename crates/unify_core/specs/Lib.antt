@@ -1,0 +1,4 @@
+pub mod Cycles
+pub mod Solutions
+pub mod Unifying
+pub mod Walking

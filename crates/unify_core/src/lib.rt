@@ -1,0 +1,2 @@
+//! Unification over triangular bindings, in which nothing is ever replaced.
+#![tactic(auto)]
