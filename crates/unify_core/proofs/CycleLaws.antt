@@ -1,14 +1,12 @@
 -- Bindings without a cycle are those that grew pair by pair.
-use Rattle.std.proofs.Common.{◌≡◌, ◌≢◌, ℕ, suc, ◌+◌, ◌<◌, ◌≤◌, max, Bool, true, false, ◌||◌, eqb, List, [], ◌∷◌, Option, Some, None, inl, inr, sym, ap, subst, refl, ◌∙◌, arith, if◌then◌else◌}
-use Rattle.std.proofs.lemmas.Bool.{eq-eqb, eqb-true, eqb-false, ne_eqb, or_cases, true≢false, false_from_ne_true, both_ways}
-use Rattle.kan_terms.specs.Tree.{Tree, Tm, fill, occurs}
+use Rattle.std.proofs.Common.{◌≡◌, ℕ, suc, ◌+◌, ◌<◌, ◌≤◌, max, Bool, true, false, eqb, [], ◌∷◌, Some, None, inl, inr, sym, ap, subst, refl, ◌∙◌, arith, if◌then◌else◌}
+use Rattle.std.proofs.lemmas.Bool.{eq-eqb, eqb-true, or_cases, false_from_ne_true, both_ways}
+use Rattle.kan_terms.specs.Tree.{Tree, Tm, occurs}
 use Rattle.kan_terms.specs.Bound.{bound_to}
 use Rattle.kan_terms.proofs.TreeLaws.{occurs-fill, fill-occurs}
-use Rattle.kan_model.specs.Solve.{replace}
-use Rattle.kan_model.proofs.VariableCount.{occurs_replace}
 use Rattle.unify_core.specs.Walking.{Pairs, ends, full}
 use Rattle.unify_core.specs.Cycles.{BoundOnce, HasNoCycle}
-use Rattle.unify_core.proofs.Grown.{Grown, full-newest, bound-newest, bound-older, unbound_parts, ends-unbound, ends-bound}
+use Rattle.unify_core.proofs.Grown.{Grown, full-newest, bound-newest, bound-older, ends-unbound, ends-bound}
 
 -- each variable of a term has a lower rank than the variable that is bound to the term
 abbrev pub Falls : (ℕ → ℕ) → Pairs → Type 0

@@ -1,7 +1,7 @@
 -- Bindings that grew pair by pair, and full values under them.
-use Rattle.std.proofs.Common.{◌≡◌, ◌≢◌, ℕ, Bool, true, false, eqb, List, [], ◌∷◌, Option, Some, None, sym, ap, subst, refl, ◌∙◌, if◌then◌else◌}
+use Rattle.std.proofs.Common.{◌≡◌, ℕ, Bool, true, false, eqb, [], ◌∷◌, Some, None, sym, ap, subst, refl, ◌∙◌, if◌then◌else◌}
 use Rattle.std.proofs.lemmas.Bool.{eq-eqb, eqb-true, eqb-false, ne_eqb}
-use Rattle.kan_terms.specs.Tree.{Tree, Tm, fill, occurs}
+use Rattle.kan_terms.specs.Tree.{Tree, Tm, occurs}
 use Rattle.kan_terms.specs.Bound.{bound_to}
 use Rattle.kan_terms.proofs.TreeLaws.{fill-fill, fill-absent_leaf}
 use Rattle.kan_model.specs.Solve.{replace}

@@ -1,5 +1,8 @@
+pub mod AnswerLaws
 pub mod CycleLaws
 pub mod Grown
+pub mod LeftLaws
+pub mod LoadLaws
 pub mod MeetingLaws
 pub mod SolutionLaws
 pub mod UnifyingLaws

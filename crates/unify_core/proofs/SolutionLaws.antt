@@ -1,5 +1,5 @@
 -- The solutions of bindings.
-use Rattle.std.proofs.Common.{◌≡◌, ℕ, Bool, true, false, eqb, List, [], ◌∷◌, ◌++◌, Some, sym, ap, refl, ◌∙◌, if◌then◌else◌}
+use Rattle.std.proofs.Common.{◌≡◌, ℕ, Bool, true, false, eqb, List, [], ◌∷◌, ◌++◌, sym, ap, refl, ◌∙◌, if◌then◌else◌}
 use Rattle.std.proofs.lemmas.Bool.{eq-eqb, eqb-true}
 use Rattle.kan_terms.specs.Tree.{Tree, Tm, fill}
 use Rattle.kan_terms.proofs.TreeLaws.{fill-fill, fill-leaf, fill-same}
@@ -8,7 +8,7 @@ use Rattle.kan_model.specs.Solve.{replace}
 use Rattle.kan_model.specs.Unifiers.{Unifies}
 use Rattle.kan_model.proofs.UnifierLaws.{given, fill-replace}
 use Rattle.unify_core.specs.Walking.{Pairs, walked, ends, full}
-use Rattle.unify_core.specs.Solutions.{IsSolution, AddedTo, bindings_solved, equation}
+use Rattle.unify_core.specs.Solutions.{IsSolution, bindings_solved, equation}
 use Rattle.unify_core.proofs.Grown.{Grown, full-newest, bound-newest, ends-bound}
 use Rattle.unify_core.proofs.WalkLaws.{full-walked}
 

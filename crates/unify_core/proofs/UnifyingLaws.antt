@@ -1,5 +1,5 @@
 -- Unification adds exactly what the equations ask for.
-use Rattle.std.proofs.Common.{◌≡◌, ◌≢◌, ℕ, Bool, true, false, List, [], ◌∷◌, Option, Some, None, option_map, inl, inr, sym, ap, ap₂, refl, ◌∙◌}
+use Rattle.std.proofs.Common.{◌≡◌, ◌≢◌, ℕ, true, false, List, ◌∷◌, Option, Some, None, option_map, inl, inr, sym, ap, ap₂, refl, ◌∙◌}
 use Rattle.kan_terms.specs.Tree.{Tree, Tm, fill, occurs}
 use Rattle.kan_terms.specs.Bound.{bound_to}
 use Rattle.kan_terms.proofs.TreeLaws.{occurs-cyclic}
@@ -72,10 +72,10 @@ module _ (V : Type 0) (bound : Pairs) (g : Grown bound) (e : Equation) (es : Lis
   after_binding : (x : ℕ) (t : Tm) → met bound e ≡ Meeting.binding x t → (r : Option (List (Tm × Tm))) → Outcome V ((x, t) ∷ bound) es r →
       Outcome V bound (e ∷ es) (option_map (λ more. (Tree.leaf x, t) ∷ more) r)
   after_binding x t h None out = λ f s (same, u).
-      let (one, other) = met_says V bound e (Meeting.binding x t) h in
+      let (one, other, leftmost) = met_says V bound e (Meeting.binding x t) h in
       out f ((one_same f x t (walked bound e.left) (walked bound e.right) one).0 ((sides f s).0 same), s) u
   after_binding x t h (Some added) (new, put, gn, exact) =
-      let (one, other) = met_says V bound e (Meeting.binding x t) h in
+      let (one, other, leftmost) = met_says V bound e (Meeting.binding x t) h in
       let (unbound, walks) = one_ends bound g e.left e.right x t one in
       (new, (x, refl, unbound, walks, put), gn, λ f. (
         λ s. (let ((known, old), u) = (exact f).0 s in (old, ((sides f old).1 ((one_same f x t (walked bound e.left) (walked bound e.right) one).1 known), u))),
@@ -84,7 +84,7 @@ module _ (V : Type 0) (bound : Pairs) (g : Grown bound) (e : Equation) (es : Lis
 
   after_inside : (x : ℕ) (t : Tm) → met bound e ≡ Meeting.binding x t → occurs x (full bound t) ≡ true → Outcome V bound (e ∷ es) None
   after_inside x t h inside f s (same, u) =
-      let (one, other) = met_says V bound e (Meeting.binding x t) h in
+      let (one, other, leftmost) = met_says V bound e (Meeting.binding x t) h in
       let (unbound, walks) = one_ends bound g e.left e.right x t one in
       occurs-cyclic x f (full bound t) inside (full-apart bound g x t walks other)
       ((one_same f x t (walked bound e.left) (walked bound e.right) one).0 ((sides f s).0 same) ∙ sym (fill-full f bound s t))

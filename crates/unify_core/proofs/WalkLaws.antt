@@ -1,11 +1,11 @@
 -- Where walking leads.
-use Rattle.std.proofs.Common.{◌≡◌, ◌≢◌, ℕ, suc, ◌+◌, ◌<◌, Bool, true, false, eqb, List, [], ◌∷◌, Option, Some, None, sym, ap, subst, refl, ◌∙◌, arith, if◌then◌else◌}
-use Rattle.std.proofs.lemmas.Bool.{eq-eqb, eqb-true, eqb-false, ne_eqb, true≢false}
-use Rattle.kan_terms.specs.Tree.{Tree, Tm, fill, occurs}
+use Rattle.std.proofs.Common.{◌≡◌, ◌≢◌, ℕ, suc, ◌+◌, Bool, true, false, eqb, [], ◌∷◌, Some, None, sym, ap, subst, refl, ◌∙◌, arith, if◌then◌else◌}
+use Rattle.std.proofs.lemmas.Bool.{eq-eqb, eqb-true, ne_eqb, true≢false}
+use Rattle.kan_terms.specs.Tree.{Tree, Tm, occurs}
 use Rattle.kan_terms.specs.Bound.{bound_to}
 use Rattle.kan_model.specs.Solve.{replace}
-use Rattle.unify_core.specs.Walking.{Pairs, go_on, walked, ends, full}
-use Rattle.unify_core.proofs.Grown.{Grown, eqb-turn, replace_self, replace_absent, full-newest, bound-newest, bound-older, unbound_parts, ends-unbound, ends-bound}
+use Rattle.unify_core.specs.Walking.{Pairs, go_on, walked, full}
+use Rattle.unify_core.proofs.Grown.{Grown, eqb-turn, full-newest, bound-newest, bound-older, unbound_parts, ends-unbound, ends-bound}
 
 -- what a term walks to has the term's full value
 pub full-walked : (bound : Pairs) → Grown bound → (u : Tm) → full bound (walked bound u) ≡ full bound u
