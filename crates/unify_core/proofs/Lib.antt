@@ -2,8 +2,10 @@ pub mod AnswerLaws
 pub mod CycleLaws
 pub mod Grown
 pub mod LeftLaws
+pub mod LentLaws
 pub mod LoadLaws
 pub mod MeetingLaws
 pub mod SolutionLaws
 pub mod UnifyingLaws
 pub mod WalkLaws
+pub mod WalkSteps
