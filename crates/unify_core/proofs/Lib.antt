@@ -5,6 +5,7 @@ pub mod LeftLaws
 pub mod LentLaws
 pub mod LoadLaws
 pub mod MeetingLaws
+pub mod OccursSteps
 pub mod SolutionLaws
 pub mod UnifyingLaws
 pub mod WalkLaws
