@@ -63,7 +63,7 @@ lefts_bound (p ∷ older) (fresh, out, g) =
 pub answer_leaves : (bound : Pairs) → Grown bound → (s : Replacement) → solve (bindings_solved bound) ≡ Some s → (v : ℕ) → bound_to v bound ≡ None → replaces s v ≡ false
 answer_leaves bound g s h v none =
     false_from_ne_true (replaces s v) (λ e.
-      replaces_lefts (bindings_solved bound) (Some s) (subst (Solves left_first (bindings_solved bound)) h (solve_by-Solves left_first (bindings_solved bound))) (IsBound bound) (lefts_bound bound g) v e none)
+    replaces_lefts (bindings_solved bound) (Some s) (subst (Solves left_first (bindings_solved bound)) h (solve_by-Solves left_first (bindings_solved bound))) (IsBound bound) (lefts_bound bound g) v e none)
 
 -- and gives each variable its full value
 pub answer_ends : (bound : Pairs) → Grown bound → (s : Replacement) → solve (bindings_solved bound) ≡ Some s → (v : ℕ) → ends bound v ≡ image s v
@@ -101,5 +101,5 @@ some_solved bound g e added d none =
     let (new, put, gn, exact) = unifying_makes ⊥ bound (e ∷ []) (Some added) d g in
     let (old, (last, _)) = (exact (λ v. fill all_nil (ends new v))).0 (some_solution new gn) in
     let (s, h, factors) = answer_most_general left_first (bindings_solved bound ++ e ∷ []) (λ v. fill all_nil (ends new v))
-        (Unifies-push (λ v. fill all_nil (ends new v)) (bindings_solved bound) e (solution_unifies (λ v. fill all_nil (ends new v)) bound old) last) in
+    (Unifies-push (λ v. fill all_nil (ends new v)) (bindings_solved bound) e (solution_unifies (λ v. fill all_nil (ends new v)) bound old) last) in
     let both : Some s ≡ None = sym h ∙ none in cc

@@ -44,8 +44,8 @@ grown_by_rank rank [] once falls = tt
 grown_by_rank rank (p ∷ older) (fresh, once) falls = (
   fresh,
   false_from_ne_true (occurs p.0 (full older p.1)) (λ inside.
-    let (z, in_t, low) = ranked rank older once (falls_older rank p older fresh falls) p.1 p.0 inside in
-    absurd (omega (arith, falls p.0 z p.1 (bound-newest p older p.0 (eq-eqb p.0 p.0 refl)) in_t, low))),
+      let (z, in_t, low) = ranked rank older once (falls_older rank p older fresh falls) p.1 p.0 inside in
+      absurd (omega (arith, falls p.0 z p.1 (bound-newest p older p.0 (eq-eqb p.0 p.0 refl)) in_t, low))),
   grown_by_rank rank older once (falls_older rank p older fresh falls),
 )
 
@@ -101,14 +101,18 @@ falls_of (p ∷ older) (fresh, out, g) x y t h inside = by (eqb x p.0) refl (fal
         let term : t ≡ p.1 = cc in
         let in_term : occurs y p.1 ≡ true = subst (λ u. occurs y u ≡ true) term inside in
         let not_in : occurs p.0 (ends older y) ≡ false =
-            false_from_ne_true (occurs p.0 (ends older y)) (λ i. both_ways (occurs p.0 (full older p.1)) out (fill-occurs p.0 y (ends older) p.1 in_term i)) in
+        false_from_ne_true (occurs p.0 (ends older y)) (λ i. both_ways (occurs p.0 (full older p.1)) out (fill-occurs p.0 y (ends older) p.1 in_term i)) in
         let itself : ends older x ≡ Tree.leaf x = ends-unbound older x (ap (λ v. bound_to v older) same ∙ fresh) in
         let own : occurs p.0 (ends older x) ≡ true = ap (occurs p.0) itself ∙ eq-eqb p.0 x (sym same) in
         omega (arith, top_above (rank_of older) y p.1 in_term, ap (λ c. where_true c high) not_in, ap (λ c. where_true c high) own)
     by false e ih =
         let known : bound_to x older ≡ Some t = sym (bound-older p older x e) ∙ h in
-        omega (arith, ih known inside, more_where (occurs p.0 (ends older y)) (occurs p.0 (ends older x)) high
-        (λ i. ap (occurs p.0) (ends-bound older g x t known) ∙ fill-occurs p.0 y (ends older) t inside i))
+        omega (
+          arith,
+          ih known inside,
+          more_where (occurs p.0 (ends older y)) (occurs p.0 (ends older x)) high
+              (λ i. ap (occurs p.0) (ends-bound older g x t known) ∙ fill-occurs p.0 y (ends older) t inside i),
+        )
 
 once_of : (bound : Pairs) → Grown bound → BoundOnce bound
 once_of [] g = tt

@@ -19,7 +19,9 @@ Lefts-like P Q f (e ∷ es) (x, l, p, rest) = (x, l, f x p, Lefts-like (λ y. P 
 pub Lefts-push : (P : ℕ → Type 0) (es : List Equation) (x : ℕ) (t : Tm) → Lefts P es → (P x → ⊥) → Lefts (λ v. P v ⊎ (v ≡ x)) (es ++ equation (Tree.leaf x) t ∷ [])
 Lefts-push P [] x t h new = (x, refl, inr refl, tt)
 Lefts-push P (e ∷ es) x t (y, l, p, rest) new = (
-  y, l, inl p,
+  y,
+  l,
+  inl p,
   Lefts-like (λ v. (P v × (v ≢ y)) ⊎ (v ≡ x)) (λ v. (P v ⊎ (v ≡ x)) × (v ≢ y))
       (λ v. elim [ inl (q, other) ↦ (inl q, other) | inr same ↦ (inr same, λ back. new (subst P (sym back ∙ same) p)) ])
       (es ++ equation (Tree.leaf x) t ∷ []) (Lefts-push (λ v. P v × (v ≢ y)) es x t rest (λ (q, other). new q)),
@@ -90,5 +92,5 @@ replaces_lefts es r (Solves.replaced {e = e} {x = x} {t = t} {es = rest} {r = q}
     let same : x ≡ y = which_is_replaced y x e.right t (ap (λ a. work left_first (equation a e.right)) (sym l) ∙ h) in
     only_first P x t q (subst P (sym same) p)
     (only_like (λ v. P v × (v ≢ x)) P (λ v (k, other). k) q
-      (replaces_lefts (map (replace_sides x t) rest) q d (λ v. P v × (v ≢ x)) (lefts_replaced P x t rest (subst (λ w. Lefts (λ v. P v × (v ≢ w)) rest) (sym same) lefts))))
+    (replaces_lefts (map (replace_sides x t) rest) q d (λ v. P v × (v ≢ x)) (lefts_replaced P x t rest (subst (λ w. Lefts (λ v. P v × (v ≢ w)) rest) (sym same) lefts))))
 replaces_lefts es r (Solves.no_answer h) P lefts = tt

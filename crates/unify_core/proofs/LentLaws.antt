@@ -3,8 +3,7 @@ use Rattle.std.proofs.Common.{◌≡◌, ◌≢◌, ℕ, ◌+◌, ◌-◌, ◌<�
 use Rattle.std.proofs.lemmas.Bool.{eq-eqb, ne_eqb}
 use Rattle.std.proofs.lemmas.List.{take_more}
 use Rattle.std.proofs.Math.Seq.{take-length}
-use Rattle.std.specs.Prelude.{Option, Some}
-use Rattle.kan_terms.specs.Tree.{Tm}
+use Rattle.std.specs.Prelude.{Some}
 use Rattle.kan_terms.specs.Terms.{tree}
 use Rattle.kan_terms.specs.Bound.{bound_to}
 use Rattle.unify_core.specs.declared.walking.Lent.{Lent}

@@ -106,8 +106,12 @@ less_parts a b c d es = by (term_eq (Tree.pair a b) (Tree.pair c d)) refl
         let same : Tree.pair a b ≡ Tree.pair c d = term_eq-true (Tree.pair a b) (Tree.pair c d) e in
         let first : a ≡ c = cc in
         let rest : b ≡ d = cc in
-        omega (arith, loads_identical (equation (Tree.pair a b) (Tree.pair c d)) es (work_same (Tree.pair a b) (Tree.pair c d) same),
-        loads_identical (equation a c) (equation b d ∷ es) (work_same a c first), loads_identical (equation b d) es (work_same b d rest))
+        omega (
+          arith,
+          loads_identical (equation (Tree.pair a b) (Tree.pair c d)) es (work_same (Tree.pair a b) (Tree.pair c d) same),
+          loads_identical (equation a c) (equation b d ∷ es) (work_same a c first),
+          loads_identical (equation b d) es (work_same b d rest),
+        )
     by false e = omega (arith, loads_parts (equation (Tree.pair a b) (Tree.pair c d)) (equation a c) (equation b d) es (work_pairs a b c d e))
 
 -- an equation of full values
@@ -147,9 +151,12 @@ module _ (bound : Pairs) (g : Grown bound) (e : Equation) (es : List Equation) w
   falls_parts first rest h =
       let (l, r) = met_says ⊥ bound e (Meeting.parts first rest) h in
       let whole : full_sides bound e ≡ equation (Tree.pair (full bound first.left) (full bound rest.left)) (Tree.pair (full bound first.right) (full bound rest.right)) =
-          ap₂ equation (sym (full-walked bound g e.left) ∙ ap (full bound) l) (sym (full-walked bound g e.right) ∙ ap (full bound) r) in
-      omega (arith, less_parts (full bound first.left) (full bound rest.left) (full bound first.right) (full bound rest.right) (map (full_sides bound) es),
-      ap (λ d. loads (d ∷ map (full_sides bound) es)) whole)
+      ap₂ equation (sym (full-walked bound g e.left) ∙ ap (full bound) l) (sym (full-walked bound g e.right) ∙ ap (full bound) r) in
+      omega (
+        arith,
+        less_parts (full bound first.left) (full bound rest.left) (full bound first.right) (full bound rest.right) (map (full_sides bound) es),
+        ap (λ d. loads (d ∷ map (full_sides bound) es)) whole,
+      )
 
   -- the solver replaces the variable that is bound by the full value of its term
   work_binding : (x : ℕ) (t : Tm) → met bound e ≡ Meeting.binding x t → occurs x (full bound t) ≡ false → work left_first (full_sides bound e) ≡ Work.substitute x (full bound t)

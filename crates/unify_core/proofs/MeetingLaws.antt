@@ -34,6 +34,7 @@ meeting_says V (Tree.leaf x) (Tree.leaf y) = two_variables V x y
 meeting_says V (Tree.leaf x) t = (inl (refl, refl), λ e. cc, λ z same. cc)
 meeting_says V t (Tree.leaf y) = (inr (refl, refl), λ e. cc, λ z same. cc)
 meeting_says V (Tree.pair a b) (Tree.pair c d) = (refl, refl)
+meeting_says V (Tree.pair a b) t = λ f e. cc
 meeting_says V a b = two_others V a b (λ differ f e. differ (cc))
 
 pub met_says : (V : Type 0) (bound : Pairs) (e : Equation) (m : Meeting) → met bound e ≡ m → Says V (walked bound e.left) (walked bound e.right) m

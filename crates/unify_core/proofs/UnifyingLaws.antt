@@ -63,11 +63,11 @@ module _ (V : Type 0) (bound : Pairs) (g : Grown bound) (e : Equation) (es : Lis
 
   after_parts : (first rest : Equation) → met bound e ≡ Meeting.parts first rest → (r : Option (List (Tm × Tm))) → Outcome V bound (first ∷ rest ∷ es) r → Outcome V bound (e ∷ es) r
   after_parts first rest h = outcome_same V bound (first ∷ rest ∷ es) (e ∷ es) (λ f s.
-    let (l, r) = met_says V bound e (Meeting.parts first rest) h in (
-      λ (one, (two, u)). ((sides f s).1 (ap (fill f) l ∙ ap₂ Tree.pair one two ∙ ap (fill f) (sym r)), u),
-      λ (same, u). (let pairs : Tree.pair (fill f first.left) (fill f rest.left) ≡ Tree.pair (fill f first.right) (fill f rest.right) =
-          ap (fill f) (sym l) ∙ (sides f s).0 same ∙ ap (fill f) r in (cc, (cc, u))),
-    ))
+      let (l, r) = met_says V bound e (Meeting.parts first rest) h in (
+        λ (one, (two, u)). ((sides f s).1 (ap (fill f) l ∙ ap₂ Tree.pair one two ∙ ap (fill f) (sym r)), u),
+        λ (same, u). (let pairs : Tree.pair (fill f first.left) (fill f rest.left) ≡ Tree.pair (fill f first.right) (fill f rest.right) =
+            ap (fill f) (sym l) ∙ (sides f s).0 same ∙ ap (fill f) r in (cc, (cc, u))),
+      ))
 
   after_binding : (x : ℕ) (t : Tm) → met bound e ≡ Meeting.binding x t → (r : Option (List (Tm × Tm))) → Outcome V ((x, t) ∷ bound) es r →
       Outcome V bound (e ∷ es) (option_map (λ more. (Tree.leaf x, t) ∷ more) r)
@@ -76,11 +76,15 @@ module _ (V : Type 0) (bound : Pairs) (g : Grown bound) (e : Equation) (es : Lis
       out f ((one_same f x t (walked bound e.left) (walked bound e.right) one).0 ((sides f s).0 same), s) u
   after_binding x t h (Some added) (new, put, gn, exact) =
       let (one, other, leftmost) = met_says V bound e (Meeting.binding x t) h in
-      let (unbound, walks) = one_ends bound g e.left e.right x t one in
-      (new, (x, refl, unbound, walks, put), gn, λ f. (
-        λ s. (let ((known, old), u) = (exact f).0 s in (old, ((sides f old).1 ((one_same f x t (walked bound e.left) (walked bound e.right) one).1 known), u))),
-        λ s (same, u). (exact f).1 ((one_same f x t (walked bound e.left) (walked bound e.right) one).0 ((sides f s).0 same), s) u,
-      ))
+      let (unbound, walks) = one_ends bound g e.left e.right x t one in (
+        new,
+        (x, refl, unbound, walks, put),
+        gn,
+        λ f. (
+          λ s. (let ((known, old), u) = (exact f).0 s in (old, ((sides f old).1 ((one_same f x t (walked bound e.left) (walked bound e.right) one).1 known), u))),
+          λ s (same, u). (exact f).1 ((one_same f x t (walked bound e.left) (walked bound e.right) one).0 ((sides f s).0 same), s) u,
+        ),
+      )
 
   after_inside : (x : ℕ) (t : Tm) → met bound e ≡ Meeting.binding x t → occurs x (full bound t) ≡ true → Outcome V bound (e ∷ es) None
   after_inside x t h inside f s (same, u) =

@@ -117,7 +117,7 @@ way-unbound [] v h = refl
 way-unbound (p ∷ older) v h =
     let (other, none) = unbound_parts p older v h in
     let here : ways p.0 (suc (way older p.1)) (walked older (Tree.leaf v)) ≡ 0 =
-        ap (ways p.0 (suc (way older p.1))) (walked-unbound older v none) ∙ ap (λ c. if c then suc (way older p.1) else 0) (eqb-turn p.0 v ∙ other) in
+    ap (ways p.0 (suc (way older p.1))) (walked-unbound older v none) ∙ ap (λ c. if c then suc (way older p.1) else 0) (eqb-turn p.0 v ∙ other) in
     omega (arith, way-unbound older v none, here)
 
 ways-past : (x n : ℕ) (u : Tm) → u ≢ Tree.leaf x → ways x n u ≡ 0
@@ -135,11 +135,11 @@ way-bound (p ∷ older) (fresh, out, g) v u h = by (eqb v p.0) refl (way-bound o
         let known : Some p.1 ≡ Some u = sym (bound-newest p older v e) ∙ h in
         let term : p.1 ≡ u = cc in
         let there : ways p.0 (suc (way older p.1)) (walked older (Tree.leaf v)) ≡ suc (way older p.1) =
-            ap (ways p.0 (suc (way older p.1))) (walked-unbound older v none) ∙ ap (λ c. if c then suc (way older p.1) else 0) (eqb-turn p.0 v ∙ e) in
+        ap (ways p.0 (suc (way older p.1))) (walked-unbound older v none) ∙ ap (λ c. if c then suc (way older p.1) else 0) (eqb-turn p.0 v ∙ e) in
         let past : ways p.0 (suc (way older p.1)) (walked older p.1) ≡ 0 = ways-past p.0 (suc (way older p.1)) (walked older p.1) (not_reached p older (fresh, out, g)) in
         subst (λ t. way (p ∷ older) (Tree.leaf v) ≡ suc (way (p ∷ older) t)) term (omega (arith, way-unbound older v none, there, past))
     by false e ih =
         let known = sym (bound-older p older v e) ∙ h in
         let same : ways p.0 (suc (way older p.1)) (walked older (Tree.leaf v)) ≡ ways p.0 (suc (way older p.1)) (walked older u) =
-            ap (ways p.0 (suc (way older p.1))) (walked-bound older g v u known) in
+        ap (ways p.0 (suc (way older p.1))) (walked-bound older g v u known) in
         omega (arith, ih known, same)

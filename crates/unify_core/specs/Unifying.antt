@@ -1,5 +1,5 @@
 -- Unification over bindings, case by case, which says what is bound and in which order.
-use Rattle.std.specs.Prelude.{◌≡◌, ℕ, true, false, eqb, List, [], ◌∷◌, Option, Some, None, option_map, if◌then◌else◌}
+use Rattle.std.specs.Prelude.{◌≡◌, ℕ, Bool, true, false, eqb, List, [], ◌∷◌, Option, Some, None, option_map, if◌then◌else◌}
 use Rattle.kan_terms.specs.Tree.{Tree, Tm, occurs, term_eq}
 use Rattle.kan_model.specs.Stores.{Equation}
 use Rattle.unify_core.specs.Walking.{Pairs, walked, full}
@@ -12,13 +12,22 @@ pub data Meeting : Type 0 where
   parts : Equation → Equation → Meeting
   clash : Meeting
 
--- the left variable is bound, else the right one, else pairs are taken apart, and all else must be the same
+-- two terms that are no pairs are the same
+abbrev pub same_atoms : Tm → Tm → Bool
+same_atoms (Tree.pair a b) t = false
+same_atoms s t = term_eq s t
+
+-- pairs are taken apart, the first parts before the rests, and all else must be the same
+abbrev pub taken_apart : Tm → Tm → Meeting
+taken_apart (Tree.pair a b) (Tree.pair c d) = Meeting.parts (equation a c) (equation b d)
+taken_apart a b = if same_atoms a b then Meeting.nothing else Meeting.clash
+
+-- the left variable is bound, else the right one, else pairs are taken apart
 abbrev pub meeting : Tm → Tm → Meeting
 meeting (Tree.leaf x) (Tree.leaf y) = if eqb x y then Meeting.nothing else Meeting.binding x (Tree.leaf y)
 meeting (Tree.leaf x) t = Meeting.binding x t
 meeting t (Tree.leaf y) = Meeting.binding y t
-meeting (Tree.pair a b) (Tree.pair c d) = Meeting.parts (equation a c) (equation b d)
-meeting a b = if term_eq a b then Meeting.nothing else Meeting.clash
+meeting a b = taken_apart a b
 
 -- what the two sides of an equation ask for under bindings
 abbrev pub met : Pairs → Equation → Meeting

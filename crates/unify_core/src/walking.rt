@@ -35,11 +35,7 @@ fn find<'a, B: Bindings>(var: u64, bindings: &'a B, lent: &[Lent<'a>]) -> Option
 }
 
 /// What a term walks to under bindings with lent ones in front of them.
-pub fn walk_on<'a, B: Bindings>(
-    term: &'a Term,
-    bindings: &'a B,
-    lent: &[Lent<'a>],
-) -> &'a Term
+pub fn walk_on<'a, B: Bindings>(term: &'a Term, bindings: &'a B, lent: &[Lent<'a>]) -> &'a Term
     requires { HasNoCycle (with_lent lent.now (B.pairs bindings.now)) }
     ensures { tree result.now ≡ walked (with_lent lent.now (B.pairs bindings.now)) (tree term.now) }
 {
