@@ -1,10 +1,10 @@
 //! Unification: the bindings under which two terms are the same.
 
-ghost use Rattle.std.specs.Prelude.{◌≡◌, ◌≢◌, ◌↔◌, ◌++◌, [], ◌∷◌, ℕ, map, IfOk, IfSome, OnOk, None};
+ghost use Rattle.std.specs.Prelude.{◌≡◌, ◌↔◌, ◌++◌, [], ◌∷◌, ℕ, map, IfOk, IfSome, None};
 ghost use Rattle.std.specs.Option.{option_map};
 ghost use Rattle.kan_model.specs.Solve as solver;
 ghost use Rattle.kan_terms.specs.Terms.{sides, tree};
-ghost use Rattle.kan_terms.specs.Tree.{Gd, Tree, fill};
+ghost use Rattle.kan_terms.specs.Tree.{Gd, fill};
 ghost use Rattle.unify_core.specs.Cycles.{HasNoCycle};
 ghost use Rattle.unify_core.specs.Lent as lending;
 ghost use Rattle.unify_core.specs.Lent.{Binds, Fresh, Parts, StepTo, lent_sides, waiting_equations, with_lent};
