@@ -1,5 +1,6 @@
 pub mod AnswerLaws
 pub mod CycleLaws
+mod Examples
 pub mod Grown
 pub mod CentralLaw
 pub mod LeftLaws
