@@ -8,6 +8,7 @@ pub mod LentLaws
 pub mod LoadLaws
 pub mod MeetingLaws
 pub mod OccursSteps
+pub mod OneAnswer
 pub mod SolutionLaws
 pub mod UnifyClauses
 pub mod UnifySteps

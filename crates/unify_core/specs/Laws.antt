@@ -1,12 +1,14 @@
 -- What walking and full values are, and what ties bindings in which nothing is replaced to the solver's replacement.
-use Rattle.std.specs.Prelude.{◌≡◌, ◌↔◌, ℕ, Some, None}
+use Rattle.std.specs.Prelude.{◌≡◌, ◌↔◌, ℕ, List, Option, Some, None}
 use Rattle.kan_terms.specs.Tree.{Tree, Tm, Gd}
 use Rattle.kan_terms.specs.Bound.{bound_to}
+use Rattle.kan_model.specs.Stores.{Equation}
 use Rattle.kan_model.specs.Solve.{Replacement, apply, solve}
 use Rattle.kan_model.specs.Unifiers.{Factors}
 use Rattle.unify_core.specs.Walking.{Pairs, walked, full}
 use Rattle.unify_core.specs.Cycles.{HasNoCycle}
 use Rattle.unify_core.specs.Solutions.{IsSolution, bindings_solved}
+use Rattle.unify_core.specs.Unifying.{Unifying}
 
 -- a term is no bound variable
 abbrev pub IsEnd : Pairs → Tm → Type 0
@@ -28,3 +30,8 @@ pub record FullValues : Type 0 where
 abbrev pub BindingsReplace : Type 0
 BindingsReplace = (bound : Pairs) → HasNoCycle bound → (s : Replacement) × (solve (bindings_solved bound) ≡ Some s)
     × ((f : ℕ → Gd) → IsSolution f bound ↔ Factors f s) × ((t : Tm) → full bound t ≡ apply s t)
+
+-- unification over bindings comes to an end, and adds one list or none
+pub record AddsOne : Type 0 where
+  pub comes_to_end : (bound : Pairs) (es : List Equation) → HasNoCycle bound → (added : Option (List (Tm × Tm))) × Unifying bound es added
+  pub is_one : (bound : Pairs) (es : List Equation) (added other : Option (List (Tm × Tm))) → Unifying bound es added → Unifying bound es other → added ≡ other

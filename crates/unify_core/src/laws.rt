@@ -1,6 +1,6 @@
 //! Laws of the definitions. Each function has its law for its contract, and does nothing.
 
-ghost use Rattle.unify_core.specs.Laws.{BindingsReplace, FullValues, WalksToEnd};
+ghost use Rattle.unify_core.specs.Laws.{AddsOne, BindingsReplace, FullValues, WalksToEnd};
 
 /// Walking follows bound variables to the end.
 #[tactic(auto, using(crate::proofs::CentralLaw::walks_to_end))]
@@ -19,4 +19,10 @@ pub fn full_values_follow()
 #[tactic(auto, using(crate::proofs::CentralLaw::bindings_replace))]
 pub fn bindings_are_a_replacement()
     ensures { BindingsReplace }
+{}
+
+/// What unification adds, and in which order, is one list.
+#[tactic(auto, using(crate::proofs::OneAnswer::adds_one))]
+pub fn unification_adds_one_list()
+    ensures { AddsOne }
 {}

@@ -6,11 +6,9 @@ ghost use Rattle.kan_model.specs.Solve as solver;
 ghost use Rattle.kan_terms.specs.Terms.{sides, tree};
 ghost use Rattle.kan_terms.specs.Tree.{Gd, fill};
 ghost use Rattle.unify_core.specs.Cycles.{HasNoCycle};
-ghost use Rattle.unify_core.specs.Lent as lending;
-ghost use Rattle.unify_core.specs.Lent.{Binds, Fresh, Parts, StepTo, lent_sides, waiting_equations, with_lent};
+ghost use Rattle.unify_core.specs.Lent.{Binds, Fresh, Parts, StepTo, equation_of, lent_sides, waiting_equations, with_lent};
 ghost use Rattle.unify_core.specs.Solutions.{AddedTo, IsSolution, bindings_solved, equation};
-ghost use Rattle.unify_core.specs.Unifying as spec;
-ghost use Rattle.unify_core.specs.Unifying.{Unifying, met};
+ghost use Rattle.unify_core.specs.Unifying.{Unifying, met, same_atoms, taken_apart};
 
 use crate::occurring::{is_variable, occurs_on};
 use crate::walking::{Lent, walk_on};
@@ -35,7 +33,7 @@ struct Sides<'a> {
 
 // Whether two terms are the same, where the left one is no pair.
 fn same_atom(left: &Term, right: &Term) -> bool
-    ensures { result ≡ spec.same_atoms (tree left.now) (tree right.now) }
+    ensures { result ≡ same_atoms (tree left.now) (tree right.now) }
 {
     match left {
         Term::Var(var) => is_variable(right, *var),
@@ -54,7 +52,7 @@ fn take_apart<'a>(
     waiting: &mut Vec<Sides<'a>>,
 ) -> Result<bool, Memory>
     ensures { IfOk result (λ goes_on. Parts (waiting_equations waiting.old.items) goes_on (waiting_equations waiting.new.items)
-        (spec.taken_apart (tree left.now) (tree right.now))) }
+        (taken_apart (tree left.now) (tree right.now))) }
 {
     let Term::Pair(left_parts) = left else {
         return Ok(same_atom(left, right));
@@ -102,7 +100,7 @@ fn step<'a, B: Bindings>(
     requires { HasNoCycle (with_lent lent.old.items (B.pairs bindings.now)) }
     ensures { IfOk result (λ goes_on. StepTo (B.pairs bindings.now) lent.old.items (waiting_equations waiting.old.items)
         goes_on lent.new.items (waiting_equations waiting.new.items)
-        (met (with_lent lent.old.items (B.pairs bindings.now)) (lending.equation_of next.entry))) }
+        (met (with_lent lent.old.items (B.pairs bindings.now)) (equation_of next.entry))) }
 {
     let left = walk_on(next.left, bindings, lent);
     let right = walk_on(next.right, bindings, lent);
