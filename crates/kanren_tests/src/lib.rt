@@ -7,3 +7,5 @@ mod outside;
 mod reading;
 #[cfg(test)]
 mod top;
+#[cfg(test)]
+mod unifying;
