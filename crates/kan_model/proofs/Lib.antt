@@ -36,3 +36,6 @@ mod RefusalExamples
 mod Sound
 mod TokenExamples
 mod WordExamples
+pub mod TableLaws
+pub mod NoteLaws
+pub mod RowLaws
