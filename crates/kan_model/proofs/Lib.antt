@@ -39,3 +39,5 @@ mod WordExamples
 pub mod TableLaws
 pub mod NoteLaws
 pub mod RowLaws
+pub mod ScopeLaws
+pub mod EntryLaws

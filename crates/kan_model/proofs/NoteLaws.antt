@@ -1,10 +1,10 @@
 -- What rows note of their trees.
 use Rattle.std.proofs.Common.{◌≡◌, ℕ, suc, zero, ◌+◌, ◌-◌, ◌<◌, ◌≤◌, ◌^◌, Bool, true, false, List, [], ◌∷◌, ◌++◌, length, map, take, drop, get_or, refl, sym, ◌∙◌, ap, ap₂, arith, append_assoc, append-nil, min, max}
-use Rattle.std.specs.Prelude.{◌&&◌, nat_lt, nat_le, slice_get, unwrap_or, Some, None, option_map}
+use Rattle.std.specs.Prelude.{◌&&◌, nat_lt, nat_le, slice_get, unwrap_or, Some, None, Option, option_map}
 use Rattle.std.specs.List.{list_all}
 use Rattle.std.proofs.lemmas.Bool.{and_from, and_parts, leb-true, le-leb, ltb-true, lt-ltb}
 use Rattle.std.proofs.lemmas.List.{map-append, length-append, length-map}
-use Rattle.std.proofs.lemmas.Option.{unwrap_or-slice_get}
+use Rattle.std.proofs.lemmas.Option.{unwrap_or-slice_get, slice_get-map}
 use Rattle.std.proofs.lemmas.List.{take_more}
 use Rattle.kan_terms.specs.Tree.{Tree}
 use Rattle.kan_model.specs.Goals.{Template, Goal, Primitive}
@@ -46,3 +46,18 @@ slots-step ts is n most so_far within =
 -- the noted height of a pair
 pub pair-height : (a b : Template) (x y : ℕ) → x ≡ noted_height a → y ≡ noted_height b → min (max x y) 2048 + 1 ≡ noted_height (Tree.pair a b)
 pair-height a b x y left right = omega (arith, left, right)
+
+-- what is read of a row, where all rows note it
+pub noted-read : {R X : Type 0} (f : R → ℕ) (g : X → ℕ) (rows : List R) (xs : List X) (at : ℕ) (found : Option R) →
+    map f rows ≡ map g xs → found ≡ slice_get rows at → option_map f found ≡ option_map g (slice_get xs at)
+noted-read f g rows xs at found all is =
+    ap (option_map f) is ∙ sym (slice_get-map f rows at) ∙ ap (λ ns. slice_get ns at) all ∙ slice_get-map g xs at
+
+-- a goal that is there needs what its row notes
+pub found-needs : {R : Type 0} (f : R → ℕ) (rows : List R) (gs : List Goal) (at : ℕ) (row : R) →
+    map f rows ≡ map goal_slots gs → Some row ≡ slice_get rows at → f row ≡ goal_slots (goal_at gs at)
+found-needs f rows gs at row all is = go (slice_get gs at) (noted-read f goal_slots rows gs at (Some row) all is)
+  where
+    go : (o : Option Goal) → Some (f row) ≡ option_map goal_slots o → f row ≡ goal_slots (unwrap_or o Goal.fail)
+    go None e = cc
+    go (Some g) e = cc

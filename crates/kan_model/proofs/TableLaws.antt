@@ -62,7 +62,7 @@ all-like : (p q : ℕ → Bool) → ((n : ℕ) → p n ≡ true → q n ≡ true
 all-like p q f [] h = refl
 all-like p q f (x ∷ xs) h = let (first, rest) = and_parts (p x) (list_all p xs) h in and_from (q x) (list_all q xs) (f x first) (all-like p q f xs rest)
 
-ltb-le : (i n m : ℕ) → n ≤ m → nat_lt i n ≡ true → nat_lt i m ≡ true
+pub ltb-le : (i n m : ℕ) → n ≤ m → nat_lt i n ≡ true → nat_lt i m ≡ true
 ltb-le i n m more h = let below = ltb-true i n h in lt-ltb i m (omega (arith, below, more))
 
 leb-le : (i n m : ℕ) → n ≤ m → nat_le i n ≡ true → nat_le i m ≡ true

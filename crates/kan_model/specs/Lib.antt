@@ -37,3 +37,5 @@ pub mod Notes
 pub mod Drafts
 pub mod Programs
 pub mod Calls
+pub mod Flat
+pub mod Environments

@@ -3,7 +3,7 @@
 ghost use Rattle.std.specs.Prelude.{◌≡◌, ◌<◌, ◌↔◌, ◌^◌, ◌-◌, ◌&&◌, nat_lt, nat_le, min, length, map, true, false, IsTrue, IsSome, slice_get, option_map};
 ghost use Rattle.std.specs.Option.{option_copied};
 ghost use Rattle.std.specs.List.{list_all};
-ghost use Rattle.kan_model.specs.Tables.{nothing_open, goal_at, program_of};
+ghost use Rattle.kan_model.specs.Tables.{nothing_open, goal_at, template_of, program_of};
 ghost use Rattle.kan_model.specs.Needs.{noted_width, goal_slots};
 ghost use Rattle.kan_model.specs.Scope.{is_low, calls_there, body_in_scope, in_scope};
 ghost use Rattle.kan_model.specs.Nodes.{term_entry, goal_entry, relation_entry, goal_place};
@@ -12,7 +12,7 @@ ghost use Rattle.kan_model.specs.Drafts as drafts;
 ghost use Rattle.kan_model.specs.Programs as programs;
 
 use crate::draft::Draft;
-use crate::nodes::{GoalNode, Query, Relation, TermNode};
+use crate::nodes::{GoalNode, GoalRow, Query, Relation, TermNode};
 use crate::program::{CloseRefused, Program};
 
 // Whether a call names a relation that takes so many arguments.
@@ -31,52 +31,62 @@ fn is_call_there(relations: &[Relation], node: GoalNode) -> bool
 impl Draft {
     // Whether all templates are low enough.
     fn are_low(&self) -> bool
-        ensures { result ≡ list_all is_low (drafts.templates self.now) }
+        ensures { result ≡ list_all (λ row. nat_le row.height 2048) self.now.terms.items }
     {
         self.terms.iter().all(|row| row.height <= 2048)
     }
 
     // Whether each call names a relation, and has as many arguments as it takes.
     fn are_calls_there(&self) -> bool
-        ensures { result ≡ list_all (calls_there (program_of (drafts.tables self.now)).relations) (drafts.goals self.now) }
+        ensures { result ≡ list_all (λ row. call_there (map relation_entry self.now.relations.items) (goal_entry row.node)) self.now.goals.items }
     {
-        self.goals.iter().all(|row| is_call_there(&self.relations, row.node))
-    }
-
-    // Whether each body uses only the slots of its arguments.
-    fn are_bodies_in_scope(&self) -> bool
-        ensures { result ≡ list_all body_in_scope (program_of (drafts.tables self.now)).relations }
-    {
-        self.relations
+        self.goals
             .iter()
-            .all(|relation| self.goals[relation.body as usize].slots <= u64::from(relation.params))
+            .all(|row| is_call_there(&self.relations, row.node))
     }
 
-    // Whether a query's goal is there and uses only slot 0.
-    fn is_query_closed(&self, query: &Query) -> bool
-        ensures { result ≡ (nat_lt query.now.goal (length self.now.goals.items) && in_scope 1 (goal_at (drafts.goals self.now) query.now.goal)) }
+    // The row of a goal.
+    fn goal_row(&self, goal: u32) -> Option<&GoalRow>
+        ensures { option_copied result ≡ slice_get self.now.goals.items goal }
     {
-        match self.goals.get(query.goal as usize) {
-            Some(row) => row.slots <= 1,
+        self.goals.get(goal as usize)
+    }
+
+    // Whether a goal is there and uses only so many slots.
+    fn uses_only(&self, goal: u32, slots: u32) -> bool
+        ensures { result ≡ (nat_lt goal (length (drafts.tables self.now).goals) && in_scope slots (goal_at (drafts.goals self.now) goal)) }
+    {
+        match self.goal_row(goal) {
+            Some(row) => row.slots <= u64::from(slots),
             None => false,
         }
     }
 
+    // Whether each body uses only the slots of its arguments.
+    fn are_bodies_in_scope(&self) -> bool
+        ensures { result ≡ list_all (λ r. nat_lt r.body (length (drafts.tables self.now).goals) && in_scope r.params (goal_at (drafts.goals self.now) r.body)) self.now.relations.items }
+    {
+        self.relations
+            .iter()
+            .all(|relation| self.uses_only(relation.body, relation.params))
+    }
+
     // Whether the goals of all queries are there and use only slot 0.
     fn are_queries_closed(&self, queries: &[Query]) -> bool
-        ensures { result ≡ list_all (λ query. nat_lt query.goal (length self.now.goals.items) && in_scope 1 (goal_at (drafts.goals self.now) query.goal)) queries.now }
+        ensures { result ≡ list_all (λ query. nat_lt query.goal (length (drafts.tables self.now).goals) && in_scope 1 (goal_at (drafts.goals self.now) query.goal)) queries.now }
     {
-        queries.iter().all(|query| self.is_query_closed(query))
+        queries.iter().all(|query| self.uses_only(query.goal, 1))
     }
 
     // Whether nothing is open.
     fn is_closed(&self, queries: &[Query]) -> bool
         ensures { result ≡ nothing_open (drafts.tables self.now) (map goal_place queries.now) }
     {
-        self.are_low()
-            && self.are_calls_there()
-            && self.are_bodies_in_scope()
-            && self.are_queries_closed(queries)
+        let low = self.are_low();
+        let calls = self.are_calls_there();
+        let bodies = self.are_bodies_in_scope();
+        let asked = self.are_queries_closed(queries);
+        low & calls & bodies & asked
     }
 
     /// Makes a program of the draft, where nothing in it and in the goals of the queries is open.
@@ -99,6 +109,16 @@ impl Program {
         match self.draft.terms.get(at as usize) {
             Some(row) => Some(&row.node),
             None => None,
+        }
+    }
+
+    // The template at a place, and the empty list past the end.
+    pub(crate) fn template_node(&self, at: u32) -> TermNode
+        ensures { programs.template self.now at ≡ template_of (programs.templates self.now) (term_entry result) }
+    {
+        match self.term(at) {
+            Some(node) => *node,
+            None => TermNode::Nil,
         }
     }
 
@@ -131,7 +151,7 @@ impl Program {
     pub fn width(&self, at: u32) -> Option<u32>
         ensures { result ≡ option_map noted_width (slice_get (programs.goals self.now) at) }
     {
-        match self.draft.goals.get(at as usize) {
+        match self.draft.goal_row(at) {
             Some(row) => Some(row.width),
             None => None,
         }

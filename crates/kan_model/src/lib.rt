@@ -4,6 +4,7 @@
 pub mod laws;
 mod closing;
 mod draft;
+mod environment;
 mod letters;
 mod nodes;
 mod plain;
@@ -14,6 +15,7 @@ mod solving;
 mod stores;
 
 pub use draft::Draft;
+pub use environment::Env;
 pub use letters::{Letter, build, occurs_in, same_terms, spell};
 pub use nodes::{GoalNode, Query, Relation, TermNode};
 pub use plain::PlainStore;
