@@ -1,11 +1,11 @@
 -- The tree at a place is that of the entry there.
-use Rattle.std.proofs.Common.{◌≡◌, ℕ, suc, zero, ◌+◌, ◌<◌, ◌≤◌, Bool, true, false, List, [], ◌∷◌, ◌++◌, length, refl, sym, ◌∙◌, ap, ap₂, arith, get_or, add-zero, zero-add, map, take, drop}
-use Rattle.std.specs.Prelude.{◌&&◌, nat_lt, nat_le, slice_get, unwrap_or, Some, None, Option, option_map}
-use Rattle.std.proofs.lemmas.Bool.{and_from, and_parts, leb-true, ltb-true}
+use Rattle.std.proofs.Common.{◌≡◌, ℕ, suc, zero, ◌+◌, ◌<◌, ◌≤◌, true, List, [], ◌∷◌, ◌++◌, length, refl, sym, ◌∙◌, ap, ap₂, arith, add-zero, zero-add}
+use Rattle.std.specs.Prelude.{nat_lt, slice_get, unwrap_or, Some, None, Option}
+use Rattle.std.proofs.lemmas.Bool.{and_parts, ltb-true}
 use Rattle.std.proofs.lemmas.List.{length-append}
 use Rattle.kan_terms.specs.Tree.{Tree}
-use Rattle.kan_model.specs.Goals.{Template, Goal, Primitive}
-use Rattle.kan_model.specs.Tables.{TermEntry, GoalEntry, RelationEntry, Tables, template_at, goal_at, template_of, templates_after, templates_of, goal_of, goals_after, goals_of, arguments_at, is_term_grown, terms_grown, is_goal_grown, goals_grown, is_grown}
+use Rattle.kan_model.specs.Goals.{Template, Goal}
+use Rattle.kan_model.specs.Tables.{TermEntry, GoalEntry, Tables, template_at, goal_at, template_of, templates_after, templates_of, goal_of, goals_after, goals_of, is_term_grown, terms_grown, is_goal_grown, goals_grown, is_grown}
 use Rattle.kan_model.proofs.TableLaws.{template_at-more, grown-parts, templates-length}
 use Rattle.std.proofs.lemmas.Option.{slice_get_past}
 

@@ -41,3 +41,4 @@ pub mod NoteLaws
 pub mod RowLaws
 pub mod ScopeLaws
 pub mod EntryLaws
+pub mod EnvironmentLaws

@@ -1,15 +1,12 @@
 -- What rows note of their trees.
-use Rattle.std.proofs.Common.{◌≡◌, ℕ, suc, zero, ◌+◌, ◌-◌, ◌<◌, ◌≤◌, ◌^◌, Bool, true, false, List, [], ◌∷◌, ◌++◌, length, map, take, drop, get_or, refl, sym, ◌∙◌, ap, ap₂, arith, append_assoc, append-nil, min, max}
-use Rattle.std.specs.Prelude.{◌&&◌, nat_lt, nat_le, slice_get, unwrap_or, Some, None, Option, option_map}
-use Rattle.std.specs.List.{list_all}
-use Rattle.std.proofs.lemmas.Bool.{and_from, and_parts, leb-true, le-leb, ltb-true, lt-ltb}
-use Rattle.std.proofs.lemmas.List.{map-append, length-append, length-map}
+use Rattle.std.proofs.Common.{◌≡◌, ℕ, suc, zero, ◌+◌, ◌<◌, List, [], ◌∷◌, ◌++◌, length, map, take, get_or, refl, sym, ◌∙◌, ap, ap₂, arith, min, max}
+use Rattle.std.specs.Prelude.{slice_get, unwrap_or, Some, None, Option, option_map}
+use Rattle.std.proofs.lemmas.List.{map-append, length-map}
 use Rattle.std.proofs.lemmas.Option.{unwrap_or-slice_get, slice_get-map}
 use Rattle.std.proofs.lemmas.List.{take_more}
 use Rattle.kan_terms.specs.Tree.{Tree}
-use Rattle.kan_model.specs.Goals.{Template, Goal, Primitive}
-use Rattle.kan_model.specs.Scope.{height, width}
-use Rattle.kan_model.specs.Needs.{slots, most_slots, goal_slots, noted_height, noted_width}
+use Rattle.kan_model.specs.Goals.{Template, Goal}
+use Rattle.kan_model.specs.Needs.{slots, most_slots, goal_slots, noted_height}
 use Rattle.kan_model.specs.Tables.{template_at, goal_at}
 
 -- an element of a list of numbers that is made from another list

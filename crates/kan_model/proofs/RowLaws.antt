@@ -1,13 +1,12 @@
 -- Rows that are pushed: tables stay grown, and each row notes what its tree has.
-use Rattle.std.proofs.Common.{◌≡◌, ℕ, ◌+◌, ◌<◌, ◌≤◌, Bool, true, false, List, [], ◌∷◌, ◌++◌, length, map, take, drop, get_or, refl, sym, ◌∙◌, ap, ap₂, subst, arith, if◌then◌else◌, min, max}
+use Rattle.std.proofs.Common.{◌≡◌, ℕ, Bool, true, false, List, [], ◌∷◌, ◌++◌, length, map, sym, ◌∙◌, ap, subst, if◌then◌else◌}
 use Rattle.std.specs.Prelude.{IsTrue}
 use Rattle.std.proofs.lemmas.List.{map-append}
-use Rattle.kan_model.specs.Goals.{Template, Goal}
 use Rattle.kan_model.specs.Needs.{slots, goal_slots, noted_height, noted_width}
-use Rattle.kan_model.specs.Tables.{TermEntry, GoalEntry, Tables, template_of, goal_of, templates_of, goals_of, is_term_grown, is_goal_grown, is_grown, with_term, with_argument, with_goal}
+use Rattle.kan_model.specs.Tables.{Tables, template_of, goal_of, templates_of, goals_of, is_term_grown, is_goal_grown, is_grown, with_term, with_goal}
 use Rattle.kan_model.specs.Nodes.{term_entry, goal_entry, term_entries, goal_entries, tables_from}
 use Rattle.kan_model.specs.Notes.{HeightsNoted, SlotsNoted, WidthsNoted, GoalSlotsNoted}
-use Rattle.kan_model.proofs.TableLaws.{templates-more, goals-more, goals-with_term, goals-with_argument, grown-with_term, grown-with_argument, grown-with_goal}
+use Rattle.kan_model.proofs.TableLaws.{templates-more, goals-more, goals-with_term, grown-with_term, grown-with_goal}
 use Rattle.kan_model.proofs.NoteLaws.{noted-more}
 use Rattle.kan_model.specs.declared.nodes.TermRow.{TermRow}
 use Rattle.kan_model.specs.declared.nodes.GoalRow.{GoalRow}

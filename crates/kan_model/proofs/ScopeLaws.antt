@@ -1,19 +1,19 @@
 -- How many slots are needed says which goals are in scope, and what rows note says which tables are closed.
-use Rattle.std.proofs.Common.{◌≡◌, ℕ, suc, zero, ◌+◌, ◌-◌, ◌<◌, ◌≤◌, ◌^◌, Bool, true, false, List, [], ◌∷◌, ◌++◌, length, map, take, drop, get_or, refl, sym, ◌∙◌, ap, ap₂, arith, append_assoc, min, max, length-drop}
-use Rattle.std.specs.Prelude.{◌&&◌, nat_lt, nat_le, eqb, slice_get, unwrap_or, Some, None, Option, option_map, IsTrue}
+use Rattle.std.proofs.Common.{◌≡◌, ℕ, suc, zero, ◌+◌, ◌-◌, ◌≤◌, Bool, true, false, List, [], ◌∷◌, ◌++◌, length, map, take, drop, refl, sym, ◌∙◌, ap, ap₂, arith, max, length-drop}
+use Rattle.std.specs.Prelude.{◌&&◌, nat_lt, nat_le, slice_get, Some, None, Option, option_map}
 use Rattle.std.specs.List.{list_all}
 use Rattle.std.proofs.lemmas.Bool.{and_from, and_parts, leb-true, le-leb, ltb-true, lt-ltb}
-use Rattle.std.proofs.lemmas.List.{map-append, length-append, length-map}
+use Rattle.std.proofs.lemmas.List.{length-map}
 use Rattle.std.proofs.lemmas.List.Folds.{list_all-append, list_all-map}
-use Rattle.std.proofs.lemmas.Option.{unwrap_or-slice_get, slice_get-map, slice_get_within}
+use Rattle.std.proofs.lemmas.Option.{slice_get-map, slice_get_within}
 use Rattle.kan_terms.specs.Tree.{Tree}
 use Rattle.kan_model.specs.Goals.{Template, Goal, Primitive, Relation}
-use Rattle.kan_model.specs.Scope.{height, width, is_low, all_below, sides_below, in_scope, takes, calls_there, body_in_scope, is_closed}
-use Rattle.kan_model.specs.Needs.{slots, most_slots, sides_slots, goal_slots, noted_height, noted_width}
+use Rattle.kan_model.specs.Scope.{height, is_low, all_below, sides_below, in_scope, takes, calls_there, body_in_scope, is_closed}
+use Rattle.kan_model.specs.Needs.{slots, most_slots, sides_slots, goal_slots, noted_height}
 use Rattle.kan_model.specs.Calls.{call_there, entry_takes}
-use Rattle.kan_model.specs.Tables.{TermEntry, GoalEntry, RelationEntry, Tables, template_at, goal_at, templates_of, goals_of, goal_of, goals_after, arguments_at, program_of, is_grown, is_goal_grown, goals_grown, nothing_open}
+use Rattle.kan_model.specs.Tables.{GoalEntry, RelationEntry, Tables, template_at, goal_at, templates_of, goals_of, goal_of, goals_after, arguments_at, program_of, is_grown, is_goal_grown, goals_grown, nothing_open}
 use Rattle.kan_model.proofs.NoteLaws.{found-needs}
-use Rattle.kan_model.proofs.TableLaws.{Grown, grown-parts, goals-length}
+use Rattle.kan_model.proofs.TableLaws.{grown-parts}
 
 -- two tests that follow from each other are the same
 pub same-tests : (p q : Bool) → (p ≡ true → q ≡ true) → (q ≡ true → p ≡ true) → p ≡ q
@@ -26,7 +26,7 @@ leb-max a b n =
     same-tests _ _
     (λ h. let most = leb-true (max a b) n h in and_from _ _ (le-leb a n (omega (arith, most))) (le-leb b n (omega (arith, most))))
     (λ h. let (left, right) = and_parts (nat_le a n) (nat_le b n) h in
-          let one = leb-true a n left in let two = leb-true b n right in le-leb (max a b) n (omega (arith, one, two)))
+    let one = leb-true a n left in let two = leb-true b n right in le-leb (max a b) n (omega (arith, one, two)))
 
 leb-none : (n : ℕ) → nat_le 0 n ≡ true
 leb-none n = le-leb 0 n (omega arith)
@@ -62,7 +62,7 @@ scope-slots n (Goal.either g h) = ap₂ (λ p q. p && q) (scope-slots n g) (scop
 scope-slots n (Goal.fresh k g) =
     scope-slots (n + k) g
     ∙ same-tests _ _ (λ h. let most = leb-true (goal_slots g) (n + k) h in le-leb (goal_slots g - k) n (omega (arith, most)))
-      (λ h. let most = leb-true (goal_slots g - k) n h in le-leb (goal_slots g) (n + k) (omega (arith, most)))
+    (λ h. let most = leb-true (goal_slots g - k) n h in le-leb (goal_slots g) (n + k) (omega (arith, most)))
 scope-slots n (Goal.call r args) = all-slots n args
 
 -- a noted height says whether a template is low
@@ -121,6 +121,7 @@ calls-entry all rs tables n ts gs (GoalEntry.call r at k) grown h =
     take-length zero xs within = refl
     take-length (suc m) [] within = omega (arith, within)
     take-length (suc m) (x ∷ xs) within = let rest = take-length m xs (omega (arith, within)) in omega (arith, rest)
+
     arguments-length : (us : List Template) (args : List ℕ) (from count : ℕ) → from + count ≤ length args → length (arguments_at us args from count) ≡ count
     arguments-length us args from count within =
         let left = length-drop from args in
@@ -139,7 +140,7 @@ calls-after all rs tables n ts gs (e ∷ es) grown =
     calls-after all rs tables (suc n) ts (gs ++ goal_of ts tables.arguments gs e ∷ []) es rest
     ∙ ap (λ b. b && list_all (call_there rs) es) (list_all-append (calls_there (relations_with all rs)) gs (goal_of ts tables.arguments gs e ∷ []))
     ∙ go (list_all (calls_there (relations_with all rs)) gs) (calls_there (relations_with all rs) (goal_of ts tables.arguments gs e)) (call_there rs e) (list_all (call_there rs) es)
-      (calls-entry all rs tables n ts gs e first)
+    (calls-entry all rs tables n ts gs e first)
   where
     go : (b p q r : Bool) → (b ≡ true → p ≡ q) → ((b && (p && true)) && r) ≡ (b && (q && r))
     go false p q r f = refl
@@ -182,9 +183,9 @@ pub tests-say : (tables : Tables) (qs : List ℕ) (low calls bodies_fit : Bool) 
     (low && calls && bodies_fit && list_all (λ q. nat_lt q (length tables.goals) && in_scope 1 (goal_at (goals_of tables) q)) qs) ≡ nothing_open tables qs
 tests-say tables qs low calls bodies_fit grown is_low_test is_calls_test is_bodies_test =
     ap₂ (λ p q. p && q) (ap₂ (λ p q. p && q) (ap₂ (λ p q. p && q) is_low_test (is_calls_test ∙ all-calls tables grown)) (is_bodies_test ∙ all-bodies tables grown))
-      (queries (goals_of tables) (length tables.goals) qs)
+    (queries (goals_of tables) (length tables.goals) qs)
     ∙ moved (list_all is_low (templates_of tables.terms)) (list_all (calls_there (program_of tables).relations) (goals_of tables)) (list_all body_in_scope (program_of tables).relations)
-      (list_all (λ g. nat_lt g (length tables.goals)) qs) (list_all (in_scope 1) (map (goal_at (goals_of tables)) qs))
+    (list_all (λ g. nat_lt g (length tables.goals)) qs) (list_all (in_scope 1) (map (goal_at (goals_of tables)) qs))
   where
     moved : (a b c d e : Bool) → ((a && b && c) && (d && e)) ≡ (d && (a && b && c && e))
     moved true true true d e = refl

@@ -1,15 +1,15 @@
 -- Tables that grow: an entry more changes nothing that stood before it.
-use Rattle.std.proofs.Common.{◌≡◌, ℕ, suc, ◌+◌, ◌<◌, ◌≤◌, Bool, true, false, List, [], ◌∷◌, ◌++◌, length, map, take, drop, get_or, zero, ◌-◌, add-zero, zero-add, length-drop, refl, sym, ◌∙◌, ap, ap₂, Option, Some, None, arith, ltb-true, lt-ltb, append_assoc, append-nil, min, max}
-use Rattle.std.specs.Prelude.{◌&&◌, nat_lt, nat_le, slice_get, unwrap_or, option_map}
+use Rattle.std.proofs.Common.{◌≡◌, ℕ, suc, ◌+◌, ◌<◌, ◌≤◌, Bool, true, List, [], ◌∷◌, ◌++◌, length, map, take, drop, zero, ◌-◌, add-zero, zero-add, length-drop, refl, sym, ◌∙◌, ap, ap₂, arith, ltb-true, lt-ltb}
+use Rattle.std.specs.Prelude.{◌&&◌, nat_lt, nat_le}
 use Rattle.std.specs.List.{list_all}
 use Rattle.std.proofs.lemmas.Bool.{and_from, and_parts, leb-true, le-leb}
-use Rattle.std.proofs.lemmas.List.{map-append, length-append, length-map, take-append-le, drop-append-le}
+use Rattle.std.proofs.lemmas.List.{length-append, take-append-le, drop-append-le}
 use Rattle.std.proofs.lemmas.List.Folds.{list_all-append}
-use Rattle.std.proofs.lemmas.Option.{slice_get-map, unwrap_or-slice_get, slice_get_within, slice_get-get_or}
+use Rattle.std.proofs.lemmas.Option.{unwrap_or-slice_get}
 use Rattle.std.proofs.Math.ListN.{get_or-append}
 use Rattle.kan_terms.specs.Tree.{Tree}
 use Rattle.kan_model.specs.Goals.{Template, Goal, Primitive}
-use Rattle.kan_model.specs.Tables.{TermEntry, GoalEntry, RelationEntry, Tables, template_at, goal_at, template_of, templates_after, templates_of, goal_of, goals_after, goals_of, arguments_at, is_term_grown, terms_grown, is_goal_grown, goals_grown, is_grown, with_term, with_argument, with_goal, with_relation}
+use Rattle.kan_model.specs.Tables.{TermEntry, GoalEntry, RelationEntry, Tables, template_at, template_of, templates_after, templates_of, goal_of, goals_after, goals_of, arguments_at, is_term_grown, terms_grown, is_goal_grown, goals_grown, is_grown, with_term, with_argument, with_goal, with_relation}
 
 -- the templates of a table with one entry more
 pub templates-more : (ts : List Template) (es : List TermEntry) (e : TermEntry) →
@@ -139,9 +139,10 @@ term-same tables e grown =
     record {
       terms = λ i within. ap (λ us. template_at us i) (templates-more [] tables.terms e) ∙ template_at-more ts (template_of ts e) i (rw long within);
       lists = λ at k within.
-        ap (λ us. arguments_at us tables.arguments at k) (templates-more [] tables.terms e)
-        ∙ picked-more ts (template_of ts e) (take k (drop at tables.arguments))
-          (all-take (λ i. nat_lt i (length ts)) k (drop at tables.arguments) (all-drop (λ i. nat_lt i (length ts)) at tables.arguments (rw long grown.arguments))) }
+          ap (λ us. arguments_at us tables.arguments at k) (templates-more [] tables.terms e)
+          ∙ picked-more ts (template_of ts e) (take k (drop at tables.arguments))
+          (all-take (λ i. nat_lt i (length ts)) k (drop at tables.arguments) (all-drop (λ i. nat_lt i (length ts)) at tables.arguments (rw long grown.arguments)));
+    }
 
 pub goals-with_term : (tables : Tables) (e : TermEntry) → is_grown tables ≡ true → goals_of (with_term tables e) ≡ goals_of tables
 goals-with_term tables e h =
@@ -216,7 +217,8 @@ grown-with_term tables e h last =
       terms = terms_grown-last 0 tables.terms e old.terms (rw (zero-add (length tables.terms)) last);
       arguments = all-below-more _ _ (longer tables.terms e) tables.arguments old.arguments;
       goals = goals_grown-more tables (with_term tables e) 0 tables.goals (longer tables.terms e) (omega arith) old.goals;
-      relations = old.relations })
+      relations = old.relations;
+    })
 
 pub grown-with_argument : (tables : Tables) (a : ℕ) → is_grown tables ≡ true → a < length tables.terms → is_grown (with_argument tables a) ≡ true
 grown-with_argument tables a h last =
@@ -225,7 +227,8 @@ grown-with_argument tables a h last =
       terms = old.terms;
       arguments = all-last (λ t. nat_lt t (length tables.terms)) tables.arguments a old.arguments (lt-ltb a _ last);
       goals = goals_grown-more tables (with_argument tables a) 0 tables.goals (omega arith) (longer tables.arguments a) old.goals;
-      relations = old.relations })
+      relations = old.relations;
+    })
 
 pub grown-with_goal : (tables : Tables) (e : GoalEntry) → is_grown tables ≡ true → is_goal_grown tables (length tables.goals) e ≡ true → is_grown (with_goal tables e) ≡ true
 grown-with_goal tables e h last =
@@ -234,7 +237,8 @@ grown-with_goal tables e h last =
       terms = old.terms;
       arguments = old.arguments;
       goals = goals_grown-more tables (with_goal tables e) 0 (tables.goals ++ e ∷ []) (omega arith) (omega arith) (goals_grown-last tables 0 tables.goals e old.goals (rw (zero-add (length tables.goals)) last));
-      relations = bodies-more _ _ (longer tables.goals e) tables.relations old.relations })
+      relations = bodies-more _ _ (longer tables.goals e) tables.relations old.relations;
+    })
 
 pub grown-with_relation : (tables : Tables) (r : RelationEntry) → is_grown tables ≡ true → r.body < length tables.goals → is_grown (with_relation tables r) ≡ true
 grown-with_relation tables r h last =
@@ -243,4 +247,5 @@ grown-with_relation tables r h last =
       terms = old.terms;
       arguments = old.arguments;
       goals = goals_grown-more tables (with_relation tables r) 0 tables.goals (omega arith) (omega arith) old.goals;
-      relations = all-last (λ q. nat_lt q.body (length tables.goals)) tables.relations r old.relations (lt-ltb r.body _ last) })
+      relations = all-last (λ q. nat_lt q.body (length tables.goals)) tables.relations r old.relations (lt-ltb r.body _ last);
+    })

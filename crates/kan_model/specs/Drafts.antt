@@ -1,5 +1,5 @@
 -- What a draft stands for.
-use Rattle.std.specs.Prelude.{◌≡◌, ℕ, List, Bool, true, false}
+use Rattle.std.specs.Prelude.{List}
 use Rattle.kan_model.specs.Goals.{Template, Goal}
 use Rattle.kan_model.specs.Tables.{Tables, templates_of, goals_of}
 use Rattle.kan_model.specs.Nodes.{tables_from}

@@ -1,5 +1,5 @@
 -- How many slots must be in scope for a template and for a goal, and the heights and widths that tables note.
-use Rattle.std.specs.Prelude.{ℕ, suc, ◌+◌, ◌-◌, ◌^◌, min, max, List, [], ◌∷◌}
+use Rattle.std.specs.Prelude.{ℕ, ◌+◌, ◌-◌, ◌^◌, min, max, List, [], ◌∷◌}
 use Rattle.kan_terms.specs.Tree.{Tree}
 use Rattle.kan_model.specs.Goals.{Template, Primitive, Goal}
 use Rattle.kan_model.specs.Scope.{height, width}

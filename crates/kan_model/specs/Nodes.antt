@@ -1,6 +1,5 @@
 -- What the nodes and rows of the code stand for: entries of tables.
 use Rattle.std.specs.Prelude.{ℕ, List, map}
-use Rattle.kan_model.specs.Goals.{Template, Goal}
 use Rattle.kan_model.specs.Tables.{TermEntry, GoalEntry, RelationEntry, Tables}
 use Rattle.kan_model.specs.declared.nodes.TermNode.{TermNode}
 use Rattle.kan_model.specs.declared.nodes.TermNode.TheVariants.{Slot, Sym, Num, Truth, Nil, Pair}

@@ -1,5 +1,5 @@
 -- What the rows of tables note of the trees that they stand for.
-use Rattle.std.specs.Prelude.{◌≡◌, ℕ, List, map}
+use Rattle.std.specs.Prelude.{◌≡◌, List, map}
 use Rattle.kan_model.specs.Goals.{Template, Goal}
 use Rattle.kan_model.specs.Needs.{slots, goal_slots, noted_height, noted_width}
 use Rattle.kan_model.specs.declared.nodes.TermRow.{TermRow}

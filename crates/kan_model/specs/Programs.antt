@@ -1,5 +1,5 @@
 -- What a program of the code stands for.
-use Rattle.std.specs.Prelude.{◌≡◌, ℕ, List, Bool, true, false, Result, Ok, Err}
+use Rattle.std.specs.Prelude.{◌≡◌, ℕ, List, true, false, Result, Ok, Err}
 use Rattle.kan_model.specs.Goals as model
 use Rattle.kan_model.specs.Goals.{Template, Goal}
 use Rattle.kan_model.specs.Tables as facts

@@ -30,7 +30,8 @@ fn copied(alloc: Global, values: &[Term]) -> Result<Vec<Term>, Memory>
 }
 
 impl Env {
-    ghost use Rattle.std.specs.Prelude.{◌+◌, ◌≤◌, ◌^◌, [], ◌∷◌, ◌++◌, true, OnOk};
+    ghost use Rattle.std.specs.Prelude.{◌+◌, ◌≤◌, ◌^◌, [], ◌∷◌, ◌++◌, true, slice_get, OnOk};
+    ghost use Rattle.std.specs.Option.{option_copied};
     ghost use Rattle.kan_terms.specs.Tree.{Tree};
     ghost use Rattle.kan_model.specs.Running.{instance, variables};
     ghost use Rattle.kan_model.specs.Letters.{letter_of, spelling};
@@ -75,11 +76,18 @@ impl Env {
         Ok(Env { values })
     }
 
+    // What a slot stands for.
+    fn slot_value(&self, slot: u32) -> Option<&Term>
+        ensures { option_copied result ≡ slice_get self.now.values.items slot }
+    {
+        self.values.get(slot as usize)
+    }
+
     // The first letter of what a slot stands for.
     fn slot_letter(&self, slot: u32) -> Letter
         ensures { result ≡ letter_of (instance (terms_of self.now) (Tree.leaf slot)) }
     {
-        match self.values.get(slot as usize) {
+        match self.slot_value(slot) {
             Some(value) => first_letter(value),
             None => Letter::Nil,
         }
@@ -100,15 +108,23 @@ impl Env {
     }
 
     // Puts the parts of a template that is a pair on a stack of waiting templates, the first part on top.
-    fn wait_for_parts(&self, program: &Program, term: u32, waiting: &mut Vec<u32>) -> Result<(), Memory>
+    fn wait_for_parts(
+        &self,
+        program: &Program,
+        term: u32,
+        waiting: &mut Vec<u32>,
+    ) -> Result<(), Memory>
         ensures { OnOk result (letter_of (instance (terms_of self.now) (programs.template program.now term)) ∷ letters_waiting (map (λ at. instance (terms_of self.now) (programs.template program.now at)) waiting.new.items)
             ≡ spelling (instance (terms_of self.now) (programs.template program.now term)) ++ letters_waiting (map (λ at. instance (terms_of self.now) (programs.template program.now at)) waiting.old.items)) }
     {
-        if let TermNode::Pair(first, rest) = program.template_node(term) {
-            waiting.push(rest)?;
-            waiting.push(first)?;
+        match program.template_node(term) {
+            TermNode::Pair(first, rest) => {
+                waiting.push(rest)?;
+                waiting.push(first)?;
+                Ok(())
+            }
+            _ => Ok(()),
         }
-        Ok(())
     }
 
     // The letters of a template's term.

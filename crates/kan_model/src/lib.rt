@@ -1,16 +1,16 @@
 //! The model of miniKanren: programs, stores, streams, runs and answers, as definitions, and the trait of stores.
 #![tactic(auto)]
 
-pub mod laws;
 mod closing;
 mod draft;
 mod environment;
+pub mod laws;
 mod letters;
 mod nodes;
 mod plain;
 mod prims;
-pub mod reading_laws;
 mod program;
+pub mod reading_laws;
 mod solving;
 mod stores;
 

@@ -1,4 +1,4 @@
-use Rattle.std.proofs.Common.{arith, ltb-true, ap, sym, ◌∙◌, rules}
+use Rattle.std.proofs.Common.{ltb-true, ap, sym, ◌∙◌}
 use Rattle.std.specs.Prelude.{nat_lt, length, min, ◌+◌}
 use Rattle.std.proofs.lemmas.Bool.{and_parts}
 use Rattle.kan_terms.specs.Tree.{Tree}

@@ -12,12 +12,13 @@ invariant_of-self c =
     let same = term-goals d.terms.items d.arguments.items d.goals.items d.relations.items _ d.grown in
     record {
       grown = pushed (λ rows. IsTrue (is_grown (tables_from rows d.arguments.items d.goals.items d.relations.items))) _ d.terms.items _ _ c.push.ensures.items d.grown
-        (term-grown d.terms.items d.arguments.items d.goals.items d.relations.items _ d.grown c.requires.there);
+          (term-grown d.terms.items d.arguments.items d.goals.items d.relations.items _ d.grown c.requires.there);
       heights = pushed (λ rows. HeightsNoted rows (templates_of (term_entries rows))) _ d.terms.items _ _ c.push.ensures.items d.heights
-        (term-heights d.terms.items d.arguments.items d.goals.items d.relations.items _ d.heights c.noted_height-height.ensures);
+          (term-heights d.terms.items d.arguments.items d.goals.items d.relations.items _ d.heights c.noted_height-height.ensures);
       slots = pushed (λ rows. SlotsNoted rows (templates_of (term_entries rows))) _ d.terms.items _ _ c.push.ensures.items d.slots
-        (term-slots d.terms.items d.arguments.items d.goals.items d.relations.items _ d.slots c.term_slots-slots.ensures);
+          (term-slots d.terms.items d.arguments.items d.goals.items d.relations.items _ d.slots c.term_slots-slots.ensures);
       widths = pushed (λ rows. WidthsNoted d.goals.items (goals_of (tables_from rows d.arguments.items d.goals.items d.relations.items))) _ d.terms.items _ _ c.push.ensures.items d.widths
-        (subst (WidthsNoted d.goals.items) (sym same) d.widths);
+          (subst (WidthsNoted d.goals.items) (sym same) d.widths);
       goal_slots = pushed (λ rows. GoalSlotsNoted d.goals.items (goals_of (tables_from rows d.arguments.items d.goals.items d.relations.items))) _ d.terms.items _ _ c.push.ensures.items d.goal_slots
-        (subst (GoalSlotsNoted d.goals.items) (sym same) d.goal_slots) }
+          (subst (GoalSlotsNoted d.goals.items) (sym same) d.goal_slots);
+    }
