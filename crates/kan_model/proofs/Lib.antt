@@ -36,3 +36,9 @@ mod RefusalExamples
 mod Sound
 mod TokenExamples
 mod WordExamples
+pub mod TableLaws
+pub mod NoteLaws
+pub mod RowLaws
+pub mod ScopeLaws
+pub mod EntryLaws
+pub mod EnvironmentLaws

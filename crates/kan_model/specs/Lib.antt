@@ -31,3 +31,11 @@ pub mod Faults
 pub mod Printed
 pub mod Made
 pub mod Laws
+pub mod Needs
+pub mod Nodes
+pub mod Notes
+pub mod Drafts
+pub mod Programs
+pub mod Calls
+pub mod Flat
+pub mod Environments
