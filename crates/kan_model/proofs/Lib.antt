@@ -36,3 +36,5 @@ mod RefusalExamples
 mod Sound
 mod TokenExamples
 mod WordExamples
+mod TextExamples
+mod FaultExamples

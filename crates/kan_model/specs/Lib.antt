@@ -31,3 +31,12 @@ pub mod Faults
 pub mod Printed
 pub mod Made
 pub mod Laws
+pub mod Sited
+pub mod Language
+pub mod Binders
+pub mod TermForms
+pub mod GoalForms
+pub mod TopForms
+pub mod Resolved
+pub mod ProgramText
+pub mod TextFaults
