@@ -38,3 +38,4 @@ mod TokenExamples
 mod WordExamples
 mod TextExamples
 mod FaultExamples
+mod ProgramExamples
