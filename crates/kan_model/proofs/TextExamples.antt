@@ -3,7 +3,7 @@ use Rattle.std.specs.Prelude.{ℕ, List, [], ◌∷◌, ◌++◌, Option, Some, 
 use Rattle.kan_model.specs.Text.{Table}
 use Rattle.kan_model.specs.Written.{Written}
 use Rattle.kan_model.specs.Faults.{Fault, Reading, data_are, refused}
-use Rattle.kan_model.specs.Language.{Spelled, spelled, language, word}
+use Rattle.kan_model.specs.Language.{Spelled, spelled, form_names, goal_names, constraint_names, term_names, word}
 use Rattle.kan_model.specs.Sited.{sited}
 use Rattle.kan_model.specs.ProgramText.{Meant, meant}
 use Rattle.kan_model.specs.TextFaults.{fault_of_text, faults_of}
@@ -15,7 +15,7 @@ spelling_of (spelled w text) = text
 
 -- the numbers of the names of the language are 0 to 20; then come a, b, c, q, x, y, z, two, foo, nullo, from 21 on
 abbrev pub table : Table
-table = map spelling_of language ++ codes "a" ∷ codes "b" ∷ codes "c" ∷ codes "q" ∷ codes "x" ∷ codes "y" ∷ codes "z" ∷ codes "two" ∷ codes "foo" ∷ codes "nullo" ∷ []
+table = map spelling_of (form_names ++ goal_names ++ constraint_names ++ term_names) ++ codes "a" ∷ codes "b" ∷ codes "c" ∷ codes "q" ∷ codes "x" ∷ codes "y" ∷ codes "z" ∷ codes "two" ∷ codes "foo" ∷ codes "nullo" ∷ []
 
 abbrev data_of : Reading Written → List Written
 data_of (data_are ds) = ds

@@ -1,0 +1,5 @@
+//! The grammar of texts: which program and which runs the data of a text are, or which fault they have.
+#![tactic(auto)]
+
+mod node;
+mod word;
