@@ -1,5 +1,5 @@
 -- The data that the parts of a table are.
-use Rattle.std.specs.Prelude.{ℕ, List, [], ◌∷◌, ◌++◌, slice_get, unwrap_or}
+use Rattle.std.specs.Prelude.{ℕ, List, [], ◌∷◌, ◌++◌, slice_index_or}
 use Rattle.kan_model.specs.Sited.{Sited}
 use Rattle.goal_syntax.specs.declared.node.Part.{Part}
 use Rattle.goal_syntax.specs.declared.node.Part.TheVariants.{Name, Number, Truth, Nil, Pair}
@@ -8,7 +8,7 @@ use Rattle.goal_syntax.specs.declared.node.Nodes.{Nodes}
 
 -- the datum at a place
 abbrev pub site_at : List Sited → ℕ → Sited
-site_at ds i = unwrap_or (slice_get ds i) (Sited.nil 0)
+site_at ds i = slice_index_or ds i (Sited.nil 0)
 
 -- the datum of a part at an offset, among the data before it
 abbrev pub part_site : List Sited → ℕ → Part → Sited
@@ -29,3 +29,7 @@ sites_after ds (node ∷ nodes) = sites_after (ds ++ node_site ds node ∷ []) n
 -- the data of a table
 abbrev pub sites : Nodes → List Sited
 sites nodes = sites_after [] nodes.rows.items
+
+-- the data at two places
+abbrev pub pair_at : List Sited → ℕ × ℕ → Sited × Sited
+pair_at ds places = (site_at ds places.0, site_at ds places.1)

@@ -2,4 +2,5 @@
 #![tactic(auto)]
 
 mod node;
+mod shape;
 mod word;

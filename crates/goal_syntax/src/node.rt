@@ -48,7 +48,8 @@ impl Nodes {
 
     /// The part at a place; where there is none, the end of a list.
     pub(crate) fn read(&self, place: u32) -> Node
-        ensures { site_at (sites self.now) place ≡ node_site (sites self.now) result }
+        ensures part { site_at (sites self.now) place ≡ node_site (sites self.now) result }
+        ensures before { IsTrue (is_grown place result) }
     {
         match self.rows.get(place as usize) {
             Some(node) => *node,

@@ -1,0 +1,11 @@
+use Rattle.goal_syntax.proofs.PartLaws.{read_part, read_none, read_grown}
+use Rattle.goal_syntax.proofs.node.Nodes.read.Goals as goal
+
+pub returns-in-Some-clause-part : goal.returns-in-Some-clause-part
+returns-in-Some-clause-part c = read_part c.args.self.now.rows.items _ c.args.place c.in-Some.node.now c.deref.ensures.value c.in-Some.ensures.lookup.0 c.in-Some.ensures.lookup.1 c.args.self.now.grown
+
+pub returns-in-Some-clause-before : goal.returns-in-Some-clause-before
+returns-in-Some-clause-before c = read_grown c.args.self.now.rows.items _ c.args.place c.in-Some.node.now c.deref.ensures.value c.in-Some.ensures.lookup.0 c.in-Some.ensures.lookup.1 c.args.self.now.grown
+
+pub returns-in-None-clause-part : goal.returns-in-None-clause-part
+returns-in-None-clause-part c = read_none c.args.self.now.rows.items _ c.args.place c.deref.ensures.value c.in-None.ensures.lookup.0
