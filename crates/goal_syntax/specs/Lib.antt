@@ -2,3 +2,4 @@ pub mod Meaning
 pub mod Rows
 pub mod Parts
 pub mod Shapes
+pub mod TermSteps

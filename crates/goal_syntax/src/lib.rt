@@ -3,4 +3,5 @@
 
 mod node;
 mod shape;
+mod term;
 mod word;
