@@ -1,3 +1,5 @@
 pub mod PartLaws
 pub mod ShapeLaws
 pub mod TermLaws
+pub mod WaitingLaws
+pub mod ScopeLaws

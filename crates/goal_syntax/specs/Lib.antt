@@ -3,3 +3,5 @@ pub mod Rows
 pub mod Parts
 pub mod Shapes
 pub mod TermSteps
+pub mod FaultLists
+pub mod Waiting

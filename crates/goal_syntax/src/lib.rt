@@ -1,7 +1,10 @@
 //! The grammar of texts: which program and which runs the data of a text are, or which fault they have.
 #![tactic(auto)]
 
+mod fault;
+mod judge_term;
 mod node;
+mod scope;
 mod shape;
 mod term;
 mod word;
