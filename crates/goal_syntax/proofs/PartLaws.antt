@@ -6,7 +6,7 @@ use Rattle.std.proofs.Math.Seq.{get_or-append_seam}
 use Rattle.std.proofs.lemmas.List.{get_or_past}
 use Rattle.std.proofs.lemmas.Grind.{common_steps}
 use Rattle.std.proofs.lemmas.Bool.{ltb-true, ltb-false, lt-ltb, and_parts, and_from}
-use Rattle.kan_model.specs.Sited.{Sited}
+use Rattle.kan_model.specs.Sited.{Sited, site}
 use Rattle.goal_syntax.specs.declared.node.Part.{Part}
 use Rattle.goal_syntax.specs.declared.node.Part.TheVariants.{Name, Number, Truth, Nil, Pair}
 use Rattle.goal_syntax.specs.declared.node.Node.{Node}
@@ -116,3 +116,14 @@ read_grown rows lent place node same within found grown =
     let read = are_grown-at 0 rows place node grown here in
     let zero_place : 0 + place ≡ place = omega arith in
     ap (is_grown place) (found ∙ ap (λ l. get_or l place node) same) ∙ (rw zero_place at read)
+
+-- the offset of a part is that of its datum
+pub read_offset : (ds : List Sited) (place : ℕ) (node : Node) → site_at ds place ≡ node_site ds node → node.at ≡ site (site_at ds place)
+read_offset ds place node part = sym (ap site part ∙ offset ds node.at node.part)
+  where
+  offset : (ds : List Sited) (at : ℕ) (part : Part) → site (part_site ds at part) ≡ at
+  offset ds at (Name s) = refl
+  offset ds at (Number n) = refl
+  offset ds at (Truth b) = refl
+  offset ds at Nil = refl
+  offset ds at (Pair a d) = refl

@@ -1,6 +1,7 @@
 //! The grammar of texts: which program and which runs the data of a text are, or which fault they have.
 #![tactic(auto)]
 
+mod binder;
 mod fault;
 mod judge_term;
 mod node;

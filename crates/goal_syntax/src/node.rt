@@ -34,6 +34,7 @@ pub(crate) struct Nodes {
 }
 
 impl Nodes {
+    ghost use Rattle.kan_model.specs.Sited.{site};
     ghost use Rattle.goal_syntax.specs.Rows.{is_grown};
     ghost use Rattle.goal_syntax.specs.Parts.{sites, site_at, node_site};
 
@@ -49,6 +50,7 @@ impl Nodes {
     /// The part at a place; where there is none, the end of a list.
     pub(crate) fn read(&self, place: u32) -> Node
         ensures part { site_at (sites self.now) place ≡ node_site (sites self.now) result }
+        ensures offset { result.at ≡ site (site_at (sites self.now) place) }
         ensures before { IsTrue (is_grown place result) }
     {
         match self.rows.get(place as usize) {

@@ -1,7 +1,7 @@
 //! The shapes of lists, read as pairs.
 
 ghost use Rattle.std.specs.Prelude.{◌≡◌, option_map};
-ghost use Rattle.kan_model.specs.Sited.{is_proper, count};
+ghost use Rattle.kan_model.specs.Sited.{is_proper, count, first, rest};
 ghost use Rattle.kan_model.specs.Language.{head_word};
 ghost use Rattle.goal_syntax.specs.Meaning.{word_of};
 ghost use Rattle.goal_syntax.specs.Parts.{sites, site_at, pair_at};
@@ -76,5 +76,25 @@ pub(crate) fn head_word(nodes: &Nodes, names: &Names, place: u32) -> Word
     match nodes.read(place).part {
         Part::Name(symbol) => word_of_symbol(names, symbol),
         _ => Word::Other,
+    }
+}
+
+/// The place of a pair's first part, and the place itself where there is no pair.
+pub(crate) fn first(nodes: &Nodes, place: u32) -> u32
+    ensures { site_at (sites nodes.now) result ≡ first (site_at (sites nodes.now) place) }
+{
+    match pair_parts(nodes, place) {
+        Some((first, _)) => first,
+        None => place,
+    }
+}
+
+/// The place of a pair's rest, and the place itself where there is no pair.
+pub(crate) fn rest(nodes: &Nodes, place: u32) -> u32
+    ensures { site_at (sites nodes.now) result ≡ rest (site_at (sites nodes.now) place) }
+{
+    match pair_parts(nodes, place) {
+        Some((_, rest)) => rest,
+        None => place,
     }
 }

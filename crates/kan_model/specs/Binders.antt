@@ -1,5 +1,6 @@
 -- Binders and tags, with the faults of their shape.
 use Rattle.std.specs.Prelude.{ℕ, Bool, true, false, not, ◌||◌, ◌&&◌, ◌==◌, List, [], ◌∷◌, ◌++◌, Option, Some, None, if◌then◌else◌}
+use Rattle.std.specs.List.{list_any}
 use Rattle.kan_model.specs.Text.{Table}
 use Rattle.kan_model.specs.Faults.{Fault, fault}
 use Rattle.kan_model.specs.Sited.{Sited, site, is_proper}
@@ -12,8 +13,7 @@ pub record Checked (A : Type 0) : Type 0 where
 
 -- a symbol stands among some
 abbrev pub is_among : List ℕ → ℕ → Bool
-is_among [] s = false
-is_among (r ∷ rs) s = s == r || is_among rs s
+is_among rs s = list_any (λ r. s == r) rs
 
 -- a symbol may be a name of a binder that has these names already
 abbrev pub may_bind : Table → List ℕ → ℕ → Bool
@@ -29,10 +29,10 @@ abbrev pub names_of : Sited → List ℕ
 names_of (Sited.name at s) = s ∷ []
 names_of d = []
 
--- the names in a list, and after them the faults
-abbrev pub names : Sited → List ℕ
-names (Sited.pair at a d) = names_of a ++ names d
-names d = []
+-- the names in a list
+abbrev pub bound_names : Sited → List ℕ
+bound_names (Sited.pair at a d) = names_of a ++ bound_names d
+bound_names d = []
 
 -- the faults of the names in a list, after some names
 abbrev pub names_faults : Table → List ℕ → Sited → List Fault
@@ -41,7 +41,7 @@ names_faults t before d = []
 
 -- the names of a binder, which is a proper list of them
 abbrev pub binder : Table → Sited → Checked (List ℕ)
-binder t d = if is_proper d then record { value = names d; faults = names_faults t [] d } else record { value = []; faults = fault (site d) 10 ∷ [] }
+binder t d = if is_proper d then record { value = bound_names d; faults = names_faults t [] d } else record { value = []; faults = fault (site d) 10 ∷ [] }
 
 -- the tag of an absento is a quoted symbol
 abbrev pub quoted_symbol : Table → Sited → Option ℕ

@@ -89,7 +89,7 @@ abbrev mutual
       | Word.symbolo ↦ symbol (term_one t parts)
       | Word.numbero ↦ number (term_one t parts)
       | Word.absento ↦ absent (tag t (first parts)) (term_two t parts)
-      | Word.fresh ↦ fresh_form t parts
+      | Word.fresh ↦ fresh_form t at parts
       | Word.conde ↦ one_of (clause_forms t parts)
       | Word.conj ↦ all_of (goal_forms t parts)
       | Word.disj ↦ one_of (goal_forms t parts)
@@ -105,9 +105,9 @@ abbrev mutual
   goal_forms t d = none
 
   -- a binder, and the goals in which it binds
-  pub fresh_form : Table → Sited → GoalForm
-  fresh_form t (Sited.pair _ b goals) = fresh (binder t b) (goal_forms t goals)
-  fresh_form t d = misshapen (site d)
+  pub fresh_form : Table → ℕ → Sited → GoalForm
+  fresh_form t at (Sited.pair _ b goals) = fresh (binder t b) (goal_forms t goals)
+  fresh_form t at d = misshapen at
 
   -- clauses in a row, each a proper list of goals that hold together
   pub clause_forms : Table → Sited → GoalForms

@@ -5,7 +5,7 @@ use Rattle.kan_model.specs.Text.{Table}
 use Rattle.kan_model.specs.Faults.{Fault, fault}
 use Rattle.kan_model.specs.Sited.{Sited, site, elements, is_proper}
 use Rattle.kan_model.specs.Language.{Word, word, head_word, is_other}
-use Rattle.kan_model.specs.Binders.{Checked, names, names_faults, binder}
+use Rattle.kan_model.specs.Binders.{Checked, bound_names, names_faults, binder}
 use Rattle.kan_model.specs.GoalForms.{GoalForms, goal_forms}
 
 -- a symbol and its offset
@@ -37,7 +37,7 @@ name_faults d = fault (site d) 10 ∷ []
 
 -- the arguments of a relation, which are a binder behind its name
 abbrev pub head : Table → Sited → Checked (List ℕ)
-head t (Sited.pair at a params) = if is_proper params then record { value = names params; faults = name_faults a ++ names_faults t [] params } else record { value = []; faults = fault at 10 ∷ [] }
+head t (Sited.pair at a params) = if is_proper params then record { value = bound_names params; faults = name_faults a ++ names_faults t [] params } else record { value = []; faults = fault at 10 ∷ [] }
 head t d = record { value = []; faults = fault (site d) 10 ∷ [] }
 
 -- a limit of so many answers, where that is allowed
