@@ -5,3 +5,6 @@ pub mod Shapes
 pub mod TermSteps
 pub mod FaultLists
 pub mod Waiting
+pub mod GoalSteps
+pub mod Related
+pub mod Tabled

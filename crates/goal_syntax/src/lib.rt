@@ -3,8 +3,10 @@
 
 mod binder;
 mod fault;
+mod goal;
 mod judge_term;
 mod node;
+mod relations;
 mod scope;
 mod shape;
 mod term;

@@ -1,0 +1,10 @@
+-- What the relations of the code stand for.
+use Rattle.std.specs.Prelude.{List, map}
+use Rattle.kan_model.specs.TopForms as forms
+use Rattle.goal_syntax.specs.declared.relations.Defined.{Defined}
+
+abbrev pub related_one : Defined → forms.Defined
+related_one d = record { name = d.name; params = d.params }
+
+abbrev pub related : List Defined → List forms.Defined
+related ds = map related_one ds
