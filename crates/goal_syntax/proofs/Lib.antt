@@ -3,3 +3,4 @@ pub mod ShapeLaws
 pub mod TermLaws
 pub mod WaitingLaws
 pub mod ScopeLaws
+pub mod RelationLaws

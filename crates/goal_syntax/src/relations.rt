@@ -1,8 +1,8 @@
 //! The relations that are defined.
 
-ghost use Rattle.std.specs.Prelude.{◌≡◌, ◌<◌, ◌^◌, ℕ, length, nat_eq};
+ghost use Rattle.std.specs.Prelude.{◌≡◌, ◌<◌, ◌^◌, ◌==◌, ℕ, length, nat_eq, OnOk, if◌then◌else◌};
 ghost use Rattle.std.specs.HashMap.{get};
-ghost use Rattle.kan_model.specs.Resolved.{relation_number};
+ghost use Rattle.kan_model.specs.Resolved.{relation_number, or_else};
 ghost use Rattle.goal_syntax.specs.Related.{related};
 
 use kan_terms::Memory;
@@ -25,20 +25,32 @@ pub(crate) struct Relations {
     ghost few: { length rows.items < 2 ^ 32 },
 }
 
+// Notes the number of a name that has none.
+fn note(numbers: &mut HashMap<u32, u32>, name: u32, number: u32) -> Result<(), Memory>
+    ensures { OnOk result ((symbol : ℕ) → get nat_eq numbers.new symbol
+        ≡ or_else (get nat_eq numbers.old symbol) (if symbol == name then Some number else None)) }
+{
+    if !numbers.contains_key(&name) {
+        numbers.insert(name, number)?;
+    }
+    Ok(())
+}
+
 impl Relations {
-    ghost use Rattle.std.specs.Prelude.{◌-◌, [], ◌∷◌, ◌++◌, OnOk};
+    ghost use Rattle.std.specs.Prelude.{IfOk};
     ghost use Rattle.kan_model.specs.Resolved.{arity};
-    ghost use Rattle.goal_syntax.specs.Related.{related_one};
     ghost use Rattle.goal_syntax.specs.Tabled.{relations};
 
-    /// No relations.
-    pub(crate) fn new(alloc: Global) -> Relations
-        ensures { relations result ≡ [] }
+    /// These relations.
+    pub(crate) fn of(alloc: Global, rows: Vec<Defined>) -> Result<Relations, Memory>
+        requires { length rows.items < 2 ^ 32 }
+        ensures { IfOk result (λ r. relations r ≡ related rows.items) }
     {
-        Relations {
-            rows: Vec::new(alloc),
-            numbers: HashMap::new(alloc),
+        let mut numbers = HashMap::new(alloc);
+        for (place, row) in rows.iter().enumerate() {
+            note(&mut numbers, row.name, place as u32)?;
         }
+        Ok(Relations { rows, numbers })
     }
 
     /// The number of the first relation of a name.
@@ -52,21 +64,12 @@ impl Relations {
     pub(crate) fn params(&self, symbol: u32) -> Option<u32>
         ensures { result ≡ arity (relations self.now) symbol }
     {
-        let number = self.number(symbol)?;
-        let relation = self.rows.get(number as usize)?;
-        Some(relation.params)
-    }
-
-    /// Adds a relation behind the others.
-    pub(crate) fn push(&mut self, relation: Defined) -> Result<(), Memory>
-        requires { length (relations self.old) < 2 ^ 32 - 1 }
-        ensures { OnOk result (relations self.new ≡ relations self.old ++ related_one relation ∷ []) }
-    {
-        let number = self.rows.len() as u32;
-        if self.number(relation.name).is_none() {
-            self.numbers.insert(relation.name, number)?;
+        let Some(number) = self.number(symbol) else {
+            return None;
+        };
+        match self.rows.get(number as usize) {
+            Some(relation) => Some(relation.params),
+            None => None,
         }
-        self.rows.push(relation)?;
-        Ok(())
     }
 }
