@@ -4,6 +4,7 @@
 mod binder;
 mod fault;
 mod goal;
+mod judge_goal;
 mod judge_term;
 mod node;
 mod relations;
