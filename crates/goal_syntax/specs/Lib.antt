@@ -8,3 +8,4 @@ pub mod Waiting
 pub mod GoalSteps
 pub mod Related
 pub mod Tabled
+pub mod GoalStack

@@ -1,16 +1,21 @@
 //! The faults of goals.
 
-ghost use Rattle.std.specs.Prelude.{◌≡◌, ◌+◌, ◌<◌, ◌++◌, ◌∷◌, length, reverse, OnOk};
+ghost use Rattle.std.specs.Prelude.{◌≡◌, ◌+◌, ◌<◌, ◌++◌, ◌∷◌, [], length, reverse, OnOk};
 ghost use Rattle.std.specs.List.{flat_map};
 ghost use Rattle.kan_model.specs.Text.{Table};
 ghost use Rattle.kan_model.specs.GoalForms.{goal_form, goal_forms, term_forms};
 ghost use Rattle.kan_model.specs.TextFaults.{term_faults, call_faults, goal_faults, goals_faults};
-ghost use Rattle.kan_model.specs.Resolved.{arity};
+ghost use Rattle.kan_model.specs.TermForms.{term_form};
+ghost use Rattle.kan_model.specs.Binders.{binder as binder_of};
+ghost use Rattle.kan_model.specs.Resolved.{arity, within};
+ghost use Rattle.goal_syntax.specs.GoalStack.{own_faults, inner_faults, stack_faults, stack_parts, waiting_parts};
 ghost use Rattle.goal_syntax.specs.FaultLists.{fault_list};
 ghost use Rattle.goal_syntax.specs.Parts.{sites, site_at};
 ghost use Rattle.goal_syntax.specs.Tabled.{relations};
 
+use crate::binder::{bind, enter, judge_tag};
 use crate::fault::{Fault, report};
+use crate::goal::{Goal, open};
 use crate::judge_term::judge_term;
 use crate::node::Nodes;
 use crate::relations::Relations;
@@ -61,4 +66,70 @@ fn judge_head(text: &Text, at: u32, symbol: u32, count: u32, faults: &mut Vec<Fa
         Some(params) if count != params => report(faults, at, 13),
         Some(_) => Ok(()),
     }
+}
+
+/// What waits to be judged.
+#[derive(Clone, Copy, Debug, PartialEq, Eq)]
+pub(crate) enum Waiting {
+    /// The goal at a place.
+    Goal(u32),
+    /// The goals of a list, from a pair of it on.
+    Goals(u32),
+    /// The clauses of a list, from a pair of it on.
+    Clauses(u32),
+    /// That a scope is left: only so many slots keep their names.
+    Leave(usize),
+}
+
+// Notes the faults of a term.
+fn judge_one(text: &Text, scope: &[Option<u32>], term: u32, faults: &mut Vec<Fault>) -> Result<(), Memory>
+    ensures { OnOk result (fault_list faults.new.items ≡ fault_list faults.old.items
+        ++ term_faults scope.now (term_form text.now.names.now (site_at (sites text.now.nodes.now) term))) }
+{
+    judge_term(text.alloc, text.nodes, text.names, scope, Task::Term(term), faults)
+}
+
+// Notes the faults of a goal's terms, of its head and of its shape.
+fn judge_own(text: &Text, scope: &[Option<u32>], goal: Goal, faults: &mut Vec<Fault>) -> Result<(), Memory>
+    ensures { OnOk result (fault_list faults.new.items ≡ fault_list faults.old.items
+        ++ own_faults (relations text.now.relations.now) text.now.names.now (sites text.now.nodes.now) scope.now goal) }
+{
+    match goal {
+        Goal::Same(left, right) | Goal::Differ(left, right) => {
+            judge_one(text, scope, left, faults)?;
+            judge_one(text, scope, right, faults)
+        }
+        Goal::Symbol(term) | Goal::Number(term) => judge_one(text, scope, term, faults),
+        Goal::Absent(tag, term) => {
+            judge_tag(text.nodes, text.names, tag, faults)?;
+            judge_one(text, scope, term, faults)
+        }
+        Goal::Call(at, symbol, args) => {
+            judge_head(text, at, symbol, count_terms(text.nodes, args), faults)?;
+            judge_terms(text, scope, args, faults)
+        }
+        Goal::Misshapen(at) => report(faults, at, 10),
+        _ => Ok(()),
+    }
+}
+
+// Notes the faults of a binder, puts its names into scope, and the goals in which it binds on the stack.
+fn enter_fresh(
+    text: &Text,
+    binder: u32,
+    goals: u32,
+    scope: &mut Vec<Option<u32>>,
+    waiting: &mut Vec<Waiting>,
+    faults: &mut Vec<Fault>,
+) -> Result<(), Memory>
+    ensures faults { OnOk result (fault_list faults.new.items
+        ≡ fault_list faults.old.items ++ (binder_of text.now.names.now (site_at (sites text.now.nodes.now) binder)).faults) }
+    ensures scope { OnOk result (scope.new.items ≡ within scope.old.items (binder_of text.now.names.now (site_at (sites text.now.nodes.now) binder)).value) }
+    ensures waiting { OnOk result (waiting.new.items ≡ waiting.old.items ++ Waiting.Leave (length scope.old.items) ∷ Waiting.Goals goals ∷ []) }
+{
+    waiting.push(Waiting::Leave(scope.len()))?;
+    let bound = bind(text.alloc, text.nodes, text.names, binder, faults)?;
+    enter(&bound, scope)?;
+    waiting.push(Waiting::Goals(goals))?;
+    Ok(())
 }
