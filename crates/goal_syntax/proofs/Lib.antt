@@ -4,3 +4,4 @@ pub mod TermLaws
 pub mod WaitingLaws
 pub mod ScopeLaws
 pub mod RelationLaws
+pub mod GoalLaws

@@ -54,3 +54,19 @@ waiting_parts ds (waiting.Leave n) = 1
 abbrev pub stack_parts : List Sited → List Waiting → ℕ
 stack_parts ds [] = 0
 stack_parts ds (w ∷ ws) = waiting_parts ds w + stack_parts ds ws
+
+-- what waits of a goal, the last on top; the names in scope there; and the faults of its binder
+abbrev pub inner_waiting : Names → opened.Goal → List Waiting
+inner_waiting ns (Fresh b gs) = waiting.Leave (length ns) ∷ waiting.Goals gs ∷ []
+inner_waiting ns (AllOf gs) = waiting.Goals gs ∷ []
+inner_waiting ns (OneOf gs) = waiting.Goals gs ∷ []
+inner_waiting ns (Clauses cs) = waiting.Clauses cs ∷ []
+inner_waiting ns g = []
+
+abbrev pub inner_names : Table → List Sited → Names → opened.Goal → Names
+inner_names t ds ns (Fresh b gs) = within ns (binder t (site_at ds b)).value
+inner_names t ds ns g = ns
+
+abbrev pub fresh_faults : Table → List Sited → opened.Goal → List Fault
+fresh_faults t ds (Fresh b gs) = (binder t (site_at ds b)).faults
+fresh_faults t ds g = []
