@@ -9,3 +9,4 @@ pub mod GoalSteps
 pub mod Related
 pub mod Tabled
 pub mod GoalStack
+pub mod FormSteps

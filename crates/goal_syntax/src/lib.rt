@@ -3,6 +3,7 @@
 
 mod binder;
 mod fault;
+mod form;
 mod goal;
 mod judge_goal;
 mod judge_term;

@@ -52,14 +52,15 @@ abbrev mutual
   goals_faults ds ns none = []
   goals_faults ds ns (more g gs) = goal_faults ds ns g ++ goals_faults ds ns gs
 
+-- a name takes nothing before
+abbrev pub is_new : Option ℕ → Bool
+is_new None = true
+is_new (Some k) = false
+
 -- a relation's name is no name of the language, and was not defined before
 abbrev pub again_faults : Table → List Defined → Option NameAt → List Fault
 again_faults t before None = []
 again_faults t before (Some (name_at at s)) = unless (is_other (word t s) && is_new (arity before s)) (fault at 14)
-  where
-  is_new : Option ℕ → Bool
-  is_new None = true
-  is_new (Some k) = false
 
 -- the faults of a top form, where all these relations are there, and those before it
 abbrev pub form_faults : Table → List Defined → List Defined → Form → List Fault

@@ -5,7 +5,7 @@ use Rattle.kan_model.specs.Text.{Table}
 use Rattle.kan_model.specs.Faults.{Fault, fault}
 use Rattle.kan_model.specs.Sited.{Sited, site, elements, is_proper}
 use Rattle.kan_model.specs.Language.{Word, word, head_word, is_other}
-use Rattle.kan_model.specs.Binders.{Checked, bound_names, names_faults, binder}
+use Rattle.kan_model.specs.Binders.{Checked, bound_names, binder_faults, names_faults, binder}
 use Rattle.kan_model.specs.GoalForms.{GoalForms, goal_forms}
 
 -- a symbol and its offset
@@ -61,7 +61,7 @@ relation_form t at d = misshapen at
 -- a run's parts after its limit: one name or a list of names, and the goals
 abbrev pub run_form : Table → ℕ → Checked (Option ℕ) → Sited → Form
 run_form t at l (Sited.pair _ (Sited.name q s) goals) =
-    if is_proper goals then run_of_one l (record { value = s ∷ []; faults = names_faults t [] (Sited.pair q (Sited.name q s) (Sited.nil q)) }) (goal_forms t goals) else misshapen at
+    if is_proper goals then run_of_one l (record { value = s ∷ []; faults = binder_faults t [] (Sited.name q s) }) (goal_forms t goals) else misshapen at
 run_form t at l (Sited.pair _ b goals) = if is_proper goals then run_of_list l (binder t b) (goal_forms t goals) else misshapen at
 run_form t at l d = misshapen at
 
