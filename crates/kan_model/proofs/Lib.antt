@@ -42,3 +42,6 @@ pub mod RowLaws
 pub mod ScopeLaws
 pub mod EntryLaws
 pub mod EnvironmentLaws
+mod TextExamples
+mod FaultExamples
+mod ProgramExamples
