@@ -6,7 +6,7 @@ use Rattle.unify_core.specs.Laws.{IsEnd, WalksToEnd, FullValues, BindingsReplace
 use Rattle.unify_core.proofs.Grown.{ends-unbound, ends-bound}
 use Rattle.unify_core.proofs.CycleLaws.{grown}
 use Rattle.unify_core.proofs.WalkLaws.{full-walked, walked-end, walked-bound, walked-unbound, walked-term}
-use Rattle.unify_core.proofs.AnswerLaws.{answered, answer_full, solution_factors, factors_solve}
+use Rattle.unify_core.proofs.AnswerLaws.{answered, full_unbound, answer_full, solution_factors, factors_solve}
 
 -- a term that is no bound variable walks to itself
 stays_there : (bound : Pairs) (t : Tm) → IsEnd bound t → walked bound t ≡ t
@@ -28,6 +28,7 @@ pub full_values : FullValues
 full_values = record {
   of_bound = λ bound x t h found. ends-bound bound (grown bound h) x t found;
   of_unbound = ends-unbound;
+  none_left = λ bound t y h inside. full_unbound bound (grown bound h) t y inside;
   of_walked = λ bound t h. full-walked bound (grown bound h) t;
 }
 

@@ -1,6 +1,6 @@
 -- What walking and full values are, and what ties bindings in which nothing is replaced to the solver's replacement.
-use Rattle.std.specs.Prelude.{◌≡◌, ◌↔◌, ℕ, List, Option, Some, None}
-use Rattle.kan_terms.specs.Tree.{Tree, Tm, Gd}
+use Rattle.std.specs.Prelude.{◌≡◌, ◌↔◌, ℕ, true, List, Option, Some, None}
+use Rattle.kan_terms.specs.Tree.{Tree, Tm, Gd, occurs}
 use Rattle.kan_terms.specs.Bound.{bound_to}
 use Rattle.kan_model.specs.Stores.{Equation}
 use Rattle.kan_model.specs.Solve.{Replacement, apply, solve}
@@ -24,6 +24,7 @@ pub record WalksToEnd : Type 0 where
 pub record FullValues : Type 0 where
   pub of_bound : (bound : Pairs) (x : ℕ) (t : Tm) → HasNoCycle bound → bound_to x bound ≡ Some t → full bound (Tree.leaf x) ≡ full bound t
   pub of_unbound : (bound : Pairs) (x : ℕ) → bound_to x bound ≡ None → full bound (Tree.leaf x) ≡ Tree.leaf x
+  pub none_left : (bound : Pairs) (t : Tm) (y : ℕ) → HasNoCycle bound → occurs y (full bound t) ≡ true → bound_to y bound ≡ None
   pub of_walked : (bound : Pairs) (t : Tm) → HasNoCycle bound → full bound (walked bound t) ≡ full bound t
 
 -- the solver answers for bindings without a cycle with a replacement that has the same solutions and makes of each term its full value
