@@ -1,5 +1,5 @@
 -- What the top call did, by its status.
-use Rattle.std.specs.Prelude.{◌≡◌, ℕ, ◌+◌, ◌≤◌, List, length, Option, Some, None, is_some, true, false, ⊤}
+use Rattle.std.specs.Prelude.{◌≡◌, ℕ, ◌+◌, ◌≤◌, Bool, List, [], ◌∷◌, length, Option, Some, None, is_some, true, false, ⊤}
 use Rattle.std.specs.Io.KnownBytes.{Appends}
 use Rattle.kan_base.specs.Faults.{Rose}
 use Rattle.kan_base.specs.Writes.{PutsFront}
@@ -53,11 +53,21 @@ PutNothing e = e.put_after ≡ e.put
 abbrev pub WantedMemory : Ends → Type 0
 WantedMemory e = PutNothing e × (TakesAtMost greatest_text e.held e.left)
 
+-- a line of the command has no words so far
+abbrev pub is_command : {W : Type 0} → List W → Bool
+is_command [] = true
+is_command (w ∷ ws) = false
+
+-- the status of words that are no line of the command
+abbrev pub is_usage : Status → Bool
+is_usage Usage = true
+is_usage s = false
+
 -- what each status says of a call
 abbrev pub Outcome : Ends → Status → Type 0
 Outcome e Done = Ran e
 Outcome e Fuel = ⊥
-Outcome e Usage = ⊥
+Outcome e Usage = PutNothing e
 Outcome e (Text at number) = (at ≡ 0) × (number ≡ 0) × Refused e
 Outcome e ReadFault = Rose e.read_faults e.read_faults_after × PutNothing e
 Outcome e WriteFault = Rose e.write_faults e.write_faults_after × PutFront e

@@ -6,6 +6,8 @@ mod outside;
 #[cfg(test)]
 mod reading;
 #[cfg(test)]
+mod stores;
+#[cfg(test)]
 mod top;
 #[cfg(test)]
 mod unifying;

@@ -222,3 +222,21 @@ fn failing_sink(rt: HostRuntime) -> Result<(), Fail> {
     assert_eq!(rt; sink.put(), b"".as_slice());
     Ok(())
 }
+
+#[test]
+fn words_of_no_command(rt: HostRuntime) -> Result<(), Fail> {
+    let alloc = rt.alloc();
+    let mut source = MemorySource::new(
+        b"(run* q (== q 'a))".to_vec(alloc)?,
+        Vec::new(alloc),
+        64,
+        only(alloc, 0)?,
+    );
+    let Ok(mut sink) = MemorySink::new(alloc, ROOM, ROOM, Vec::new(alloc)) else {
+        return Err(Fail::from("no memory for the sink"));
+    };
+    let ended = kanren_alone(alloc, &["--fuel"], &mut source, &mut sink);
+    assert_eq!(rt; ended, Status::Usage);
+    assert_eq!(rt; sink.put(), b"".as_slice());
+    Ok(())
+}
