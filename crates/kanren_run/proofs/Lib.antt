@@ -4,3 +4,4 @@ pub mod PrintingLaws
 pub mod AnswerLaws
 pub mod ReadLaws
 pub mod EngineLaws
+pub mod RefusalLaws

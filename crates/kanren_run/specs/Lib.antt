@@ -5,6 +5,8 @@ pub mod Endings
 pub mod Lexemes
 pub mod FirstTexts
 pub mod Texts
+pub mod Refusals
+pub mod Replies
 pub mod Outcomes
 pub mod Read
 pub mod Sides

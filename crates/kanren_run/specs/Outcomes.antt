@@ -1,12 +1,12 @@
 -- What the top call did, by its status.
-use Rattle.std.specs.Prelude.{◌≡◌, ℕ, ◌+◌, ◌≤◌, Bool, List, [], ◌∷◌, length, Option, Some, None, is_some, true, false, ⊤}
+use Rattle.std.specs.Prelude.{◌≡◌, ℕ, ◌+◌, ◌≤◌, Bool, List, [], ◌∷◌, length, Option, Some, true, false, ⊤}
 use Rattle.std.specs.Io.KnownBytes.{Appends}
 use Rattle.kan_base.specs.Faults.{Rose}
 use Rattle.kan_base.specs.Writes.{PutsFront}
 use Rattle.kan_base.specs.Taken.{greatest_text, IsWhole, TakesCount, TakesAtMost}
 use Rattle.kan_base.specs.declared.status.Status.{Status}
 use Rattle.kan_base.specs.declared.status.Status.TheVariants.{Done, Fuel, Usage, Text, ReadFault, WriteFault, TooLong, Memory}
-use Rattle.kanren_run.specs.Texts.{text_output, refusal_line, all_output}
+use Rattle.kanren_run.specs.Refusals.{Answer, output, refusal, text_answer, refusal_line, all_output}
 
 -- the two ends of a call: what the opened place held and what is left of it, what was put before and after, and the counts of faults
 pub record Ends : Type 0 where
@@ -29,15 +29,15 @@ pub record Ran (e : Ends) : Type 0 where
   pub text : List ℕ
   pub out : List ℕ
   pub read : ReadsWhole e text
-  pub output : text_output text ≡ Some out
+  pub output : text_answer text ≡ output out
   pub put : Appends e.put e.put_after out
 
--- the text was read whole and isn't run yet, and what was put is the line that says so
-pub record Refused (e : Ends) : Type 0 where
+-- the text was read whole and is refused, and what was put is the line that says so
+pub record Refused (e : Ends) (at number : ℕ) : Type 0 where
   pub text : List ℕ
   pub read : ReadsWhole e text
-  pub refused : text_output text ≡ None
-  pub put : Appends e.put e.put_after refusal_line
+  pub refused : text_answer text ≡ refusal at number
+  pub put : Appends e.put e.put_after (refusal_line at number)
 
 -- the text was read whole, and a front of what is written for it was put
 pub record PutFront (e : Ends) : Type 0 where
@@ -68,7 +68,7 @@ abbrev pub Outcome : Ends → Status → Type 0
 Outcome e Done = Ran e
 Outcome e Fuel = ⊥
 Outcome e Usage = PutNothing e
-Outcome e (Text at number) = (at ≡ 0) × (number ≡ 0) × Refused e
+Outcome e (Text at number) = Refused e at number
 Outcome e ReadFault = Rose e.read_faults e.read_faults_after × PutNothing e
 Outcome e WriteFault = Rose e.write_faults e.write_faults_after × PutFront e
 Outcome e TooLong = TakesCount (greatest_text + 1) e.held e.left × PutNothing e
@@ -80,10 +80,15 @@ CountsAt e ReadFault = e.read_faults ≤ e.read_faults_after × (e.write_faults_
 CountsAt e WriteFault = (e.read_faults_after ≡ e.read_faults) × (e.write_faults ≤ e.write_faults_after)
 CountsAt e s = (e.read_faults_after ≡ e.read_faults) × (e.write_faults_after ≡ e.write_faults)
 
+-- a text that is run
+abbrev pub is_output : Answer → Bool
+is_output (output out) = true
+is_output (refusal at number) = false
+
 -- what a text is answered with where nothing fails
 abbrev pub AnswersText : List ℕ → Status → Type 0
-AnswersText text Done = is_some (text_output text) ≡ true
-AnswersText text (Text at number) = is_some (text_output text) ≡ false
+AnswersText text Done = is_output (text_answer text) ≡ true
+AnswersText text (Text at number) = text_answer text ≡ refusal at number
 AnswersText text Memory = ⊤
 AnswersText text _ = ⊥
 
@@ -95,8 +100,8 @@ IsComplete e s =
 
 -- what a status says of the writing of a text that was read whole: what was put before and after, and the counts of faults
 abbrev pub Answers : List ℕ → Option (List ℕ) → Option (List ℕ) → ℕ → ℕ → Status → Type 0
-Answers text put after faults more Done = (out : List ℕ) × (text_output text ≡ Some out) × Appends put after out × (more ≡ faults)
-Answers text put after faults more (Text at number) = (at ≡ 0) × (number ≡ 0) × (text_output text ≡ None) × Appends put after refusal_line × (more ≡ faults)
+Answers text put after faults more Done = (out : List ℕ) × (text_answer text ≡ output out) × Appends put after out × (more ≡ faults)
+Answers text put after faults more (Text at number) = (text_answer text ≡ refusal at number) × Appends put after (refusal_line at number) × (more ≡ faults)
 Answers text put after faults more WriteFault = Rose faults more × PutsFront put after (all_output text) × (faults ≤ more)
 Answers text put after faults more Memory = (after ≡ put) × (more ≡ faults)
 Answers text put after faults more _ = ⊥

@@ -1,11 +1,10 @@
--- What a text gives: the output of its runs, or the line that it isn't run yet.
-use Rattle.std.specs.Prelude.{◌≡◌, ℕ, pos, List, [], ◌∷◌, ◌++◌, Option, Some, None, option_map, unwrap_or, codes, refl}
-use Rattle.std.specs.Fmt.{digits}
+-- What a text gives that is run: the output of its runs.
+use Rattle.std.specs.Prelude.{ℕ, pos, List, [], ◌∷◌, ◌++◌, Option, Some, None, option_map, unwrap_or}
 use Rattle.kan_terms.specs.Tree.{Tree}
 use Rattle.kan_terms.specs.Table.{number_of, interned}
 use Rattle.kan_model.specs.Goals.{Primitive, Goal, Query, Program, Template}
 use Rattle.kan_model.specs.Text.{Table}
-use Rattle.kan_model.specs.Output.{runs_output, answer_line, summary_line, error_line}
+use Rattle.kan_model.specs.Output.{runs_output, answer_line, summary_line}
 use Rattle.kan_model.specs.Taking.{Ending}
 use Rattle.kan_model.specs.Stores.{Store}
 use Rattle.kanren_run.specs.FirstTexts.{Side, query, number, symbol, Equated, first_runs}
@@ -57,16 +56,3 @@ runs_written (e ∷ es) = run_output e
 -- the output of a text that is run
 abbrev pub text_output : List ℕ → Option (List ℕ)
 text_output text = option_map runs_written (first_runs text)
-
--- the line of a text that isn't run yet
-abbrev pub refusal_line : List ℕ
-refusal_line = codes "error 0 at 0: not built yet\n"
-
--- it is the error line of this refusal
-pub refusal_is_error : error_line 0 0 (codes "not built yet") ≡ refusal_line
-unfolding digits
-refusal_is_error = refl
-
--- what is written for a text, run or refused
-abbrev pub all_output : List ℕ → List ℕ
-all_output text = unwrap_or (text_output text) refusal_line

@@ -7,6 +7,8 @@ mod lexer;
 mod naming;
 mod printing;
 mod reader;
+mod refusal;
+mod reply;
 mod top;
 mod walking;
 

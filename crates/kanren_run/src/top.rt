@@ -1,20 +1,17 @@
 //! The top call: from a source of bytes to a sink.
 
-ghost use Rattle.std.specs.Prelude.{◌≡◌, true, false, not};
+ghost use Rattle.std.specs.Prelude.{◌≡◌, ◌≤◌, true, false, not, length};
 ghost use Rattle.kan_base.specs.Spots.{Spot};
 ghost use Rattle.kanren_run.specs.Outcomes.{Answers, CountsAt, IsComplete, Outcome, is_command, is_usage};
 
-use crate::engine::output_of;
+use crate::reply::{Reply, reply_to};
 use kan_base::{Place, Sink, Source, Status, TextStop, put_all, take_text};
 use std::alloc::Global;
-
-/// The line of a text that isn't run yet.
-const NOT_BUILT_YET: &str = "error 0 at 0: not built yet\n";
 
 /// Reads standard input to its end, runs the text, and writes its output.
 ///
 /// The words are those after the program's name; a line of the command has none so far. The answers of a run come in the order of its
-/// stream; each is one line, and behind them comes the run's summary line. A text that isn't run yet gives one line that says so.
+/// stream; each is one line, and behind them comes the run's summary line. A text that is refused, or that isn't run yet, gives one line that says so.
 pub fn kanren_alone<S: Source, K: Sink>(
     alloc: Global,
     words: &[&str],
@@ -108,15 +105,16 @@ fn answer_input<S: Source, K: Sink>(alloc: Global, source: &mut S, sink: &mut K)
 
 // Writes the output of a text that was read whole.
 fn answer_text<K: Sink>(alloc: Global, text: &[u8], sink: &mut K) -> Status
+    requires { length text.now ≤ 1048576 }
     ensures { Answers text.now (K.put sink.old) (K.put sink.new) (K.faults sink.old) (K.faults sink.new) result }
 {
-    match output_of(alloc, text) {
+    match reply_to(alloc, text) {
         Err(_) => Status::Memory,
-        Ok(None) => match put_all(sink, NOT_BUILT_YET.as_bytes()) {
-            Ok(()) => Status::Text(0, 0),
+        Ok(Reply::Refused(fault, line)) => match put_all(sink, line.as_bytes()) {
+            Ok(()) => Status::Text(fault.at, fault.number),
             Err(_) => Status::WriteFault,
         },
-        Ok(Some(output)) => match put_all(sink, output.as_bytes()) {
+        Ok(Reply::Output(output)) => match put_all(sink, output.as_bytes()) {
             Ok(()) => Status::Done,
             Err(_) => Status::WriteFault,
         },

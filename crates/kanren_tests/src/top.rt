@@ -152,15 +152,72 @@ fn not_built_yet(rt: HostRuntime) -> Result<(), Fail> {
         Status::Text(0, 0),
     )?;
     expect(&rt, b"(run* q (== q -1))", 64, line, Status::Text(0, 0))?;
-    expect(&rt, b"(run* q (== q '_0))", 64, line, Status::Text(0, 0))?;
     expect(
         &rt,
         b"(run* q (== q 'a)) ; note",
         64,
         line,
         Status::Text(0, 0),
-    )?;
-    expect(&rt, b"(run* q (== q 'a)", 64, line, Status::Text(0, 0))
+    )
+}
+
+#[test]
+fn refused_data(rt: HostRuntime) -> Result<(), Fail> {
+    let table: [(&[u8], &str, u32, u8); 9] = [
+        (
+            b"(run* q (foo x)) )",
+            "error 3 at 17: close without open\n",
+            17,
+            3,
+        ),
+        (b"(\xff", "error 1 at 1: not UTF-8\n", 1, 1),
+        (
+            b"(run* q (== q 'a)",
+            "error 2 at 0: list not closed\n",
+            0,
+            2,
+        ),
+        (b")", "error 3 at 0: close without open\n", 0, 3),
+        (b"(run* q (== q 1.5))", "error 4 at 14: bad token\n", 14, 4),
+        (b"( . a)", "error 5 at 2: bad dot\n", 2, 5),
+        (
+            b"(run* q (== q 170141183460469231731687303715884105728))",
+            "error 7 at 14: number out of range\n",
+            14,
+            7,
+        ),
+        (
+            b"(run* q (== q '_0))",
+            "error 8 at 15: reserved name\n",
+            15,
+            8,
+        ),
+        (b"(run* q (== q x)", "error 2 at 0: list not closed\n", 0, 2),
+    ];
+    for (text, line, at, number) in table {
+        expect(&rt, text, 64, line, Status::Text(at, number))?;
+    }
+    Ok(())
+}
+
+// A text of so many opening parentheses.
+fn openings(alloc: Global, count: usize) -> Result<Vec<u8>, AllocError> {
+    let mut text = Vec::new(alloc);
+    for _ in 0..count {
+        text.push(b'(')?;
+    }
+    Ok(text)
+}
+
+#[test]
+fn deepest_text(rt: HostRuntime) -> Result<(), Fail> {
+    let alloc = rt.alloc();
+    let text = openings(alloc, 2_049)?;
+    let line = "error 2 at 2048: list not closed\n";
+    expect(&rt, &text, 65_536, line, Status::Text(2048, 2))?;
+    let text = openings(alloc, 2_050)?;
+    let line = "error 6 at 2049: too deep\n";
+    expect(&rt, &text, 65_536, line, Status::Text(2049, 6))
 }
 
 // A text of so many spaces.
