@@ -1,2 +1,4 @@
 pub mod AppendLaws
 pub mod MachineLaws
+pub mod StackLaws
+pub mod GivingLaws

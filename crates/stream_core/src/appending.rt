@@ -11,7 +11,7 @@ use kan_terms::{ListOf, Memory};
 use std::alloc::Global;
 
 // Adds a store at the end of a list.
-fn put_last<St: Drop>(stores: &mut Stores<St>, store: St) -> Result<(), Memory>
+pub(crate) fn put_last<St: Drop>(stores: &mut Stores<St>, store: St) -> Result<(), Memory>
     ensures { OnOk result (stores.new ≡ stores.old ++ store ∷ []) }
 {
     match stores.push(store) {

@@ -2,8 +2,11 @@
 #![tactic(auto)]
 
 mod appending;
+mod giving;
 mod nodes;
+mod splitting;
 mod streams;
+mod tasks;
 
 pub use appending::append;
 pub use nodes::Nodes;
