@@ -2,3 +2,4 @@ pub mod AppendLaws
 pub mod MachineLaws
 pub mod StackLaws
 pub mod GivingLaws
+pub mod RunningLaws

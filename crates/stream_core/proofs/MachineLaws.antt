@@ -63,7 +63,7 @@ run-between (Goal.fresh k g) env st =
 run-between (Goal.call r args) env st = tt
 
 -- variables that are there are there below a higher counter too
-below-more : (n m : ℕ) → n ≤ m → (t : Tm) → all_below n t ≡ true → all_below m t ≡ true
+pub below-more : (n m : ℕ) → n ≤ m → (t : Tm) → all_below n t ≡ true → all_below m t ≡ true
 below-more n m more (Tree.leaf v) h = let low = ltb-true v n h in lt-ltb v m (omega (arith, low, more))
 below-more n m more (Tree.sym s) h = refl
 below-more n m more (Tree.num x) h = refl

@@ -21,7 +21,7 @@ pub(crate) fn put_last<St: Drop>(stores: &mut Stores<St>, store: St) -> Result<(
 }
 
 // The stores of a list, the last one first.
-fn reversed<St: Drop>(alloc: Global, mut stores: Stores<St>) -> Result<Stores<St>, Memory>
+pub(crate) fn reversed<St: Drop>(alloc: Global, mut stores: Stores<St>) -> Result<Stores<St>, Memory>
     ensures { IfOk result (λ turned. turned ≡ reverse stores) }
 {
     let mut turned = ListOf::new(alloc);

@@ -4,6 +4,7 @@
 mod appending;
 mod giving;
 mod nodes;
+mod running;
 mod splitting;
 mod streams;
 mod tasks;
