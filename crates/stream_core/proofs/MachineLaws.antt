@@ -11,7 +11,7 @@ use Rattle.kan_model.specs.Kept.{is_kept}
 use Rattle.kan_model.specs.Streams.{Stream, Thunk, heads, append, append_each, bind_all, empty, one}
 use Rattle.kan_model.specs.Running.{run, variables, assert, instance, named, instances, suspended_call}
 use Rattle.kan_model.specs.Scope.{width, all_below}
-use Rattle.stream_core.specs.Machine.{Task, done, Each, HasRoom, AreReady, for_each, count, left, Becomes, run_each}
+use Rattle.stream_core.specs.Machine.{Task, done, Each, HasRoom, AreReady, for_each, count, left, Becomes, run_each, bound_last}
 
 Each-like : {X : Type 0} (P Q : X → Type 0) → ((x : X) → P x → Q x) → (xs : List X) → Each P xs → Each Q xs
 Each-like P Q f [] h = tt
@@ -134,11 +134,6 @@ left-each : (g : Goal) (env : List Tm) (hs : List Store) (last : Stream) (ts : L
 left-each g env [] last ts vs = omega arith
 left-each g env (st ∷ hs) last ts vs =
     let rest = left-each g env hs last (Task.run_at g env st ∷ Task.append_two ∷ ts) vs in rest ∙ omega arith
-
--- what waits behind the stores of a stream that a goal is bound to
-abbrev pub bound_last : Goal → List Tm → Stream → Stream
-bound_last g env (Stream.ends hs) = empty
-bound_last g env (Stream.goes_on hs i) = Stream.goes_on [] (Thunk.bind g env i)
 
 pub becomes-bound : (g : Goal) (env : List Tm) (s : Stream) (ts : List Task) (vs : List Stream) →
     Becomes (Task.bind_to g env ∷ ts) (s ∷ vs) (run_each g env (heads s) ts) (bound_last g env s ∷ vs)

@@ -1,6 +1,6 @@
 -- Stacks of streams while the table of suspensions grows, and steps of the tasks in the words of the code.
 use Rattle.std.proofs.Common.{◌≡◌, ℕ, zero, suc, ◌+◌, ◌≤◌, ◌<◌, List, [], ◌∷◌, ◌++◌, refl, sym, ◌∙◌, ap, ap₂, subst, arith, map}
-use Rattle.std.specs.Prelude.{Option, Some, None, option_map, IfSome}
+use Rattle.std.specs.Prelude.{Option, Some, None, option_map, IfSome, Result, Ok, Err, OnOk}
 use Rattle.kan_terms.specs.Tree.{Tm}
 use Rattle.kan_model.specs.Goals.{Goal}
 use Rattle.kan_model.specs.Stores as facts
@@ -13,7 +13,7 @@ use Rattle.stream_core.specs.Standing.{Grows, StreamBelongs, stream, going_on}
 use Rattle.stream_core.specs.Tasks.{stack}
 use Rattle.stream_core.specs.declared.streams.Stream.{Stream}
 use Rattle.stream_core.proofs.StackLaws.{stack-push, stack-pop}
-use Rattle.stream_core.proofs.MachineLaws.{becomes-both, becomes-either, becomes-fresh, becomes-stream, becomes-appended}
+use Rattle.stream_core.proofs.MachineLaws.{becomes-both, becomes-either, becomes-fresh, becomes-stream, becomes-appended, becomes-bound}
 
 tail-grows : {I : Type 0} (belonged belongs : I → Type 0) (was is : I → model.Thunk) → Grows belonged was belongs is → (o : Option I) → IfSome o belonged → option_map is o ≡ option_map was o
 tail-grows belonged belongs was is grows None h = refl
@@ -79,3 +79,44 @@ pub becomes-given : (g : Goal) (env : List Tm) (st : facts.Store) (ts us : List 
     us ≡ ts → s ≡ run g env st → ws ≡ vs → ws' ≡ s ∷ ws → Becomes (machine.Task.run_at g env st ∷ ts) vs us ws'
 becomes-given g env st ts us vs ws ws' s is made same grown =
     becomes-moved _ _ _ _ _ _ (becomes-stream g env st ts vs (count-some g env st)) is (grown ∙ ap₂ (λ x xs. x ∷ xs) made same)
+
+-- what follows where a call gave a value
+pub on-ok : {T E : Type 0} (r : Result T E) (P Q : Type 0) → (P → Q) → OnOk r P → OnOk r Q
+on-ok (Ok x) P Q f h = f h
+on-ok (Err e) P Q f h = h
+
+-- the two streams on top appended
+pub becomes-top : (ts : List machine.Task) (vs ws : List model.Stream) (s t made : model.Stream) (rest : List model.Stream) →
+    vs ≡ s ∷ t ∷ rest → ws ≡ made ∷ rest → made ≡ model.append s t → Becomes (machine.Task.append_two ∷ ts) vs ts ws
+becomes-top ts vs ws s t made rest old new is = rw (old, new, is) (becomes-appended s t ts rest)
+
+pub heads-going : (hs : List facts.Store) (o : Option model.Thunk) → model.heads (going_on hs o) ≡ hs
+heads-going hs None = refl
+heads-going hs (Some t) = refl
+
+-- a goal bound to the stream on top
+pub becomes-bound-top : (g : Goal) (env : List Tm) (ts us : List machine.Task) (vs ws rest : List model.Stream) (s made : model.Stream) (hs : List facts.Store) →
+    vs ≡ s ∷ rest → us ≡ machine.run_each g env hs ts → model.heads s ≡ hs → ws ≡ made ∷ rest → made ≡ machine.bound_last g env s → Becomes (machine.Task.bind_to g env ∷ ts) vs us ws
+becomes-bound-top g env ts us vs ws rest s made hs old new has grown is =
+    let step : Becomes (machine.Task.bind_to g env ∷ ts) (s ∷ rest) (machine.run_each g env hs ts) (machine.bound_last g env s ∷ rest) =
+      subst (λ h. Becomes (machine.Task.bind_to g env ∷ ts) (s ∷ rest) (machine.run_each g env h ts) (machine.bound_last g env s ∷ rest)) has (becomes-bound g env s ts rest) in
+    rw (old, new, grown, is) step
+
+-- a step of the loop
+pub record StillFine (ts : List machine.Task) (vs : List model.Stream) (us : List machine.Task) (ws : List model.Stream) : Type 0 where
+  pub same : done us ws ≡ done ts vs
+  pub ready : machine.AreReady us ws
+
+pub first-ready : (ts us : List machine.Task) (t : machine.Task) (vs : List model.Stream) → ts ≡ t ∷ us → machine.AreReady ts vs → machine.AreReady (t ∷ us) vs
+first-ready ts us t vs is ready = subst (λ xs. machine.AreReady xs vs) is ready
+
+pub step-done : (ts us ws : List machine.Task) (t : machine.Task) (vs xs : List model.Stream) (whole : List model.Stream) → ts ≡ t ∷ us → Becomes (t ∷ us) vs ws xs → done ts vs ≡ whole → done ws xs ≡ whole
+step-done ts us ws t vs xs whole is step kept = step.same ∙ ap (λ ys. done ys vs) (sym is) ∙ kept
+
+pub step-fewer : (ts us ws : List machine.Task) (t : machine.Task) (vs xs : List model.Stream) → ts ≡ t ∷ us → Becomes (t ∷ us) vs ws xs → machine.AreReady ts vs → machine.left ws xs < machine.left ts vs
+step-fewer ts us ws t vs xs is step ready = rw is (step.fewer (first-ready ts us t vs is ready))
+
+-- the top of the stack when no task is left
+pub top-is : (ts : List machine.Task) (vs rest whole : List model.Stream) (s : model.Stream) → ts ≡ [] → done ts vs ≡ whole → vs ≡ s ∷ rest → (v : model.Stream) (more : List model.Stream) → whole ≡ v ∷ more → s ≡ v
+top-is ts vs rest whole s none kept top v more is =
+    let same : s ∷ rest ≡ v ∷ more = sym top ∙ ap (λ xs. done xs vs) (sym none) ∙ kept ∙ is in cc

@@ -4,7 +4,7 @@ use Rattle.std.specs.List.{list_all}
 use Rattle.kan_terms.specs.Tree.{Tm}
 use Rattle.kan_model.specs.Goals.{Goal}
 use Rattle.kan_model.specs.Stores.{Store, with_fresh}
-use Rattle.kan_model.specs.Streams.{Stream, heads, append, bind_all}
+use Rattle.kan_model.specs.Streams.{Stream, Thunk, heads, append, bind_all, empty}
 use Rattle.kan_model.specs.Running.{run, variables}
 use Rattle.kan_model.specs.Scope.{width, all_below}
 use Rattle.std.specs.Prelude.{◌++◌}
@@ -76,3 +76,8 @@ pub record Becomes (ts : List Task) (vs : List Stream) (us : List Task) (ws : Li
 abbrev pub run_each : Goal → List Tm → List Store → List Task → List Task
 run_each g env [] ts = ts
 run_each g env (st ∷ sts) ts = run_each g env sts (Task.run_at g env st ∷ Task.append_two ∷ ts)
+
+-- what waits behind the stores of a stream that a goal is bound to
+abbrev pub bound_last : Goal → List Tm → Stream → Stream
+bound_last g env (Stream.ends hs) = empty
+bound_last g env (Stream.goes_on hs i) = Stream.goes_on [] (Thunk.bind g env i)

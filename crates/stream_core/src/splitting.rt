@@ -1,6 +1,6 @@
 //! Goals that are run by running others.
 
-ghost use Rattle.std.specs.Prelude.{◌≡◌, ◌+◌, ◌≤◌, ◌^◌, ℕ, ◌∷◌, ◌++◌, OnOk};
+ghost use Rattle.std.specs.Prelude.{◌≡◌, ◌+◌, ◌≤◌, ◌^◌, ℕ, ◌∷◌, ◌++◌, map, OnOk};
 ghost use Rattle.kan_model.specs.Goals.{Goal};
 ghost use Rattle.kan_model.specs.Stores.{with_fresh};
 ghost use Rattle.kan_model.specs.Running.{variables};
@@ -8,6 +8,8 @@ ghost use Rattle.kan_model.specs.Environments.{terms_of};
 ghost use Rattle.stream_core.specs.Machine as machine;
 ghost use Rattle.stream_core.specs.Tasks.{task, stack};
 
+use crate::appending::reversed;
+use crate::streams::Stores;
 use crate::tasks::Task;
 use kan_model::{Env, Store};
 use kan_terms::Memory;
@@ -86,5 +88,40 @@ pub(crate) fn split_fresh<St: Store>(
         env,
         store,
     })?;
+    Ok(())
+}
+
+// A goal at a store, whose stream is appended to the one under it.
+fn push_run<St: Store>(
+    alloc: Global,
+    goal: u32,
+    env: &Env,
+    store: St,
+    tasks: &mut Vec<Task<St>>,
+) -> Result<(), Memory>
+    ensures { OnOk result ((at : ℕ → Goal) → stack (task St.meaning at) tasks.new.items
+        ≡ machine.Task.run_at (at goal) (terms_of env.now) (St.meaning store) ∷ machine.Task.append_two ∷ stack (task St.meaning at) tasks.old.items) }
+{
+    let env = env.again(alloc)?;
+    tasks.push(Task::Append)?;
+    tasks.push(Task::Run { goal, env, store })?;
+    Ok(())
+}
+
+// A goal at each store, whose streams are appended.
+pub(crate) fn run_at_each<St: Store>(
+    alloc: Global,
+    goal: u32,
+    env: &Env,
+    heads: Stores<St>,
+    tasks: &mut Vec<Task<St>>,
+) -> Result<(), Memory>
+    ensures { OnOk result ((at : ℕ → Goal) → stack (task St.meaning at) tasks.new.items
+        ≡ machine.run_each (at goal) (terms_of env.now) (map St.meaning heads) (stack (task St.meaning at) tasks.old.items)) }
+{
+    let mut waiting = reversed(alloc, heads)?;
+    while let Some(store) = waiting.pop() {
+        push_run(alloc, goal, env, store, tasks)?;
+    }
     Ok(())
 }
