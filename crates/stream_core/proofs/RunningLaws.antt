@@ -120,3 +120,12 @@ step-fewer ts us ws t vs xs is step ready = rw is (step.fewer (first-ready ts us
 pub top-is : (ts : List machine.Task) (vs rest whole : List model.Stream) (s : model.Stream) → ts ≡ [] → done ts vs ≡ whole → vs ≡ s ∷ rest → (v : model.Stream) (more : List model.Stream) → whole ≡ v ∷ more → s ≡ v
 top-is ts vs rest whole s none kept top v more is =
     let same : s ∷ rest ≡ v ∷ more = sym top ∙ ap (λ xs. done xs vs) (sym none) ∙ kept ∙ is in cc
+
+-- what the stacks of a run and of a binding leave
+pub run-done : (g : Goal) (env env' : List Tm) (st : facts.Store) (ts : List machine.Task) (vs : List model.Stream) → ts ≡ machine.Task.run_at g env' st ∷ [] → vs ≡ [] → env' ≡ env →
+    done ts vs ≡ run g env st ∷ []
+run-done g env env' st ts vs is none same = ap₂ done is none ∙ ap (λ e. run g e st ∷ []) same
+
+pub bind-done : (g : Goal) (env env' : List Tm) (s : model.Stream) (ts : List machine.Task) (vs : List model.Stream) → ts ≡ machine.Task.bind_to g env' ∷ [] → vs ≡ s ∷ [] → env' ≡ env →
+    done ts vs ≡ model.bind_all (run g env) g env s ∷ []
+bind-done g env env' s ts vs is one same = ap₂ done is one ∙ ap (λ e. model.bind_all (run g e) g e s ∷ []) same

@@ -11,4 +11,5 @@ mod tasks;
 
 pub use appending::append;
 pub use nodes::Nodes;
+pub use running::{bind_all, run_goal};
 pub use streams::{Stores, Stream, Thunk};

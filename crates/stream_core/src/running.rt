@@ -10,7 +10,7 @@ ghost use Rattle.kan_model.specs.Programs as programs;
 ghost use Rattle.stream_core.specs.Machine as machine;
 ghost use Rattle.stream_core.specs.Machine.{Each, HasRoom, Becomes, AreReady, done};
 ghost use Rattle.stream_core.specs.Standing as standing;
-ghost use Rattle.stream_core.specs.Tasks.{task, stack};
+ghost use Rattle.stream_core.specs.Tasks.{task, stack, is_built};
 
 use crate::appending::append;
 use crate::giving::give;
@@ -189,4 +189,59 @@ fn finish<N: Nodes<St>, St: Store>(
         Some(stream) => Ok(stream),
         None => Err(Memory),
     }
+}
+
+/// The stream of a goal at a store, with the slots standing for the environment's terms.
+pub fn run_goal<N: Nodes<St>, St: Store>(
+    alloc: Global,
+    program: &Program,
+    goal: u32,
+    env: &Env,
+    store: St,
+    nodes: &mut N,
+) -> Result<Stream<N::Id, St>, Memory>
+    requires goals { N.goal nodes.old ≡ programs.goal program.now }
+    requires room { HasRoom (programs.goal program.now goal) (terms_of env.now) (St.meaning store) }
+    // Until the other constraints are built.
+    requires built { list_all is_built (programs.tables program.now).goals ≡ true }
+    ensures made { IfOk result (λ made. standing.stream (N.tree nodes.new) St.meaning made ≡ run (programs.goal program.now goal) (terms_of env.now) (St.meaning store)) }
+    ensures belong { IfOk result (λ made. standing.StreamBelongs (N.belongs nodes.new) made) }
+    ensures older { standing.Grows (N.belongs nodes.old) (N.tree nodes.old) (N.belongs nodes.new) (N.tree nodes.new) }
+    ensures same { N.goal nodes.new ≡ N.goal nodes.old }
+{
+    let env = env.again(alloc)?;
+    let mut tasks = Vec::new(alloc);
+    tasks.push(Task::Run { goal, env, store })?;
+    let values = Vec::new(alloc);
+    let made = finish(alloc, program, nodes, tasks, values)?;
+    Ok(made)
+}
+
+/// The streams of a goal at each store of a stream, appended; the goal waits for the stores that come later.
+pub fn bind_all<N: Nodes<St>, St: Store>(
+    alloc: Global,
+    program: &Program,
+    goal: u32,
+    env: &Env,
+    stream: Stream<N::Id, St>,
+    nodes: &mut N,
+) -> Result<Stream<N::Id, St>, Memory>
+    requires goals { N.goal nodes.old ≡ programs.goal program.now }
+    requires room { Each (HasRoom (programs.goal program.now goal) (terms_of env.now)) (map St.meaning stream.heads) }
+    requires belong { standing.StreamBelongs (N.belongs nodes.old) stream }
+    // Until the other constraints are built.
+    requires built { list_all is_built (programs.tables program.now).goals ≡ true }
+    ensures made { IfOk result (λ made. standing.stream (N.tree nodes.new) St.meaning made
+        ≡ model.bind_all (run (programs.goal program.now goal) (terms_of env.now)) (programs.goal program.now goal) (terms_of env.now) (standing.stream (N.tree nodes.old) St.meaning stream)) }
+    ensures belong { IfOk result (λ made. standing.StreamBelongs (N.belongs nodes.new) made) }
+    ensures older { standing.Grows (N.belongs nodes.old) (N.tree nodes.old) (N.belongs nodes.new) (N.tree nodes.new) }
+    ensures same { N.goal nodes.new ≡ N.goal nodes.old }
+{
+    let env = env.again(alloc)?;
+    let mut tasks = Vec::new(alloc);
+    tasks.push(Task::Bind { goal, env })?;
+    let mut values = Vec::new(alloc);
+    values.push(stream)?;
+    let made = finish(alloc, program, nodes, tasks, values)?;
+    Ok(made)
 }
