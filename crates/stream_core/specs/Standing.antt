@@ -1,8 +1,10 @@
 -- What suspensions and streams of the code stand for, given what their ids, stores and goals do.
 use Rattle.std.specs.Prelude.{◌≡◌, ℕ, List, map, Option, Some, None, option_map, IfSome}
-use Rattle.kan_model.specs.Goals.{Goal}
+use Rattle.kan_model.specs.Goals.{Goal, Program}
+use Rattle.kan_model.specs.Tables.{goal_at}
 use Rattle.kan_model.specs.Stores as facts
 use Rattle.kan_model.specs.Streams as model
+use Rattle.kan_model.specs.Running.{force}
 use Rattle.kan_model.specs.Environments.{terms_of}
 use Rattle.stream_core.specs.declared.streams.Thunk.{Thunk}
 use Rattle.stream_core.specs.declared.streams.Thunk.TheVariants.{Call, Swap, Bind}
@@ -35,6 +37,14 @@ module _ {I St : Type 0} where
   ThunkBelongs belongs (Swap heads tail inner) = IfSome tail belongs × belongs inner
   ThunkBelongs belongs (Bind g env inner) = belongs inner
 
+-- the goal at a place of a program
+abbrev pub goal_in : Program → ℕ → Goal
+goal_in program i = goal_at program.goals i
+
 -- what belonged to a table belongs to it still, and stands for what it stood for
 abbrev pub Grows : {I : Type 0} → (I → Type 0) → (I → model.Thunk) → (I → Type 0) → (I → model.Thunk) → Type 0
 Grows {I} belonged was belongs is = (id : I) → belonged id → belongs id × (is id ≡ was id)
+
+-- a stream that is the force of a thunk, and whose ids belong
+abbrev pub IsForce : {I St : Type 0} → (I → Type 0) → (I → model.Thunk) → (St → facts.Store) → Program → model.Thunk → Stream I St → Type 0
+IsForce belongs tree means program t s = StreamBelongs belongs s × (stream tree means s ≡ force program t)

@@ -50,7 +50,7 @@ pub fn append<N: Nodes<St>, St: Store>(alloc: Global, left: Stream<N::Id, St>, r
     ensures made { IfOk result (λ made. standing.stream (N.tree nodes.new) St.meaning made ≡ model.append (standing.stream (N.tree nodes.old) St.meaning left) (standing.stream (N.tree nodes.old) St.meaning right)) }
     ensures belong { IfOk result (λ made. standing.StreamBelongs (N.belongs nodes.new) made) }
     ensures older { standing.Grows (N.belongs nodes.old) (N.tree nodes.old) (N.belongs nodes.new) (N.tree nodes.new) }
-    ensures same { N.goal nodes.new ≡ N.goal nodes.old }
+    ensures same { N.serves nodes.new ≡ N.serves nodes.old }
 {
     let Stream { heads, tail } = left;
     match tail {

@@ -139,7 +139,7 @@ pub(crate) fn call_stream<N: Nodes<St>, St: Store>(
         ≡ suspended_call call.rel (named (St.meaning store) (instances (terms_of env.now) (arguments_at (programs.templates program.now) (programs.tables program.now).arguments call.at call.count)))) }
     ensures belong { IfOk result (λ made. standing.StreamBelongs (N.belongs nodes.new) made) }
     ensures older { standing.Grows (N.belongs nodes.old) (N.tree nodes.old) (N.belongs nodes.new) (N.tree nodes.new) }
-    ensures same { N.goal nodes.new ≡ N.goal nodes.old }
+    ensures same { N.serves nodes.new ≡ N.serves nodes.old }
 {
     let (values, store) = name_all(alloc, program, call.at, call.count, env, store)?;
     let args = Env::of(program, values);
@@ -168,7 +168,7 @@ pub(crate) fn give<N: Nodes<St>, St: Store>(
     ensures made { IfOk result (λ made. standing.stream (N.tree nodes.new) St.meaning made ≡ run (programs.entry_goal program.now (goal_entry node)) (terms_of env.now) (St.meaning store)) }
     ensures belong { IfOk result (λ made. standing.StreamBelongs (N.belongs nodes.new) made) }
     ensures older { standing.Grows (N.belongs nodes.old) (N.tree nodes.old) (N.belongs nodes.new) (N.tree nodes.new) }
-    ensures same { N.goal nodes.new ≡ N.goal nodes.old }
+    ensures same { N.serves nodes.new ≡ N.serves nodes.old }
 {
     match node {
         GoalNode::Succeed => Ok(Stream {

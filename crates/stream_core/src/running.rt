@@ -40,7 +40,7 @@ fn run_node<N: Nodes<St>, St: Store>(
         (stack (task St.meaning (programs.goal program.now)) tasks.new.items) (stack (standing.stream (N.tree nodes.new) St.meaning) values.new.items)) }
     ensures belong { OnOk result (Each (standing.StreamBelongs (N.belongs nodes.new)) values.new.items) }
     ensures older { standing.Grows (N.belongs nodes.old) (N.tree nodes.old) (N.belongs nodes.new) (N.tree nodes.new) }
-    ensures same { N.goal nodes.new ≡ N.goal nodes.old }
+    ensures same { N.serves nodes.new ≡ N.serves nodes.old }
 {
     let node = program.goal_node(goal);
     match node {
@@ -66,7 +66,7 @@ fn append_top<N: Nodes<St>, St: Store>(
         ts (stack (standing.stream (N.tree nodes.new) St.meaning) values.new.items)) }
     ensures belong { OnOk result (Each (standing.StreamBelongs (N.belongs nodes.new)) values.new.items) }
     ensures older { standing.Grows (N.belongs nodes.old) (N.tree nodes.old) (N.belongs nodes.new) (N.tree nodes.new) }
-    ensures same { N.goal nodes.new ≡ N.goal nodes.old }
+    ensures same { N.serves nodes.new ≡ N.serves nodes.old }
 {
     let Some(left) = values.pop() else {
         return Err(Memory);
@@ -89,10 +89,10 @@ fn bound_tail<N: Nodes<St>, St: Store>(
 ) -> Result<Stream<N::Id, St>, Memory>
     requires { IfSome tail (N.belongs nodes.old) }
     ensures made { IfOk result (λ made. (hs : List facts.Store) → standing.stream (N.tree nodes.new) St.meaning made
-        ≡ machine.bound_last (N.goal nodes.old goal) (terms_of env.now) (standing.going_on hs (option_map (N.tree nodes.old) tail))) }
+        ≡ machine.bound_last (standing.goal_in (N.serves nodes.old) goal) (terms_of env.now) (standing.going_on hs (option_map (N.tree nodes.old) tail))) }
     ensures belong { IfOk result (λ made. standing.StreamBelongs (N.belongs nodes.new) made) }
     ensures older { standing.Grows (N.belongs nodes.old) (N.tree nodes.old) (N.belongs nodes.new) (N.tree nodes.new) }
-    ensures same { N.goal nodes.new ≡ N.goal nodes.old }
+    ensures same { N.serves nodes.new ≡ N.serves nodes.old }
 {
     match tail {
         None => Ok(Stream {
@@ -120,12 +120,12 @@ fn bind_top<N: Nodes<St>, St: Store>(
     values: &mut Vec<Stream<N::Id, St>>,
 ) -> Result<(), Memory>
     requires belong { Each (standing.StreamBelongs (N.belongs nodes.old)) values.old.items }
-    ensures becomes { OnOk result (Becomes (machine.Task.bind_to (N.goal nodes.old goal) (terms_of env.now) ∷ stack (task St.meaning (N.goal nodes.old)) tasks.old.items)
+    ensures becomes { OnOk result (Becomes (machine.Task.bind_to (standing.goal_in (N.serves nodes.old) goal) (terms_of env.now) ∷ stack (task St.meaning (standing.goal_in (N.serves nodes.old))) tasks.old.items)
         (stack (standing.stream (N.tree nodes.old) St.meaning) values.old.items)
-        (stack (task St.meaning (N.goal nodes.old)) tasks.new.items) (stack (standing.stream (N.tree nodes.new) St.meaning) values.new.items)) }
+        (stack (task St.meaning (standing.goal_in (N.serves nodes.old))) tasks.new.items) (stack (standing.stream (N.tree nodes.new) St.meaning) values.new.items)) }
     ensures belong { OnOk result (Each (standing.StreamBelongs (N.belongs nodes.new)) values.new.items) }
     ensures older { standing.Grows (N.belongs nodes.old) (N.tree nodes.old) (N.belongs nodes.new) (N.tree nodes.new) }
-    ensures same { N.goal nodes.new ≡ N.goal nodes.old }
+    ensures same { N.serves nodes.new ≡ N.serves nodes.old }
 {
     let Some(stream) = values.pop() else {
         return Err(Memory);
@@ -146,7 +146,7 @@ fn take_task<N: Nodes<St>, St: Store>(
     tasks: &mut Vec<Task<St>>,
     values: &mut Vec<Stream<N::Id, St>>,
 ) -> Result<(), Memory>
-    requires goals { N.goal nodes.old ≡ programs.goal program.now }
+    requires goals { N.serves nodes.old ≡ programs.meaning program.now }
     requires ready { AreReady (task St.meaning (programs.goal program.now) next ∷ stack (task St.meaning (programs.goal program.now)) tasks.old.items) (stack (standing.stream (N.tree nodes.old) St.meaning) values.old.items) }
     requires belong { Each (standing.StreamBelongs (N.belongs nodes.old)) values.old.items }
     ensures becomes { OnOk result (Becomes (task St.meaning (programs.goal program.now) next ∷ stack (task St.meaning (programs.goal program.now)) tasks.old.items)
@@ -154,7 +154,7 @@ fn take_task<N: Nodes<St>, St: Store>(
         (stack (task St.meaning (programs.goal program.now)) tasks.new.items) (stack (standing.stream (N.tree nodes.new) St.meaning) values.new.items)) }
     ensures belong { OnOk result (Each (standing.StreamBelongs (N.belongs nodes.new)) values.new.items) }
     ensures older { standing.Grows (N.belongs nodes.old) (N.tree nodes.old) (N.belongs nodes.new) (N.tree nodes.new) }
-    ensures same { N.goal nodes.new ≡ N.goal nodes.old }
+    ensures same { N.serves nodes.new ≡ N.serves nodes.old }
 {
     match next {
         Task::Run { goal, env, store } => {
@@ -173,14 +173,14 @@ fn finish<N: Nodes<St>, St: Store>(
     mut tasks: Vec<Task<St>>,
     mut values: Vec<Stream<N::Id, St>>,
 ) -> Result<Stream<N::Id, St>, Memory>
-    requires goals { N.goal nodes.old ≡ programs.goal program.now }
+    requires goals { N.serves nodes.old ≡ programs.meaning program.now }
     requires ready { AreReady (stack (task St.meaning (programs.goal program.now)) tasks.items) (stack (standing.stream (N.tree nodes.old) St.meaning) values.items) }
     requires belong { Each (standing.StreamBelongs (N.belongs nodes.old)) values.items }
     ensures made { IfOk result (λ made. (v : model.Stream) (more : List model.Stream) →
         done (stack (task St.meaning (programs.goal program.now)) tasks.items) (stack (standing.stream (N.tree nodes.old) St.meaning) values.items) ≡ v ∷ more → standing.stream (N.tree nodes.new) St.meaning made ≡ v) }
     ensures belong { IfOk result (λ made. standing.StreamBelongs (N.belongs nodes.new) made) }
     ensures older { standing.Grows (N.belongs nodes.old) (N.tree nodes.old) (N.belongs nodes.new) (N.tree nodes.new) }
-    ensures same { N.goal nodes.new ≡ N.goal nodes.old }
+    ensures same { N.serves nodes.new ≡ N.serves nodes.old }
 {
     while let Some(next) = tasks.pop() {
         take_task(alloc, program, next, nodes, &mut tasks, &mut values)?;
@@ -200,14 +200,14 @@ pub fn run_goal<N: Nodes<St>, St: Store>(
     store: St,
     nodes: &mut N,
 ) -> Result<Stream<N::Id, St>, Memory>
-    requires goals { N.goal nodes.old ≡ programs.goal program.now }
+    requires goals { N.serves nodes.old ≡ programs.meaning program.now }
     requires room { HasRoom (programs.goal program.now goal) (terms_of env.now) (St.meaning store) }
     // Until the other constraints are built.
     requires built { list_all is_built (programs.tables program.now).goals ≡ true }
     ensures made { IfOk result (λ made. standing.stream (N.tree nodes.new) St.meaning made ≡ run (programs.goal program.now goal) (terms_of env.now) (St.meaning store)) }
     ensures belong { IfOk result (λ made. standing.StreamBelongs (N.belongs nodes.new) made) }
     ensures older { standing.Grows (N.belongs nodes.old) (N.tree nodes.old) (N.belongs nodes.new) (N.tree nodes.new) }
-    ensures same { N.goal nodes.new ≡ N.goal nodes.old }
+    ensures same { N.serves nodes.new ≡ N.serves nodes.old }
 {
     let env = env.again(alloc)?;
     let mut tasks = Vec::new(alloc);
@@ -226,7 +226,7 @@ pub fn bind_all<N: Nodes<St>, St: Store>(
     stream: Stream<N::Id, St>,
     nodes: &mut N,
 ) -> Result<Stream<N::Id, St>, Memory>
-    requires goals { N.goal nodes.old ≡ programs.goal program.now }
+    requires goals { N.serves nodes.old ≡ programs.meaning program.now }
     requires room { Each (HasRoom (programs.goal program.now goal) (terms_of env.now)) (map St.meaning stream.heads) }
     requires belong { standing.StreamBelongs (N.belongs nodes.old) stream }
     // Until the other constraints are built.
@@ -235,7 +235,7 @@ pub fn bind_all<N: Nodes<St>, St: Store>(
         ≡ model.bind_all (run (programs.goal program.now goal) (terms_of env.now)) (programs.goal program.now goal) (terms_of env.now) (standing.stream (N.tree nodes.old) St.meaning stream)) }
     ensures belong { IfOk result (λ made. standing.StreamBelongs (N.belongs nodes.new) made) }
     ensures older { standing.Grows (N.belongs nodes.old) (N.tree nodes.old) (N.belongs nodes.new) (N.tree nodes.new) }
-    ensures same { N.goal nodes.new ≡ N.goal nodes.old }
+    ensures same { N.serves nodes.new ≡ N.serves nodes.old }
 {
     let env = env.again(alloc)?;
     let mut tasks = Vec::new(alloc);

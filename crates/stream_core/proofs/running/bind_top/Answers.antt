@@ -14,9 +14,9 @@ returns-clause-becomes g c =
     let is = standing.stream (g.N.Nodes.tree c.bound_tail.new.nodes) means in
     let belongs = standing.StreamBelongs (g.N.Nodes.belongs c.args.nodes.now) in
     let first = Each-front belongs _ _ _ c.in-Some.ensures.items c.requires.belong in
-    becomes-bound-top (g.N.Nodes.goal c.args.nodes.now c.args.goal) (terms_of c.args.env.now) _ _ _ _ _ _ _ (map means c.in-Some.stream.heads)
+    becomes-bound-top (standing.goal_in (g.N.Nodes.serves c.args.nodes.now) c.args.goal) (terms_of c.args.env.now) _ _ _ _ _ _ _ (map means c.in-Some.stream.heads)
     (stack-pop was _ _ _ c.in-Some.ensures.items)
-    (c.in_ok-run_at_each.ensures (g.N.Nodes.goal c.args.nodes.now))
+    (c.in_ok-run_at_each.ensures (standing.goal_in (g.N.Nodes.serves c.args.nodes.now)))
     (heads-going (map means c.in-Some.stream.heads) (option_map (g.N.Nodes.tree c.args.nodes.now) c.in-Some.stream.tail))
     (stack-pop is _ _ _ c.in_ok-push.ensures.items
       ∙ ap (λ vs. is c.in_ok-last.last ∷ vs) (stack-grows (g.N.Nodes.belongs c.args.nodes.now) (g.N.Nodes.belongs c.bound_tail.new.nodes) (g.N.Nodes.tree c.args.nodes.now) (g.N.Nodes.tree c.bound_tail.new.nodes) means c.in_ok-last.ensures.older _ first.0))
