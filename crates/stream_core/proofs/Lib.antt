@@ -3,3 +3,4 @@ pub mod MachineLaws
 pub mod StackLaws
 pub mod GivingLaws
 pub mod RunningLaws
+pub mod GrowingLaws

@@ -2,3 +2,4 @@ pub mod Standing
 pub mod Machine
 pub mod Tasks
 pub mod Naming
+pub mod Growing

@@ -4,6 +4,7 @@
 mod appending;
 mod giving;
 mod nodes;
+mod plain;
 mod running;
 mod splitting;
 mod streams;
@@ -11,5 +12,6 @@ mod tasks;
 
 pub use appending::append;
 pub use nodes::Nodes;
+pub use plain::{PlainId, PlainNodes};
 pub use running::{bind_all, run_goal};
 pub use streams::{Stores, Stream, Thunk};
