@@ -4,3 +4,4 @@ pub mod StackLaws
 pub mod GivingLaws
 pub mod RunningLaws
 pub mod GrowingLaws
+pub mod ForceLaws

@@ -13,7 +13,7 @@ use Rattle.kan_model.specs.Running.{run, variables, assert, instance, named, ins
 use Rattle.kan_model.specs.Scope.{width, all_below}
 use Rattle.stream_core.specs.Machine.{Task, done, Each, HasRoom, AreReady, for_each, count, left, Becomes, run_each, bound_last}
 
-Each-like : {X : Type 0} (P Q : X → Type 0) → ((x : X) → P x → Q x) → (xs : List X) → Each P xs → Each Q xs
+pub Each-like : {X : Type 0} (P Q : X → Type 0) → ((x : X) → P x → Q x) → (xs : List X) → Each P xs → Each Q xs
 Each-like P Q f [] h = tt
 Each-like P Q f (x ∷ xs) (h, hs) = (f x h, Each-like P Q f xs hs)
 
@@ -22,7 +22,7 @@ Each-append P [] ys h k = k
 Each-append P (x ∷ xs) ys (h, hs) k = (h, Each-append P xs ys hs k)
 
 -- the stores of streams that are appended, and of a goal at each store
-heads-append : (P : Store → Type 0) (s t : Stream) → Each P (heads s) → Each P (heads t) → Each P (heads (append s t))
+pub heads-append : (P : Store → Type 0) (s t : Stream) → Each P (heads s) → Each P (heads t) → Each P (heads (append s t))
 heads-append P (Stream.ends hs) (Stream.ends ks) h k = Each-append P hs ks h k
 heads-append P (Stream.ends hs) (Stream.goes_on ks i) h k = Each-append P hs ks h k
 heads-append P (Stream.goes_on hs i) t h k = h
@@ -31,7 +31,7 @@ heads-each : (P : Store → Type 0) (f : Store → Stream) (hs : List Store) (la
 heads-each P f [] last h k = k
 heads-each P f (st ∷ hs) last (h, rest) k = heads-append P (f st) (append_each f hs last) h (heads-each P f hs last rest k)
 
-heads-bind : (P : Store → Type 0) (f : Store → Stream) (g : Goal) (env : List Tm) (s : Stream) → Each (λ st. Each P (heads (f st))) (heads s) → Each P (heads (bind_all f g env s))
+pub heads-bind : (P : Store → Type 0) (f : Store → Stream) (g : Goal) (env : List Tm) (s : Stream) → Each (λ st. Each P (heads (f st))) (heads s) → Each P (heads (bind_all f g env s))
 heads-bind P f g env (Stream.ends hs) h = heads-each P f hs empty h tt
 heads-bind P f g env (Stream.goes_on hs i) h = heads-each P f hs (Stream.goes_on [] (Thunk.bind g env i)) h tt
 

@@ -3,3 +3,4 @@ pub mod Machine
 pub mod Tasks
 pub mod Naming
 pub mod Growing
+pub mod Forcing

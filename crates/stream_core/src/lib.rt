@@ -1,6 +1,7 @@
 //! Streams whose suspensions are kept in a table: the stream of a goal, and what forcing a suspension gives.
 #![tactic(auto)]
 
+mod again;
 mod appending;
 mod giving;
 mod nodes;
