@@ -13,7 +13,7 @@ use Rattle.kan_model.specs.Scope.{width, is_narrow, is_small, all_below}
 use Rattle.kan_model.specs.Tables.{Tables, RelationEntry, goal_at, goals_of, program_of}
 use Rattle.kan_model.specs.Bounds.{top, floor, stream_top, stream_floor, highest, lowest, Fits, StreamFits}
 use Rattle.stream_core.specs.Machine.{Each, HasRoom}
-use Rattle.stream_core.specs.Forcing.{MayForce}
+use Rattle.stream_core.specs.Forcing.{MayForce, inner_of}
 use Rattle.stream_core.proofs.MachineLaws.{Between, Each-like, heads-append, heads-bind, run-between, env-more}
 
 -- heads lie between the least and the greatest of their counters
@@ -101,3 +101,24 @@ swap-inner program t i ((first, fits), most) = let high = stream-top-above t (to
 
 pub bind-inner : (program : Program) (g : Goal) (env : List Tm) (i : Thunk) → MayForce program (Thunk.bind g env i) → MayForce program i
 bind-inner program g env i ((there, slots, below, fits), most) = (fits, omega (arith, most))
+
+-- the relation that was found is the program's
+pub relation-found : (tables : Tables) (r : ℕ) (e : RelationEntry) → Some e ≡ slice_get tables.relations r → slice_get (program_of tables).relations r ≡ Some (relation_of (goals_of tables) e)
+relation-found tables r e is = slice_get-map (relation_of (goals_of tables)) tables.relations r ∙ ap (option_map (relation_of (goals_of tables))) (sym is)
+
+pub relation-missing : (tables : Tables) (r : ℕ) → None ≡ slice_get tables.relations r → slice_get (program_of tables).relations r ≡ None
+relation-missing tables r is = slice_get-map (relation_of (goals_of tables)) tables.relations r ∙ ap (option_map (relation_of (goals_of tables))) (sym is)
+
+-- the same in the words of the code: the stream that is bound is the force of what is inside
+pub climb-room : (program : Program) (g : Goal) (env : List Tm) (i t : Thunk) (s : Stream) (hs : List Store) → NarrowBodies program → t ≡ Thunk.bind g env i → MayForce program t →
+    s ≡ force program (inner_of t) → heads s ≡ hs → Each (HasRoom g env) hs
+climb-room program g env i t s hs narrow is may made has =
+    let room = bind-room program g env i narrow (subst (MayForce program) is may) in
+    let same : heads (force program i) ≡ hs = ap (λ u. heads (force program (inner_of u))) (sym is) ∙ ap heads (sym made) ∙ has in
+    subst (Each (HasRoom g env)) same room
+
+-- what is inside a suspension that may be forced may be forced
+pub inner-may : (program : Program) (t : Thunk) → MayForce program t → MayForce program (inner_of t)
+inner-may program (Thunk.call r args st) may = may
+inner-may program (Thunk.swap t i) may = swap-inner program t i may
+inner-may program (Thunk.bind g env i) may = bind-inner program g env i may

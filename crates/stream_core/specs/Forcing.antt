@@ -1,5 +1,5 @@
 -- Forcing a suspension by going down to its call and up again.
-use Rattle.std.specs.Prelude.{◌≡◌, ℕ, suc, ◌≤◌, ◌^◌, List, [], ◌∷◌}
+use Rattle.std.specs.Prelude.{◌≡◌, ℕ, suc, ◌≤◌, ◌^◌, List, [], ◌∷◌, Option, Some, None}
 use Rattle.kan_model.specs.Goals.{Program}
 use Rattle.kan_model.specs.Streams.{Thunk}
 use Rattle.kan_model.specs.Bounds.{Fits, top}
@@ -20,7 +20,17 @@ depth (Thunk.bind g env i) = suc (depth i)
 abbrev pub MayForce : Program → Thunk → Type 0
 MayForce program t = Fits program t × (top t ≤ 2 ^ 62)
 
--- the suspensions on a way down, the last one first: each is the one inside the one before it
-abbrev pub IsWay : Thunk → List Thunk → Thunk → Type 0
-IsWay whole [] t = t ≡ whole
-IsWay whole (u ∷ us) t = (t ≡ inner_of u) × IsWay whole us u
+-- what comes after suspensions on the way down from a whole one, the last one first
+abbrev pub next : Thunk → List Thunk → Thunk
+next whole [] = whole
+next whole (u ∷ us) = inner_of u
+
+-- suspensions on a way down, the last one first: each is the one inside the one before it
+abbrev pub IsWay : Thunk → List Thunk → Type 0
+IsWay whole [] = Unit {0}
+IsWay whole (u ∷ us) = (u ≡ next whole us) × IsWay whole us
+
+-- the id of what is inside a suspension, and none for a call
+abbrev pub IsInside : {I : Type 0} → (I → Type 0) → (I → Thunk) → Thunk → Option I → Type 0
+IsInside belongs tree t None = Unit {0}
+IsInside belongs tree t (Some i) = belongs i × (tree i ≡ inner_of t) × (depth t ≡ suc (depth (tree i)))

@@ -3,6 +3,7 @@
 
 mod again;
 mod appending;
+mod forcing;
 mod giving;
 mod nodes;
 mod plain;
