@@ -5,3 +5,4 @@ pub mod GivingLaws
 pub mod RunningLaws
 pub mod GrowingLaws
 pub mod ForceLaws
+pub mod WayLaws

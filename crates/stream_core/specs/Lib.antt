@@ -4,3 +4,4 @@ pub mod Tasks
 pub mod Naming
 pub mod Growing
 pub mod Forcing
+pub mod Ways

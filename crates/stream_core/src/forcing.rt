@@ -10,6 +10,7 @@ ghost use Rattle.kan_model.specs.Programs as programs;
 ghost use Rattle.stream_core.specs.Forcing.{inner_of, MayForce, IsInside};
 ghost use Rattle.stream_core.specs.Standing as standing;
 ghost use Rattle.stream_core.specs.Tasks.{is_built};
+ghost use Rattle.stream_core.specs.Ways.{IsWayDown};
 
 use crate::again::thunk_again;
 use crate::appending::append;
@@ -107,4 +108,64 @@ fn inner_again<N: Nodes<St>, St: Store>(
             Ok(Some(inner))
         }
     }
+}
+
+// The ids on the way down from a suspension, the last one at the end, and the stream of what is inside the last one,
+// where that was found. Where it wasn't, the last one is a call.
+#[derive(Drop)]
+struct Way<I, St> {
+    ids: Vec<I>,
+    found: Option<Stream<I, St>>,
+}
+
+// The way down from a suspension, to the first one whose stream is found, or to the call.
+fn way_down<N: Nodes<St>, St: Store>(
+    alloc: Global,
+    nodes: &N,
+    id: &N::Id,
+) -> Result<Way<N::Id, St>, Memory>
+    requires belongs { N.belongs nodes.now id.now }
+    requires may { MayForce (N.serves nodes.now) (N.tree nodes.now id.now) }
+    ensures { IfOk result (λ way. IsWayDown (N.belongs nodes.now) (N.tree nodes.now) St.meaning (N.serves nodes.now) (N.tree nodes.now id.now) way.ids.items way.found) }
+{
+    let mut ids = Vec::new(alloc);
+    let mut at = nodes.again(id)?;
+    'down: loop {
+        if let Some(stream) = nodes.found(alloc, &at)? {
+            return Ok(Way {
+                ids,
+                found: Some(stream),
+            });
+        }
+        let inner = inner_again(nodes, &at)?;
+        ids.push(at)?;
+        match inner {
+            Some(inside) => at = inside,
+            None => return Ok(Way { ids, found: None }),
+        }
+    }
+}
+
+// The force of the last id on a way, kept for it.
+fn force_last<N: Nodes<St>, St: Store>(
+    alloc: Global,
+    program: &Program,
+    at: &N::Id,
+    inside: Option<Stream<N::Id, St>>,
+    nodes: &mut N,
+) -> Result<Stream<N::Id, St>, Memory>
+    requires goals { N.serves nodes.old ≡ programs.meaning program.now }
+    requires small { is_small (programs.meaning program.now) ≡ true }
+    requires built { list_all is_built (programs.tables program.now).goals ≡ true }
+    requires belongs { N.belongs nodes.old at.now }
+    requires may { MayForce (programs.meaning program.now) (N.tree nodes.old at.now) }
+    requires inside { IfSome inside (standing.IsForce (N.belongs nodes.old) (N.tree nodes.old) St.meaning (programs.meaning program.now) (inner_of (N.tree nodes.old at.now))) }
+    ensures force { IfOk result (standing.IsForce (N.belongs nodes.new) (N.tree nodes.new) St.meaning (programs.meaning program.now) (N.tree nodes.new at.now)) }
+    ensures older { standing.Grows (N.belongs nodes.old) (N.tree nodes.old) (N.belongs nodes.new) (N.tree nodes.new) }
+    ensures same { N.serves nodes.new ≡ N.serves nodes.old }
+{
+    let thunk = thunk_again(alloc, nodes, at)?;
+    let made = climb(alloc, program, thunk, inside, nodes)?;
+    let kept = nodes.keep(alloc, at, made)?;
+    Ok(kept)
 }
