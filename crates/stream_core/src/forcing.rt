@@ -169,3 +169,34 @@ fn force_last<N: Nodes<St>, St: Store>(
     let kept = nodes.keep(alloc, at, made)?;
     Ok(kept)
 }
+
+/// The force of a suspension: one call is expanded. What is found on the way down to it is used, and each stream that is
+/// made on the way up is kept for its id.
+pub fn force<N: Nodes<St>, St: Store>(
+    alloc: Global,
+    program: &Program,
+    id: &N::Id,
+    nodes: &mut N,
+) -> Result<Stream<N::Id, St>, Memory>
+    requires goals { N.serves nodes.old ≡ programs.meaning program.now }
+    requires small { is_small (programs.meaning program.now) ≡ true }
+    // Until the other constraints are built.
+    requires built { list_all is_built (programs.tables program.now).goals ≡ true }
+    requires belongs { N.belongs nodes.old id.now }
+    requires may { MayForce (programs.meaning program.now) (N.tree nodes.old id.now) }
+    ensures force { IfOk result (standing.IsForce (N.belongs nodes.new) (N.tree nodes.new) St.meaning (programs.meaning program.now) (N.tree nodes.old id.now)) }
+    ensures older { standing.Grows (N.belongs nodes.old) (N.tree nodes.old) (N.belongs nodes.new) (N.tree nodes.new) }
+    ensures same { N.serves nodes.new ≡ N.serves nodes.old }
+{
+    let way = way_down(alloc, nodes, id)?;
+    let Way { mut ids, found } = way;
+    let mut inside = found;
+    while let Some(at) = ids.pop() {
+        let made = force_last(alloc, program, &at, inside, nodes)?;
+        inside = Some(made);
+    }
+    match inside {
+        Some(stream) => Ok(stream),
+        None => Err(Memory),
+    }
+}

@@ -13,6 +13,7 @@ mod streams;
 mod tasks;
 
 pub use appending::append;
+pub use forcing::force;
 pub use nodes::Nodes;
 pub use plain::{PlainId, PlainNodes};
 pub use running::{bind_all, run_goal};
