@@ -1,5 +1,5 @@
 -- Lists that are moved from one end to the other.
-use Rattle.std.proofs.Common.{◌≡◌, List, [], ◌∷◌, ◌++◌, reverse, refl, sym, ◌∙◌, ap, append_assoc}
+use Rattle.std.proofs.Common.{◌≡◌, List, [], ◌∷◌, ◌++◌, reverse, sym, ◌∙◌, ap, append_assoc}
 use Rattle.std.proofs.lemmas.List.{reverse-append}
 
 -- the last item of what is left goes behind those that were moved

@@ -1,17 +1,17 @@
 -- The counters of what a suspension's force has lie between its floor and its top.
-use Rattle.std.proofs.Common.{◌≡◌, ℕ, zero, suc, ◌+◌, ◌≤◌, ◌<◌, ◌^◌, Bool, true, false, List, [], ◌∷◌, ◌++◌, length, refl, sym, ◌∙◌, ap, ap₂, subst, arith, min, max, ltb-true, map}
-use Rattle.std.specs.Prelude.{◌&&◌, nat_lt, Option, Some, None, option_map, slice_get, unwrap_or}
+use Rattle.std.proofs.Common.{◌≡◌, ℕ, zero, suc, ◌+◌, ◌≤◌, ◌<◌, ◌^◌, true, List, [], ◌∷◌, refl, sym, ◌∙◌, ap, subst, arith, min, max, ltb-true}
+use Rattle.std.specs.Prelude.{Option, Some, None, option_map, slice_get}
 use Rattle.std.specs.List.{list_all}
-use Rattle.std.proofs.lemmas.Bool.{and_from, and_parts}
+use Rattle.std.proofs.lemmas.Bool.{and_parts}
 use Rattle.std.proofs.lemmas.Option.{slice_get-map}
 use Rattle.kan_terms.specs.Tree.{Tm}
 use Rattle.kan_model.specs.Goals.{Goal, Relation, Program}
 use Rattle.kan_model.specs.Stores.{Store}
-use Rattle.kan_model.specs.Streams.{Stream, Thunk, heads, append, bind_all}
+use Rattle.kan_model.specs.Streams.{Stream, Thunk, heads}
 use Rattle.kan_model.specs.Running.{run, force, enter}
-use Rattle.kan_model.specs.Scope.{width, is_narrow, is_small, all_below}
+use Rattle.kan_model.specs.Scope.{width, is_narrow, is_small}
 use Rattle.kan_model.specs.Tables.{Tables, RelationEntry, goal_at, goals_of, program_of}
-use Rattle.kan_model.specs.Bounds.{top, floor, stream_top, stream_floor, highest, lowest, Fits, StreamFits}
+use Rattle.kan_model.specs.Bounds.{top, floor, stream_top, stream_floor, highest, lowest}
 use Rattle.stream_core.specs.Machine.{Each, HasRoom}
 use Rattle.stream_core.specs.Forcing.{MayForce, inner_of}
 use Rattle.stream_core.proofs.MachineLaws.{Between, Each-like, heads-append, heads-bind, run-between, env-more}
@@ -21,9 +21,10 @@ all-between : (hs : List Store) (m n : ℕ) → Each (Between (lowest hs m) (hig
 all-between [] m n = tt
 all-between (st ∷ hs) m n =
     let low : lowest (st ∷ hs) m ≤ lowest hs m = omega arith in
-    let high : highest hs n ≤ highest (st ∷ hs) n = omega arith in
-    ((omega arith, omega arith),
-     Each-like (Between (lowest hs m) (highest hs n)) (Between (lowest (st ∷ hs) m) (highest (st ∷ hs) n)) (λ a (l, h). (omega (arith, low, l), omega (arith, high, h))) hs (all-between hs m n))
+    let high : highest hs n ≤ highest (st ∷ hs) n = omega arith in (
+      (omega arith, omega arith),
+      Each-like (Between (lowest hs m) (highest hs n)) (Between (lowest (st ∷ hs) m) (highest (st ∷ hs) n)) (λ a (l, h). (omega (arith, low, l), omega (arith, high, h))) hs (all-between hs m n),
+    )
 
 lowest-below : (hs : List Store) (m : ℕ) → lowest hs m ≤ m
 lowest-below [] m = omega arith
@@ -83,8 +84,8 @@ force-between program (Thunk.swap t i) narrow =
 force-between program (Thunk.bind g env i) narrow =
     heads-bind (Between (floor i) (top i + width g)) (run g env) g env (force program i)
     (Each-like (Between (floor i) (top i)) (λ a. Each (Between (floor i) (top i + width g)) (heads (run g env a)))
-      (λ a (low, high). Each-like (Between a.counter (a.counter + width g)) (Between (floor i) (top i + width g)) (λ b (l, h). (omega (arith, low, l), omega (arith, high, h))) (heads (run g env a)) (run-between g env a))
-      (heads (force program i)) (force-between program i narrow))
+    (λ a (low, high). Each-like (Between a.counter (a.counter + width g)) (Between (floor i) (top i + width g)) (λ b (l, h). (omega (arith, low, l), omega (arith, high, h))) (heads (run g env a)) (run-between g env a))
+    (heads (force program i)) (force-between program i narrow))
 
 -- where a bound goal may be forced it has room at each store of the inner force
 pub bind-room : (program : Program) (g : Goal) (env : List Tm) (i : Thunk) → NarrowBodies program → MayForce program (Thunk.bind g env i) → Each (HasRoom g env) (heads (force program i))

@@ -1,18 +1,17 @@
 -- Streams that are there at once.
-use Rattle.std.proofs.Common.{◌≡◌, ℕ, zero, suc, ◌+◌, ◌≤◌, ◌<◌, Bool, true, false, List, [], ◌∷◌, ◌++◌, refl, sym, ◌∙◌, ap, ap₂, arith, lt-ltb, map, take, drop, zero-add, append-nil, append_assoc, length}
-use Rattle.std.specs.Prelude.{Option, Some, None, option_map, slice_get}
+use Rattle.std.proofs.Common.{◌≡◌, ℕ, zero, suc, ◌+◌, ◌≤◌, ◌<◌, Bool, true, false, List, [], ◌∷◌, ◌++◌, refl, sym, ◌∙◌, ap, arith, lt-ltb, map, take, drop, zero-add, append-nil, append_assoc, length}
+use Rattle.std.specs.Prelude.{Some, None, slice_get}
 use Rattle.std.specs.List.{list_all}
 use Rattle.std.proofs.lemmas.Bool.{and_from, and_parts}
 use Rattle.kan_terms.specs.Tree.{Tree, Tm}
 use Rattle.kan_terms.specs.Terms.{tree}
 use Rattle.kan_terms.specs.declared.terms.Term.{Term}
-use Rattle.kan_terms.specs.declared.terms.Term.TheVariants.{Var, Sym, Num, Truth, Nil, Pair'}
 use Rattle.kan_model.specs.Goals.{Primitive, Template}
 use Rattle.kan_model.specs.Stores.{Store, with_prim, with_fresh}
 use Rattle.kan_model.specs.Kept.{is_kept}
 use Rattle.kan_model.specs.Streams.{Stream, Thunk, one, empty}
 use Rattle.kan_model.specs.StoreCalls.{Gives}
-use Rattle.kan_model.specs.Running.{assert, slot, instance, instances, named, and_value, named_store, suspended_call}
+use Rattle.kan_model.specs.Running.{assert, slot, instance, instances, named, named_store, suspended_call}
 use Rattle.kan_model.specs.Scope.{all_below, sides_below}
 use Rattle.kan_model.specs.Flat.{is_flat}
 use Rattle.kan_model.specs.Tables.{template_at, arguments_at}
@@ -97,16 +96,17 @@ pub names-next : (before middle after : Store) (arguments values longer : List T
 names-next before middle after arguments values longer argument value first next grown =
     record {
       goes_on = λ rest.
-        ap (named before) (append_assoc arguments (argument ∷ []) rest) ∙ first.goes_on (argument ∷ rest) ∙ ap (in_front values) (next.goes_on rest)
-        ∙ ap (λ vs. record { values = vs; store = (named after rest).store }) (sym (append_assoc values (value ∷ []) (named after rest).values) ∙ ap (λ vs. vs ++ (named after rest).values) (sym grown));
-      flat = ap (list_all is_flat) grown ∙ list_all-append is_flat values (value ∷ []) ∙ and_from _ _ first.flat (and_from _ _ next.flat refl) }
+          ap (named before) (append_assoc arguments (argument ∷ []) rest) ∙ first.goes_on (argument ∷ rest) ∙ ap (in_front values) (next.goes_on rest)
+          ∙ ap (λ vs. record { values = vs; store = (named after rest).store }) (sym (append_assoc values (value ∷ []) (named after rest).values) ∙ ap (λ vs. vs ++ (named after rest).values) (sym grown));
+      flat = ap (list_all is_flat) grown ∙ list_all-append is_flat values (value ∷ []) ∙ and_from _ _ first.flat (and_from _ _ next.flat refl);
+    }
 
 -- with all arguments named, the call waits
 pub call-waits : (r : ℕ) (before after : Store) (arguments values : List Tm) → NamesFirst before arguments values after →
     Stream.goes_on [] (Thunk.call r values after) ≡ suspended_call r (named before arguments)
 call-waits r before after arguments values names =
     let whole : named before arguments ≡ record { values = values; store = after } =
-      ap (named before) (sym (append-nil arguments)) ∙ names.goes_on [] ∙ ap (λ vs. record { values = vs; store = after }) (append-nil values) in
+    ap (named before) (sym (append-nil arguments)) ∙ names.goes_on [] ∙ ap (λ vs. record { values = vs; store = after }) (append-nil values) in
     ap (suspended_call r) (sym whole)
 
 -- the step of naming, in the words of the code
@@ -115,10 +115,10 @@ pub names-step : (before middle after : Store) (env : List Tm) (ts : List Templa
     NamesOne middle value (tree given) after → longer ≡ values ++ given ∷ [] → NamesFirst before (instances env (arguments_at ts args at (o + 1))) (map tree longer) after
 names-step before middle after env ts args at o term values longer value given first found is next grown =
     let all : instances env (arguments_at ts args at (o + 1)) ≡ instances env (arguments_at ts args at o) ++ value ∷ [] =
-      ap (instances env) (arguments-last ts args at o term found) ∙ instances-append env (arguments_at ts args at o) (template_at ts term ∷ [])
-      ∙ ap (λ x. instances env (arguments_at ts args at o) ++ x ∷ []) (sym is) in
+    ap (instances env) (arguments-last ts args at o term found) ∙ instances-append env (arguments_at ts args at o) (template_at ts term ∷ [])
+    ∙ ap (λ x. instances env (arguments_at ts args at o) ++ x ∷ []) (sym is) in
     rw all (names-next before middle after (instances env (arguments_at ts args at o)) (map tree values) (map tree longer) value (tree given) first next
-      (ap (map tree) grown ∙ map-append tree values (given ∷ [])))
+    (ap (map tree) grown ∙ map-append tree values (given ∷ [])))
 
 take-reaches : {X : Type 0} (xs : List X) (o count : ℕ) (x : X) → slice_get xs o ≡ Some x → o < count → o + 1 ≤ length (take count xs)
 take-reaches [] o count x is less = cc

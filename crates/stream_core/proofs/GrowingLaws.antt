@@ -1,6 +1,6 @@
 -- A list of suspensions that grows: what stood there stays.
 use Rattle.std.proofs.Common.{◌≡◌, ℕ, zero, suc, ◌+◌, ◌<◌, ◌≤◌, Bool, true, false, List, [], ◌∷◌, ◌++◌, length, refl, sym, ◌∙◌, ap, ap₂, arith, add-zero, zero-add, get_or, ltb-true, lt-ltb, map, if◌then◌else◌}
-use Rattle.std.specs.Prelude.{◌&&◌, nat_lt, Option, Some, None, option_map, slice_get, unwrap_or, IfSome}
+use Rattle.std.specs.Prelude.{Option, Some, None, option_map, slice_get, unwrap_or}
 use Rattle.std.proofs.lemmas.Bool.{and_from, and_parts}
 use Rattle.std.proofs.lemmas.List.{length-append}
 use Rattle.kan_model.specs.Goals.{Goal, Program}
@@ -121,10 +121,11 @@ module _ {St : Type 0} (means : St → facts.Store) (program : Program) where
   added ns new n id is place =
       let goal = standing.goal_in program in
       let one = length-append ns (n ∷ []) in
-      let long : id.at ≡ length (trees_after means goal [] ns) = place ∙ sym (trees-length means goal [] ns ∙ zero-add (length ns)) in
-      (rw is (omega (arith, place, one)),
-       rw (is, long) (ap (λ ts. unwrap_or (slice_get ts (length (trees_after means goal [] ns))) no_thunk) (trees-more means goal [] ns n)
-         ∙ get-end (trees_after means goal [] ns) (standing.thunk (tree_at (trees_after means goal [] ns)) means goal n) no_thunk))
+      let long : id.at ≡ length (trees_after means goal [] ns) = place ∙ sym (trees-length means goal [] ns ∙ zero-add (length ns)) in (
+        rw is (omega (arith, place, one)),
+        rw (is, long) (ap (λ ts. unwrap_or (slice_get ts (length (trees_after means goal [] ns))) no_thunk) (trees-more means goal [] ns n)
+            ∙ get-end (trees_after means goal [] ns) (standing.thunk (tree_at (trees_after means goal [] ns)) means goal n) no_thunk),
+      )
 
   pub grows-by : (ns new : List (Thunk PlainId St)) (n : Thunk PlainId St) (ok : Bool) → new ≡ (if ok then ns ++ n ∷ [] else ns) →
       standing.Grows (is_placed ns) (grown_tree means program ns) (is_placed new) (grown_tree means program new)
@@ -133,6 +134,8 @@ module _ {St : Type 0} (means : St → facts.Store) (program : Program) where
       let goal = standing.goal_in program in
       let one = length-append ns (n ∷ []) in
       let long : length (trees_after means goal [] ns) ≡ length ns = trees-length means goal [] ns ∙ zero-add (length ns) in
-      rw is (omega (arith, within, one),
+      rw is (
+        omega (arith, within, one),
         ap (λ ts. tree_at ts id) (trees-more means goal [] ns n)
-        ∙ get-front (trees_after means goal [] ns) (standing.thunk (tree_at (trees_after means goal [] ns)) means goal n) no_thunk id.at (omega (arith, within, long)))
+            ∙ get-front (trees_after means goal [] ns) (standing.thunk (tree_at (trees_after means goal [] ns)) means goal n) no_thunk id.at (omega (arith, within, long)),
+      )

@@ -1,6 +1,5 @@
 -- One task after the other gives what the definition gives.
-use Rattle.std.proofs.Common.{◌≡◌, ℕ, zero, suc, ◌+◌, ◌≤◌, ◌<◌, ◌^◌, Bool, true, false, List, [], ◌∷◌, ◌++◌, length, refl, sym, ◌∙◌, ap, ap₂, arith}
-use Rattle.std.specs.Prelude.{Option, Some, None}
+use Rattle.std.proofs.Common.{◌≡◌, ℕ, zero, suc, ◌+◌, ◌≤◌, ◌<◌, Bool, true, false, List, [], ◌∷◌, ◌++◌, refl, sym, ◌∙◌, ap, arith}
 use Rattle.std.specs.List.{list_all}
 use Rattle.std.proofs.lemmas.Bool.{and_from, and_parts, ltb-true, lt-ltb}
 use Rattle.std.proofs.lemmas.List.Folds.{list_all-append}
@@ -9,7 +8,7 @@ use Rattle.kan_model.specs.Goals.{Goal, Primitive, on_sides}
 use Rattle.kan_model.specs.Stores.{Store, with_prim, with_fresh}
 use Rattle.kan_model.specs.Kept.{is_kept}
 use Rattle.kan_model.specs.Streams.{Stream, Thunk, heads, append, append_each, bind_all, empty, one}
-use Rattle.kan_model.specs.Running.{run, variables, assert, instance, named, instances, suspended_call}
+use Rattle.kan_model.specs.Running.{run, variables, instance}
 use Rattle.kan_model.specs.Scope.{width, all_below}
 use Rattle.stream_core.specs.Machine.{Task, done, Each, HasRoom, AreReady, for_each, count, left, Becomes, run_each, bound_last}
 
@@ -51,8 +50,8 @@ run-between Goal.fail env st = tt
 run-between (Goal.both g h) env st =
     heads-bind (Between st.counter (st.counter + (width g + width h))) (run h env) h env (run g env st)
     (Each-like (Between st.counter (st.counter + width g)) (λ a. Each (Between st.counter (st.counter + (width g + width h))) (heads (run h env a)))
-      (λ a (low, high). Each-like (Between a.counter (a.counter + width h)) (Between st.counter (st.counter + (width g + width h))) (λ b (l, m). (omega (arith, low, l), omega (arith, high, m))) (heads (run h env a)) (run-between h env a))
-      (heads (run g env st)) (run-between g env st))
+    (λ a (low, high). Each-like (Between a.counter (a.counter + width h)) (Between st.counter (st.counter + (width g + width h))) (λ b (l, m). (omega (arith, low, l), omega (arith, high, m))) (heads (run h env a)) (run-between h env a))
+    (heads (run g env st)) (run-between g env st))
 run-between (Goal.either g h) env st =
     heads-append (Between st.counter (st.counter + (width g + width h))) (run g env st) (run h env st)
     (Each-like (Between st.counter (st.counter + width g)) (Between st.counter (st.counter + (width g + width h))) (λ b (l, m). (l, omega (arith, m))) (heads (run g env st)) (run-between g env st))
@@ -88,27 +87,38 @@ pub becomes-both : (g h : Goal) (env : List Tm) (st : Store) (ts : List Task) (v
     Becomes (Task.run_at (Goal.both g h) env st ∷ ts) vs (Task.run_at g env st ∷ Task.bind_to h env ∷ ts) vs
 becomes-both g h env st ts vs = record {
   same = refl;
-  ready = λ ((below, room), rest).
-    ((below, omega (arith, room)),
-     (Each-like (Between st.counter (st.counter + width g)) (HasRoom h env) (λ a (low, high). (env-more st.counter a.counter low env below, omega (arith, room, high))) (heads (run g env st)) (run-between g env st),
-      rest));
-  fewer = λ ready. omega arith }
+  ready = λ ((below, room), rest). (
+    (below, omega (arith, room)),
+    (
+      Each-like (Between st.counter (st.counter + width g)) (HasRoom h env) (λ a (low, high). (env-more st.counter a.counter low env below, omega (arith, room, high))) (heads (run g env st)) (run-between g env st),
+      rest,
+    ),
+  );
+  fewer = λ ready. omega arith;
+}
 
 pub becomes-either : (g h : Goal) (env : List Tm) (st : Store) (ts : List Task) (vs : List Stream) →
     Becomes (Task.run_at (Goal.either g h) env st ∷ ts) vs (Task.run_at h env st ∷ Task.run_at g env st ∷ Task.append_two ∷ ts) vs
 becomes-either g h env st ts vs = record {
   same = refl;
   ready = λ ((below, room), rest). ((below, omega (arith, room)), ((below, omega (arith, room)), rest));
-  fewer = λ ready. omega arith }
+  fewer = λ ready. omega arith;
+}
 
 pub becomes-fresh : (k : ℕ) (g : Goal) (env : List Tm) (st : Store) (ts : List Task) (vs : List Stream) →
     Becomes (Task.run_at (Goal.fresh k g) env st ∷ ts) vs (Task.run_at g (env ++ variables st.counter k) (with_fresh st k) ∷ ts) vs
 becomes-fresh k g env st ts vs = record {
   same = refl;
-  ready = λ ((below, room), rest).
-    ((list_all-append (all_below (st.counter + k)) env (variables st.counter k)
-      ∙ and_from _ _ (env-more st.counter (st.counter + k) (omega arith) env below) (variables-below st.counter k), omega (arith, room)), rest);
-  fewer = λ ready. omega arith }
+  ready = λ ((below, room), rest). (
+    (
+      list_all-append (all_below (st.counter + k)) env (variables st.counter k)
+          ∙ and_from _ _ (env-more st.counter (st.counter + k) (omega arith) env below) (variables-below st.counter k),
+      omega (arith, room),
+    ),
+    rest,
+  );
+  fewer = λ ready. omega arith;
+}
 
 -- a goal whose stream is there at once
 pub becomes-stream : (g : Goal) (env : List Tm) (st : Store) (ts : List Task) (vs : List Stream) → 0 < count g env st →
@@ -140,8 +150,10 @@ pub becomes-bound : (g : Goal) (env : List Tm) (s : Stream) (ts : List Task) (vs
 becomes-bound g env (Stream.ends hs) ts vs = record {
   same = done-each g env hs empty ts vs;
   ready = λ (room, rest). ready-each g env hs empty ts vs room rest;
-  fewer = λ ready. let more = left-each g env hs empty ts vs in omega (arith, more) }
+  fewer = λ ready. let more = left-each g env hs empty ts vs in omega (arith, more);
+}
 becomes-bound g env (Stream.goes_on hs i) ts vs = record {
   same = done-each g env hs (Stream.goes_on [] (Thunk.bind g env i)) ts vs;
   ready = λ (room, rest). ready-each g env hs (Stream.goes_on [] (Thunk.bind g env i)) ts vs room rest;
-  fewer = λ ready. let more = left-each g env hs (Stream.goes_on [] (Thunk.bind g env i)) ts vs in omega (arith, more) }
+  fewer = λ ready. let more = left-each g env hs (Stream.goes_on [] (Thunk.bind g env i)) ts vs in omega (arith, more);
+}

@@ -1,19 +1,17 @@
 -- Stacks of streams while the table of suspensions grows, and steps of the tasks in the words of the code.
-use Rattle.std.proofs.Common.{◌≡◌, ℕ, zero, suc, ◌+◌, ◌≤◌, ◌<◌, List, [], ◌∷◌, ◌++◌, refl, sym, ◌∙◌, ap, ap₂, subst, arith, map}
+use Rattle.std.proofs.Common.{◌≡◌, ◌<◌, List, [], ◌∷◌, ◌++◌, refl, sym, ◌∙◌, ap, ap₂, subst, arith, map}
 use Rattle.std.specs.Prelude.{Option, Some, None, option_map, IfSome, Result, Ok, Err, OnOk}
 use Rattle.kan_terms.specs.Tree.{Tm}
 use Rattle.kan_model.specs.Goals.{Goal}
 use Rattle.kan_model.specs.Stores as facts
 use Rattle.kan_model.specs.Streams as model
-use Rattle.kan_model.specs.Running.{run, variables}
+use Rattle.kan_model.specs.Running.{run}
 use Rattle.stream_core.specs.Machine as machine
 use Rattle.stream_core.specs.Machine.{Becomes, Each, count, done}
-use Rattle.stream_core.specs.Standing as standing
 use Rattle.stream_core.specs.Standing.{Grows, StreamBelongs, stream, going_on}
 use Rattle.stream_core.specs.Tasks.{stack}
 use Rattle.stream_core.specs.declared.streams.Stream.{Stream}
-use Rattle.stream_core.proofs.StackLaws.{stack-push, stack-pop}
-use Rattle.stream_core.proofs.MachineLaws.{becomes-both, becomes-either, becomes-fresh, becomes-stream, becomes-appended, becomes-bound}
+use Rattle.stream_core.proofs.MachineLaws.{becomes-stream, becomes-appended, becomes-bound}
 
 tail-grows : {I : Type 0} (belonged belongs : I → Type 0) (was is : I → model.Thunk) → Grows belonged was belongs is → (o : Option I) → IfSome o belonged → option_map is o ≡ option_map was o
 tail-grows belonged belongs was is grows None h = refl
@@ -99,7 +97,7 @@ pub becomes-bound-top : (g : Goal) (env : List Tm) (ts us : List machine.Task) (
     vs ≡ s ∷ rest → us ≡ machine.run_each g env hs ts → model.heads s ≡ hs → ws ≡ made ∷ rest → made ≡ machine.bound_last g env s → Becomes (machine.Task.bind_to g env ∷ ts) vs us ws
 becomes-bound-top g env ts us vs ws rest s made hs old new has grown is =
     let step : Becomes (machine.Task.bind_to g env ∷ ts) (s ∷ rest) (machine.run_each g env hs ts) (machine.bound_last g env s ∷ rest) =
-      subst (λ h. Becomes (machine.Task.bind_to g env ∷ ts) (s ∷ rest) (machine.run_each g env h ts) (machine.bound_last g env s ∷ rest)) has (becomes-bound g env s ts rest) in
+    subst (λ h. Becomes (machine.Task.bind_to g env ∷ ts) (s ∷ rest) (machine.run_each g env h ts) (machine.bound_last g env s ∷ rest)) has (becomes-bound g env s ts rest) in
     rw (old, new, grown, is) step
 
 -- a step of the loop

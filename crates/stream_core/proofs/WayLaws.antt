@@ -1,17 +1,17 @@
 -- Steps on the way down from a suspension and up again.
-use Rattle.std.proofs.Common.{◌≡◌, ℕ, List, [], ◌∷◌, ◌++◌, refl, sym, ◌∙◌, ap, ap₂, subst}
-use Rattle.std.specs.Prelude.{Option, Some, None, IfSome}
+use Rattle.std.proofs.Common.{◌≡◌, List, [], ◌∷◌, ◌++◌, refl, sym, ◌∙◌, ap, ap₂, subst}
+use Rattle.std.specs.Prelude.{Option, Some}
 use Rattle.kan_model.specs.Goals.{Program}
 use Rattle.kan_model.specs.Stores as facts
 use Rattle.kan_model.specs.Streams as model
 use Rattle.kan_model.specs.Running.{force}
 use Rattle.stream_core.specs.Machine.{Each}
 use Rattle.stream_core.specs.Forcing.{MayForce, next, IsWay, inner_of}
-use Rattle.stream_core.specs.Standing.{Grows, IsForce, stream}
+use Rattle.stream_core.specs.Standing.{Grows, IsForce}
 use Rattle.stream_core.specs.Tasks.{stack}
 use Rattle.stream_core.specs.Ways.{IsWayDown}
 use Rattle.stream_core.specs.declared.streams.Stream.{Stream}
-use Rattle.stream_core.proofs.StackLaws.{stack-push, stack-pop}
+use Rattle.stream_core.proofs.StackLaws.{stack-pop}
 use Rattle.stream_core.proofs.RunningLaws.{Each-last, Each-front}
 
 module _ {I St : Type 0} (means : St → facts.Store) (program : Program) where
@@ -49,4 +49,5 @@ module _ {I St : Type 0} (means : St → facts.Store) (program : Program) where
       record {
         way = subst (IsWay whole) (sym same) way.1;
         each = ids-each belonged belongs was is grows rest all;
-        inside = (forced.0, forced.1 ∙ ap (force program) there) }
+        inside = (forced.0, forced.1 ∙ ap (force program) there);
+      }

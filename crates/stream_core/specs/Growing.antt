@@ -1,5 +1,5 @@
 -- Suspensions in a list, each naming earlier ones by number, and the trees that they stand for.
-use Rattle.std.specs.Prelude.{ℕ, suc, Bool, true, false, ◌&&◌, nat_lt, List, [], ◌∷◌, ◌++◌, Option, Some, None, slice_get, unwrap_or, ◌<◌, length}
+use Rattle.std.specs.Prelude.{ℕ, suc, Bool, true, ◌&&◌, nat_lt, List, [], ◌∷◌, ◌++◌, Option, Some, None, slice_get, unwrap_or, ◌<◌, length}
 use Rattle.kan_model.specs.Goals.{Goal, Program}
 use Rattle.kan_model.specs.Stores as facts
 use Rattle.kan_model.specs.Streams as model

@@ -21,7 +21,10 @@ pub(crate) fn put_last<St: Drop>(stores: &mut Stores<St>, store: St) -> Result<(
 }
 
 // The stores of a list, the last one first.
-pub(crate) fn reversed<St: Drop>(alloc: Global, mut stores: Stores<St>) -> Result<Stores<St>, Memory>
+pub(crate) fn reversed<St: Drop>(
+    alloc: Global,
+    mut stores: Stores<St>,
+) -> Result<Stores<St>, Memory>
     ensures { IfOk result (λ turned. turned ≡ reverse stores) }
 {
     let mut turned = ListOf::new(alloc);
@@ -32,7 +35,11 @@ pub(crate) fn reversed<St: Drop>(alloc: Global, mut stores: Stores<St>) -> Resul
 }
 
 // The stores of two lists, one after the other.
-fn joined<St: Drop>(alloc: Global, mut left: Stores<St>, right: Stores<St>) -> Result<Stores<St>, Memory>
+fn joined<St: Drop>(
+    alloc: Global,
+    mut left: Stores<St>,
+    right: Stores<St>,
+) -> Result<Stores<St>, Memory>
     ensures { IfOk result (λ joined. joined ≡ left ++ right) }
 {
     let mut waiting = reversed(alloc, right)?;
@@ -44,7 +51,12 @@ fn joined<St: Drop>(alloc: Global, mut left: Stores<St>, right: Stores<St>) -> R
 
 /// The stream of the left one's stores, which goes on as the right one, or with a suspension before which the right one
 /// waits.
-pub fn append<N: Nodes<St>, St: Store>(alloc: Global, left: Stream<N::Id, St>, right: Stream<N::Id, St>, nodes: &mut N) -> Result<Stream<N::Id, St>, Memory>
+pub fn append<N: Nodes<St>, St: Store>(
+    alloc: Global,
+    left: Stream<N::Id, St>,
+    right: Stream<N::Id, St>,
+    nodes: &mut N,
+) -> Result<Stream<N::Id, St>, Memory>
     requires left { standing.StreamBelongs (N.belongs nodes.old) left }
     requires right { standing.StreamBelongs (N.belongs nodes.old) right }
     ensures made { IfOk result (λ made. standing.stream (N.tree nodes.new) St.meaning made ≡ model.append (standing.stream (N.tree nodes.old) St.meaning left) (standing.stream (N.tree nodes.old) St.meaning right)) }
@@ -60,9 +72,19 @@ pub fn append<N: Nodes<St>, St: Store>(alloc: Global, left: Stream<N::Id, St>, r
             Ok(Stream { heads, tail })
         }
         Some(inner) => {
-            let Stream { heads: waiting, tail } = right;
-            let tail = nodes.suspend(Thunk::Swap { heads: waiting, tail, inner })?;
-            Ok(Stream { heads, tail: Some(tail) })
+            let Stream {
+                heads: waiting,
+                tail,
+            } = right;
+            let tail = nodes.suspend(Thunk::Swap {
+                heads: waiting,
+                tail,
+                inner,
+            })?;
+            Ok(Stream {
+                heads,
+                tail: Some(tail),
+            })
         }
     }
 }

@@ -71,16 +71,22 @@ fn climb<N: Nodes<St>, St: Store>(
     ensures same { N.serves nodes.new ≡ N.serves nodes.old }
 {
     match thunk {
-        Thunk::Call { rel, args, store } => {
-            enter_call(alloc, program, rel, &args, store, nodes)
-        }
-        Thunk::Swap { heads, tail, inner: _ } => {
+        Thunk::Call { rel, args, store } => { enter_call(alloc, program, rel, &args, store, nodes) }
+        Thunk::Swap {
+            heads,
+            tail,
+            inner: _,
+        } => {
             let Some(stream) = inside else {
                 return Err(Memory);
             };
             append(alloc, Stream { heads, tail }, stream, nodes)
         }
-        Thunk::Bind { goal, env, inner: _ } => {
+        Thunk::Bind {
+            goal,
+            env,
+            inner: _,
+        } => {
             let Some(stream) = inside else {
                 return Err(Memory);
             };
@@ -90,20 +96,29 @@ fn climb<N: Nodes<St>, St: Store>(
 }
 
 // The id of what is inside a suspension, and None for a call.
-fn inner_again<N: Nodes<St>, St: Store>(
-    nodes: &N,
-    id: &N::Id,
-) -> Result<Option<N::Id>, Memory>
+fn inner_again<N: Nodes<St>, St: Store>(nodes: &N, id: &N::Id) -> Result<Option<N::Id>, Memory>
     requires { N.belongs nodes.now id.now }
     ensures { IfOk result (IsInside (N.belongs nodes.now) (N.tree nodes.now) (N.tree nodes.now id.now)) }
 {
     match nodes.thunk(id) {
-        Thunk::Call { rel: _, args: _, store: _ } => Ok(None),
-        Thunk::Swap { heads: _, tail: _, inner } => {
+        Thunk::Call {
+            rel: _,
+            args: _,
+            store: _,
+        } => Ok(None),
+        Thunk::Swap {
+            heads: _,
+            tail: _,
+            inner,
+        } => {
             let inner = nodes.again(inner)?;
             Ok(Some(inner))
         }
-        Thunk::Bind { goal: _, env: _, inner } => {
+        Thunk::Bind {
+            goal: _,
+            env: _,
+            inner,
+        } => {
             let inner = nodes.again(inner)?;
             Ok(Some(inner))
         }

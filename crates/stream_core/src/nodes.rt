@@ -54,7 +54,12 @@ pub trait Nodes<St: Store> {
         ensures told { IfOk result (λ found. IfSome (kept self.now id.now) (λ is_kept. is_some found ≡ is_kept)) };
 
     /// Keeps the force of an id's suspension for it, and gives a stream that is that force.
-    fn keep(&mut self, alloc: Global, id: &Self::Id, stream: Stream<Self::Id, St>) -> Result<Stream<Self::Id, St>, Memory>
+    fn keep(
+        &mut self,
+        alloc: Global,
+        id: &Self::Id,
+        stream: Stream<Self::Id, St>,
+    ) -> Result<Stream<Self::Id, St>, Memory>
         requires belongs { belongs self.old id.now }
         requires force { standing.IsForce (belongs self.old) (tree self.old) St.meaning (serves self.old) (tree self.old id.now) stream }
         ensures force { IfOk result (standing.IsForce (belongs self.new) (tree self.new) St.meaning (serves self.new) (tree self.new id.now)) }

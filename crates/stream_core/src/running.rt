@@ -15,7 +15,7 @@ ghost use Rattle.stream_core.specs.Tasks.{task, stack, is_built};
 use crate::appending::append;
 use crate::giving::give;
 use crate::nodes::Nodes;
-use crate::splitting::{split_both, split_either, split_fresh, run_at_each};
+use crate::splitting::{run_at_each, split_both, split_either, split_fresh};
 use crate::streams::{Stream, Thunk};
 use crate::tasks::Task;
 use kan_model::{Env, GoalNode, Program, Store};

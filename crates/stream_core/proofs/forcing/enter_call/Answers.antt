@@ -5,7 +5,7 @@ use Rattle.kan_model.specs.Nodes.{relation_entry}
 use Rattle.kan_model.specs.Running as running
 use Rattle.kan_model.specs.Environments.{terms_of}
 use Rattle.kan_model.specs.Programs as programs
-use Rattle.stream_core.proofs.ForceLaws.{relation-found, relation-missing, call-room, narrow-bodies}
+use Rattle.stream_core.proofs.ForceLaws.{relation-found, call-room, narrow-bodies}
 use Rattle.stream_core.proofs.forcing.enter_call.Goals as goal
 
 pub run_goal-requires-clause-room : goal.run_goal-requires-clause-room
@@ -19,4 +19,4 @@ returns-in_ok-made-in-Some-clause-made g c =
     let p = c.args.program.now in
     c.in_ok-made-in-Some.ensures.made
     ∙ ap (λ o. running.enter o (terms_of c.args.args.now) (g.St.Store.meaning c.args.store))
-      (sym (relation-found (programs.tables p) c.args.rel (relation_entry c.in-Some.relation.now) (ap (λ r. option_map relation_entry (option_copied r)) (sym c.in-Some.is) ∙ c.relation.ensures)))
+    (sym (relation-found (programs.tables p) c.args.rel (relation_entry c.in-Some.relation.now) (ap (λ r. option_map relation_entry (option_copied r)) (sym c.in-Some.is) ∙ c.relation.ensures)))

@@ -12,7 +12,7 @@ force_last-requires-clause-inside g c =
     let program = programs.meaning c.args.program.now in
     let means = g.St.Store.meaning in
     subst (λ t. IfSome c.loop-at.inside (standing.IsForce (g.N.Nodes.belongs c.loop-at.nodes) tree means program t))
-      (next-inside means program tree (g.N.Nodes.tree c.args.nodes.now c.args.id.now) c.pop.new.self.items c.loop-at.ids.items c.in-Some.at c.in-Some.ensures.items) c.loop-at.invariant.down.inside
+    (next-inside means program tree (g.N.Nodes.tree c.args.nodes.now c.args.id.now) c.pop.new.self.items c.loop-at.ids.items c.in-Some.at c.in-Some.ensures.items) c.loop-at.invariant.down.inside
 
 pub loop-at-preserved : goal.loop-at-preserved
 loop-at-preserved g c =
@@ -22,7 +22,8 @@ loop-at-preserved g c =
     let step = c.in_ok-made.ensures in
     record {
       down = up-step means program (g.N.Nodes.belongs c.loop-at.nodes) (g.N.Nodes.belongs c.force_last.new.nodes) (g.N.Nodes.tree c.loop-at.nodes) (g.N.Nodes.tree c.force_last.new.nodes)
-        (g.N.Nodes.tree c.args.nodes.now c.args.id.now) c.loop-at.ids.items c.pop.new.self.items c.in-Some.at c.loop-at.inside c.in_ok-made.made inv.down c.in-Some.ensures.items step.older step.force;
+          (g.N.Nodes.tree c.args.nodes.now c.args.id.now) c.loop-at.ids.items c.pop.new.self.items c.in-Some.at c.loop-at.inside c.in_ok-made.made inv.down c.in-Some.ensures.items step.older step.force;
       older = grows-twice (g.N.Nodes.belongs c.args.nodes.now) (g.N.Nodes.belongs c.loop-at.nodes) (g.N.Nodes.belongs c.force_last.new.nodes)
-        (g.N.Nodes.tree c.args.nodes.now) (g.N.Nodes.tree c.loop-at.nodes) (g.N.Nodes.tree c.force_last.new.nodes) inv.older step.older;
-      same = step.same ∙ inv.same }
+          (g.N.Nodes.tree c.args.nodes.now) (g.N.Nodes.tree c.loop-at.nodes) (g.N.Nodes.tree c.force_last.new.nodes) inv.older step.older;
+      same = step.same ∙ inv.same;
+    }

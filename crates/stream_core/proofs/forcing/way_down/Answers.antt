@@ -18,7 +18,8 @@ down-preserved g c =
       is = inside.1 ∙ sym (next-inside means program tree whole c.down.ids.items c.push.new.self.items c.down.at c.in_ok-push.ensures.items);
       may = subst (MayForce program) (sym inside.1) (inner-may program (tree c.down.at) inv.may);
       way = way-longer means program tree whole c.down.ids.items c.push.new.self.items c.down.at c.in_ok-push.ensures.items inv.is inv.way;
-      each = each-longer means program (λ id. belongs id × MayForce program (tree id)) c.down.ids.items c.push.new.self.items c.down.at c.in_ok-push.ensures.items inv.each (inv.belongs, inv.may) }
+      each = each-longer means program (λ id. belongs id × MayForce program (tree id)) c.down.ids.items c.push.new.self.items c.down.at c.in_ok-push.ensures.items inv.each (inv.belongs, inv.may);
+    }
 
 pub returns-in-None : goal.returns-in-None
 returns-in-None g c =
@@ -30,4 +31,5 @@ returns-in-None g c =
     record {
       way = way-longer means program tree (tree c.args.id.now) c.down.ids.items c.push.new.self.items c.down.at c.in_ok-push.ensures.items inv.is inv.way;
       each = each-longer means program (λ id. belongs id × MayForce program (tree id)) c.down.ids.items c.push.new.self.items c.down.at c.in_ok-push.ensures.items inv.each (inv.belongs, inv.may);
-      inside = tt }
+      inside = tt;
+    }

@@ -11,7 +11,8 @@ invariant-down g l = record {
   is : g.N.Nodes.tree l.nodes l.at ≡ next (g.N.Nodes.tree l.nodes l.id) (stack (g.N.Nodes.tree l.nodes) l.ids.items);
   may : MayForce (g.N.Nodes.serves l.nodes) (g.N.Nodes.tree l.nodes l.at);
   way : IsWay (g.N.Nodes.tree l.nodes l.id) (stack (g.N.Nodes.tree l.nodes) l.ids.items);
-  each : Each (λ id. g.N.Nodes.belongs l.nodes id × MayForce (g.N.Nodes.serves l.nodes) (g.N.Nodes.tree l.nodes id)) l.ids.items }
+  each : Each (λ id. g.N.Nodes.belongs l.nodes id × MayForce (g.N.Nodes.serves l.nodes) (g.N.Nodes.tree l.nodes id)) l.ids.items;
+}
 
 abbrev pub decreases-down : goal.decreases-down
 decreases-down g l = depth (g.N.Nodes.tree l.nodes l.at)

@@ -10,7 +10,7 @@ pub name_one-requires-clause-below : goal.name_one-requires-clause-below
 name_one-requires-clause-below g c =
     let after = g.St.Store.meaning c.loop-offset.after in
     rw c.in_ok-value.ensures (instance-below after.counter (terms_of c.args.env.now) (programs.template c.args.program.now c.in_ok-term.term)
-      (env-more (g.St.Store.meaning c.args.store).counter after.counter c.loop-offset.invariant.above (terms_of c.args.env.now) c.requires.below))
+    (env-more (g.St.Store.meaning c.args.store).counter after.counter c.loop-offset.invariant.above (terms_of c.args.env.now) c.requires.below))
 
 pub name_one-requires-clause-room : goal.name_one-requires-clause-room
 name_one-requires-clause-room g c =
@@ -27,6 +27,7 @@ loop-offset-preserved g c =
     let inv = c.loop-offset.invariant in
     record {
       names = names-step _ _ _ (terms_of c.args.env.now) (programs.templates p) (programs.tables p).arguments c.args.at c.loop-offset.offset c.in_ok-term.term c.loop-offset.values.items _
-        (tree c.in_ok-value.value) _ inv.names c.in_ok-term.ensures c.in_ok-value.ensures one c.in_ok-push.ensures.items;
+          (tree c.in_ok-value.value) _ inv.names c.in_ok-term.ensures c.in_ok-value.ensures one c.in_ok-push.ensures.items;
       above = let a = one.above in let b = inv.above in omega (arith, a, b);
-      within = let a = one.within in let b = inv.within in omega (arith, a, b) }
+      within = let a = one.within in let b = inv.within in omega (arith, a, b);
+    }

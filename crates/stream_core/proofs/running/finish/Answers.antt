@@ -24,8 +24,9 @@ loop-next-preserved g c =
       ready = step.becomes.ready (first-ready _ _ _ _ split inv.ready);
       belong = step.belong;
       older = grows-twice (g.N.Nodes.belongs c.args.nodes.now) (g.N.Nodes.belongs c.loop-next.nodes) (g.N.Nodes.belongs c.take_task.new.nodes)
-        (g.N.Nodes.tree c.args.nodes.now) (g.N.Nodes.tree c.loop-next.nodes) (g.N.Nodes.tree c.take_task.new.nodes) inv.older step.older;
-      goals = step.same ∙ inv.goals }
+          (g.N.Nodes.tree c.args.nodes.now) (g.N.Nodes.tree c.loop-next.nodes) (g.N.Nodes.tree c.take_task.new.nodes) inv.older step.older;
+      goals = step.same ∙ inv.goals;
+    }
 
 pub returns-in-Some-pop-clause-made : goal.returns-in-Some-pop-clause-made
 returns-in-Some-pop-clause-made g c v more is =

@@ -1,7 +1,6 @@
-use Rattle.std.proofs.Common.{ap, ap₂, ◌∙◌, [], ◌∷◌, refl, sym}
+use Rattle.std.proofs.Common.{ap, [], refl}
 use Rattle.kan_model.specs.Environments.{terms_of}
 use Rattle.kan_model.specs.Programs as programs
-use Rattle.stream_core.specs.Machine as machine
 use Rattle.stream_core.specs.Standing as standing
 use Rattle.stream_core.specs.Tasks.{task, stack}
 use Rattle.stream_core.proofs.RunningLaws.{run-done}
@@ -14,4 +13,4 @@ returns-clause-made g c =
     let is = standing.stream (g.N.Nodes.tree c.args.nodes.now) g.St.Store.meaning in
     c.in_ok-made.ensures.made _ []
     (run-done (programs.goal c.args.program.now c.args.goal) (terms_of c.args.env.now) (terms_of c.in_ok-env.env) (g.St.Store.meaning c.args.store) _ _
-      (pushed-one f _ _ _ _ [] c.in_ok-push.ensures.items refl (ap (stack f) c.new-tasks.ensures.items)) (ap (stack is) c.new-values.ensures.items) c.in_ok-env.ensures)
+    (pushed-one f _ _ _ _ [] c.in_ok-push.ensures.items refl (ap (stack f) c.new-tasks.ensures.items)) (ap (stack is) c.new-values.ensures.items) c.in_ok-env.ensures)
