@@ -26,7 +26,7 @@ mod Complete
 mod CutExamples
 pub mod Cutting
 mod DeepExamples
-mod Exactly
+pub mod Exactly
 mod Examples
 mod First
 mod LongExamples
@@ -42,3 +42,6 @@ pub mod RowLaws
 pub mod ScopeLaws
 pub mod EntryLaws
 pub mod EnvironmentLaws
+mod TextExamples
+mod FaultExamples
+mod ProgramExamples

@@ -39,3 +39,12 @@ pub mod Programs
 pub mod Calls
 pub mod Flat
 pub mod Environments
+pub mod Sited
+pub mod Language
+pub mod Binders
+pub mod TermForms
+pub mod GoalForms
+pub mod TopForms
+pub mod Resolved
+pub mod ProgramText
+pub mod TextFaults

@@ -26,8 +26,8 @@ pub enum Letter {
     Nil,
 }
 
-// The first letter of a term.
-pub(crate) fn first_letter(term: &Term) -> Letter
+/// The first letter of a term.
+pub fn first_letter(term: &Term) -> Letter
     ensures { result ≡ letter_of (tree term.now) }
 {
     match term {

@@ -16,7 +16,7 @@ mod stores;
 
 pub use draft::Draft;
 pub use environment::Env;
-pub use letters::{Letter, build, occurs_in, same_terms, spell};
+pub use letters::{Letter, build, first_letter, occurs_in, same_terms, spell};
 pub use nodes::{GoalNode, Query, Relation, TermNode};
 pub use plain::PlainStore;
 pub use prims::{Asserted as Prim, Kind};

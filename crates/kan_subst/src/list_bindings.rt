@@ -1,0 +1,89 @@
+//! Bindings in one list, which is copied at each `bind`.
+
+ghost use Rattle.std.specs.Prelude.{◌≡◌, ◌++◌, map, OnOk};
+ghost use Rattle.std.specs.Option.{option_map};
+ghost use Rattle.kan_terms.specs.Bound.{bound_to};
+ghost use Rattle.kan_terms.specs.Terms.{tree};
+ghost use Rattle.kan_subst.specs.Stored.{pair};
+
+use kan_terms::{Bindings, Memory, Term};
+use std::alloc::Global;
+
+// A variable with the term that it is bound to.
+#[derive(Drop)]
+struct Binding {
+    var: u64,
+    term: Term,
+}
+
+/// Bindings in one list, the newest first.
+#[derive(Drop)]
+pub struct ListBindings {
+    stored: Vec<Binding>,
+    alloc: Global,
+}
+
+// Writes bindings once more, behind those that are there.
+fn copy_behind(stored: &[Binding], made: &mut Vec<Binding>) -> Result<(), Memory>
+    ensures { OnOk result (map pair made.new.items ≡ map pair made.old.items ++ map pair stored.now) }
+{
+    for binding in stored {
+        made.push(Binding {
+            var: binding.var,
+            term: binding.term.again()?,
+        })?;
+    }
+    Ok(())
+}
+
+// The term of the first binding of a variable.
+fn find<'a>(stored: &'a [Binding], var: u64) -> Option<&'a Term>
+    ensures { option_map (λ term. tree term.now) result ≡ bound_to var (map pair stored.now) }
+{
+    for binding in stored {
+        if binding.var == var {
+            return Some(&binding.term);
+        }
+    }
+    None
+}
+
+impl Bindings for ListBindings {
+    ghost use Rattle.std.specs.Prelude.{map};
+    ghost use Rattle.kan_subst.specs.Stored.{pair};
+
+    ghost pairs = { λ bindings. map pair bindings.stored.items };
+
+    fn empty(alloc: Global) -> Result<ListBindings, Memory> {
+        Ok(ListBindings {
+            stored: Vec::new(alloc),
+            alloc,
+        })
+    }
+
+    fn get(&self, var: u64) -> Option<&Term> {
+        find(&self.stored, var)
+    }
+
+    fn bind(&self, var: u64, term: &Term) -> Result<ListBindings, Memory> {
+        let mut stored = Vec::with_capacity(self.alloc, self.stored.len() + 1)?;
+        stored.push(Binding {
+            var,
+            term: term.again()?,
+        })?;
+        copy_behind(&self.stored, &mut stored)?;
+        Ok(ListBindings {
+            stored,
+            alloc: self.alloc,
+        })
+    }
+
+    fn again(&self) -> Result<ListBindings, Memory> {
+        let mut copy = Vec::with_capacity(self.alloc, self.stored.len())?;
+        copy_behind(&self.stored, &mut copy)?;
+        Ok(ListBindings {
+            stored: copy,
+            alloc: self.alloc,
+        })
+    }
+}

@@ -1,0 +1,10 @@
+pub mod Walking
+pub mod Naming
+pub mod Printing
+pub mod Endings
+pub mod Lexemes
+pub mod FirstTexts
+pub mod Texts
+pub mod Outcomes
+pub mod Read
+pub mod Sides

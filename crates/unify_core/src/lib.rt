@@ -1,0 +1,11 @@
+//! Unification over triangular bindings, in which nothing is ever replaced.
+#![tactic(auto)]
+
+pub mod laws;
+mod occurring;
+mod unifying;
+mod walking;
+
+pub use occurring::occurs;
+pub use unifying::{Unified, unify};
+pub use walking::walk;

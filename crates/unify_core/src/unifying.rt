@@ -1,0 +1,191 @@
+//! Unification: the bindings under which two terms are the same.
+
+ghost use Rattle.std.specs.Prelude.{◌≡◌, ◌↔◌, ◌++◌, [], ◌∷◌, ℕ, map, IfOk, IfSome, None};
+ghost use Rattle.std.specs.Option.{option_map};
+ghost use Rattle.kan_model.specs.Solve as solver;
+ghost use Rattle.kan_terms.specs.Terms.{sides, tree};
+ghost use Rattle.kan_terms.specs.Tree.{Gd, fill};
+ghost use Rattle.unify_core.specs.Cycles.{HasNoCycle};
+ghost use Rattle.unify_core.specs.Lent.{Binds, Fresh, Parts, StepTo, equation_of, lent_sides, waiting_equations, with_lent};
+ghost use Rattle.unify_core.specs.Solutions.{AddedTo, IsSolution, bindings_solved, equation};
+ghost use Rattle.unify_core.specs.Unifying.{Unifying, met, same_atoms, taken_apart};
+
+use crate::occurring::{is_variable, occurs_on};
+use crate::walking::{Lent, walk_on};
+use kan_terms::{Bindings, Memory, Term, TermPair, TermPairs};
+use std::alloc::Global;
+
+/// What unification makes of bindings.
+#[derive(Drop)]
+pub struct Unified<B> {
+    /// The bindings with those that were added.
+    pub bindings: B,
+    /// What was added, in that order: variables in `first`, their terms in `rest`.
+    pub added: TermPairs,
+}
+
+// Two terms that are to be made the same.
+#[derive(Clone, Copy)]
+struct Sides<'a> {
+    left: &'a Term,
+    right: &'a Term,
+}
+
+// Whether two terms are the same, where the left one is no pair.
+fn same_atom(left: &Term, right: &Term) -> bool
+    ensures { result ≡ same_atoms (tree left.now) (tree right.now) }
+{
+    match left {
+        Term::Var(var) => is_variable(right, *var),
+        Term::Sym(name) => matches!(right, Term::Sym(other) if *name == *other),
+        Term::Num(number) => matches!(right, Term::Num(other) if *number == *other),
+        Term::Truth(truth) => matches!(right, Term::Truth(other) if *truth == *other),
+        Term::Nil => matches!(right, Term::Nil),
+        Term::Pair(_) => false,
+    }
+}
+
+// Puts the parts of two pairs on the stack, the first parts on top, and tells whether all else is the same.
+fn take_apart<'a>(
+    left: &'a Term,
+    right: &'a Term,
+    waiting: &mut Vec<Sides<'a>>,
+) -> Result<bool, Memory>
+    ensures { IfOk result (λ goes_on. Parts (waiting_equations waiting.old.items) goes_on (waiting_equations waiting.new.items)
+        (taken_apart (tree left.now) (tree right.now))) }
+{
+    let Term::Pair(left_parts) = left else {
+        return Ok(same_atom(left, right));
+    };
+    let Term::Pair(right_parts) = right else {
+        return Ok(false);
+    };
+    waiting.push(Sides {
+        left: &left_parts.rest,
+        right: &right_parts.rest,
+    })?;
+    waiting.push(Sides {
+        left: &left_parts.first,
+        right: &right_parts.first,
+    })?;
+    Ok(true)
+}
+
+// Binds a variable to a lent term, unless it stands in the term.
+fn bind_unless_inside<'a, B: Bindings>(
+    alloc: Global,
+    var: u64,
+    term: &'a Term,
+    bindings: &'a B,
+    lent: &mut Vec<Lent<'a>>,
+) -> Result<bool, Memory>
+    requires { HasNoCycle (with_lent lent.old.items (B.pairs bindings.now)) }
+    ensures { IfOk result (λ fits. Binds (B.pairs bindings.now) lent.old.items fits lent.new.items var (tree term.now)) }
+{
+    if occurs_on(alloc, var, term, bindings, lent)? {
+        return Ok(false);
+    }
+    lent.push(Lent { var, term })?;
+    Ok(true)
+}
+
+// One step: the left variable is bound, else the right one, else pairs are taken apart. It tells whether there may be a unifier.
+fn step<'a, B: Bindings>(
+    alloc: Global,
+    next: Sides<'a>,
+    bindings: &'a B,
+    lent: &mut Vec<Lent<'a>>,
+    waiting: &mut Vec<Sides<'a>>,
+) -> Result<bool, Memory>
+    requires { HasNoCycle (with_lent lent.old.items (B.pairs bindings.now)) }
+    ensures { IfOk result (λ goes_on. StepTo (B.pairs bindings.now) lent.old.items (waiting_equations waiting.old.items)
+        goes_on lent.new.items (waiting_equations waiting.new.items)
+        (met (with_lent lent.old.items (B.pairs bindings.now)) (equation_of next.entry))) }
+{
+    let left = walk_on(next.left, bindings, lent);
+    let right = walk_on(next.right, bindings, lent);
+    if let Term::Var(var) = left {
+        if is_variable(right, *var) {
+            return Ok(true);
+        }
+        return bind_unless_inside(alloc, *var, right, bindings, lent);
+    }
+    if let Term::Var(var) = right {
+        return bind_unless_inside(alloc, *var, left, bindings, lent);
+    }
+    take_apart(left, right, waiting)
+}
+
+// The bindings that make two terms the same, in the order in which they are made.
+fn lend_bindings<'a, B: Bindings>(
+    alloc: Global,
+    left: &'a Term,
+    right: &'a Term,
+    bindings: &'a B,
+) -> Result<Option<Vec<Lent<'a>>>, Memory>
+    requires { HasNoCycle (B.pairs bindings.now) }
+    ensures { IfOk result (λ found. Unifying (B.pairs bindings.now) (equation (tree left.now) (tree right.now) ∷ [])
+        (option_map (λ lent. lent_sides lent.items) found)) }
+{
+    let mut lent = Vec::new(alloc);
+    let mut waiting = Vec::new(alloc);
+    waiting.push(Sides { left, right })?;
+    while let Some(next) = waiting.pop() {
+        let goes_on = step(alloc, next, bindings, &mut lent, &mut waiting)?;
+        if !goes_on {
+            return Ok(None);
+        }
+    }
+    Ok(Some(lent))
+}
+
+// Makes bindings of those that were lent.
+fn take_over<'a, B: Bindings>(
+    alloc: Global,
+    bindings: &B,
+    lent: &[Lent<'a>],
+) -> Result<Unified<B>, Memory>
+    requires { Fresh (B.pairs bindings.now) lent.now }
+    ensures made { IfOk result (λ made. B.pairs made.bindings ≡ with_lent lent.now (B.pairs bindings.now)) }
+    ensures added { IfOk result (λ made. map sides made.added ≡ lent_sides lent.now) }
+{
+    let mut made = bindings.again()?;
+    let mut added = TermPairs::new(alloc);
+    for one in lent {
+        made = made.bind(one.var, one.term)?;
+        let pair = TermPair {
+            first: Term::Var(one.var),
+            rest: one.term.again()?,
+        };
+        if added.push(pair).is_err() {
+            return Err(Memory);
+        }
+    }
+    Ok(Unified {
+        bindings: made,
+        added,
+    })
+}
+
+/// Bindings under which two terms are the same, and which have exactly the solutions that this takes; None where there are none.
+pub fn unify<B: Bindings>(
+    alloc: Global,
+    left: &Term,
+    right: &Term,
+    bindings: &B,
+) -> Result<Option<Unified<B>>, Memory>
+    requires { HasNoCycle (B.pairs bindings.now) }
+    ensures added { IfOk result (λ found. IfSome found (λ made. AddedTo (B.pairs bindings.now) (map sides made.added) (B.pairs made.bindings))) }
+    ensures no_cycle { IfOk result (λ found. IfSome found (λ made. HasNoCycle (B.pairs made.bindings))) }
+    ensures solutions { IfOk result (λ found. IfSome found (λ made. (f : ℕ → Gd) →
+        IsSolution f (B.pairs made.bindings) ↔ (IsSolution f (B.pairs bindings.now) × (fill f (tree left.now) ≡ fill f (tree right.now))))) }
+    ensures in_order { IfOk result (λ found. Unifying (B.pairs bindings.now) (equation (tree left.now) (tree right.now) ∷ [])
+        (option_map (λ made. map sides made.added) found)) }
+    ensures none { IfOk result (λ found. (found ≡ None) ↔
+        (solver.solve (bindings_solved (B.pairs bindings.now) ++ equation (tree left.now) (tree right.now) ∷ []) ≡ None)) }
+{
+    match lend_bindings(alloc, left, right, bindings)? {
+        None => Ok(None),
+        Some(lent) => Ok(Some(take_over(alloc, bindings, &lent)?)),
+    }
+}
