@@ -6,7 +6,7 @@ use Rattle.std.proofs.lemmas.List.{length-append}
 use Rattle.kan_terms.specs.Tree.{Tree}
 use Rattle.kan_model.specs.Goals.{Template, Goal}
 use Rattle.kan_model.specs.Tables.{TermEntry, GoalEntry, Tables, template_at, goal_at, template_of, templates_after, templates_of, goal_of, goals_after, goals_of, is_term_grown, terms_grown, is_goal_grown, goals_grown, is_grown}
-use Rattle.kan_model.proofs.TableLaws.{template_at-more, grown-parts, templates-length}
+use Rattle.kan_model.proofs.TableLaws.{template_at-more, grown-parts, templates-length, goals-length}
 use Rattle.std.proofs.lemmas.Option.{slice_get_past}
 
 -- what stood in a table stays
@@ -126,3 +126,17 @@ template-found tables i None grown is =
     let long = templates-length [] tables.terms in
     let past = past-end tables.terms i (sym is) in
     ap (λ o. unwrap_or o Tree.nil) (slice_get_past (templates_of tables.terms) i (omega (arith, long, past)))
+
+-- the goal of what may be an entry
+abbrev pub goal_found : List Template → List ℕ → List Goal → Option GoalEntry → Goal
+goal_found ts args gs None = Goal.fail
+goal_found ts args gs (Some e) = goal_of ts args gs e
+
+-- past the end of the table the goal fails
+pub goal-found : (tables : Tables) (i : ℕ) (o : Option GoalEntry) → is_grown tables ≡ true → o ≡ slice_get tables.goals i →
+    goal_at (goals_of tables) i ≡ goal_found (templates_of tables.terms) tables.arguments (goals_of tables) o
+goal-found tables i (Some e) grown is = goal-entry tables i e grown (sym is)
+goal-found tables i None grown is =
+    let long = goals-length (templates_of tables.terms) tables.arguments [] tables.goals in
+    let past = past-end tables.goals i (sym is) in
+    ap (λ o. unwrap_or o Goal.fail) (slice_get_past (goals_of tables) i (omega (arith, long, past)))

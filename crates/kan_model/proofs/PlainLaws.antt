@@ -18,7 +18,7 @@ use Rattle.kan_terms.specs.declared.terms.Term.{Term}
 use Rattle.std.specs.Borrow.{Bor}
 use Rattle.std.proofs.lemmas.List.Elements.{All-nil}
 use Rattle.kan_model.specs.Prims.{prim as primitive}
-use Rattle.kan_model.specs.declared.prims.Prim.{Prim}
+use Rattle.kan_model.specs.declared.prims.Asserted.{Asserted}
 use Rattle.kan_model.specs.Kept.{is_kept, holds_with, holds_under, allows, gives_one_type, makes_symbol, makes_number}
 use Rattle.kan_model.specs.Answers.{same_form, same_pair, has_absence}
 use Rattle.kan_model.specs.StoreCalls.{is_equation, is_answer, answer, kind_at, AreTags, AreDifferences, differences, IsFoundFor, WalksTo}
@@ -84,7 +84,7 @@ pub equations_hold : (s : Replacement) (ps : List (Primitive Tm)) → list_all i
 equations_hold s ps e = rw (equations_allowed s ps e, equations_one_type s ps ps e) refl
 
 -- one primitive more, of a list of primitives
-pub list_step : (prims : List Prim) (i : ℕ) (p : Prim) (listed longer : List Equation) →
+pub list_step : (prims : List Asserted) (i : ℕ) (p : Asserted) (listed longer : List Equation) →
     i < length prims → p ≡ get_or prims i p → listed ≡ equations (map primitive (take i prims)) → longer ≡ listed ++ equations (primitive p ∷ []) →
     longer ≡ equations (map primitive (take (i + 1) prims))
 list_step prims i p listed longer below here so_far grown =

@@ -30,6 +30,10 @@ template p i = facts.template_at (templates p) i
 abbrev pub goal : Program → ℕ → Goal
 goal p i = facts.goal_at (goals p) i
 
+-- the goal of an entry, from the goals of the program
+abbrev pub entry_goal : Program → facts.GoalEntry → Goal
+entry_goal p e = facts.goal_of (templates p) (tables p).arguments (goals p) e
+
 -- a refused draft is the one that was given, and is open where that is said
 abbrev pub HandsBack : Draft → List ℕ → CloseRefused → Type 0
 HandsBack d queries (Open back) = (back ≡ d) × (nothing_open (drafts.tables d) queries ≡ false)

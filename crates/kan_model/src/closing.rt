@@ -132,6 +132,16 @@ impl Program {
         }
     }
 
+    /// The goal at a place, and the goal that fails past the end. It takes no memory.
+    pub fn goal_node(&self, at: u32) -> GoalNode
+        ensures { programs.goal self.now at ≡ programs.entry_goal self.now (goal_entry result) }
+    {
+        match self.goal(at) {
+            Some(node) => *node,
+            None => GoalNode::Fail,
+        }
+    }
+
     /// The argument at a place, a template by its place, and None exactly past the end. It takes no memory.
     pub fn argument(&self, at: u32) -> Option<u32>
         ensures { result ≡ slice_get (programs.tables self.now).arguments at }

@@ -19,7 +19,7 @@ pub use environment::Env;
 pub use letters::{Letter, build, first_letter, occurs_in, same_terms, spell};
 pub use nodes::{GoalNode, Query, Relation, TermNode};
 pub use plain::PlainStore;
-pub use prims::{Kind, Prim};
+pub use prims::{Asserted as Prim, Kind};
 pub use program::{CloseRefused, Program};
 pub use solving::{Replaced, apply, solve};
 pub use stores::Store;

@@ -1,0 +1,8 @@
+pub mod AppendLaws
+pub mod MachineLaws
+pub mod StackLaws
+pub mod GivingLaws
+pub mod RunningLaws
+pub mod GrowingLaws
+pub mod ForceLaws
+pub mod WayLaws

@@ -1,0 +1,22 @@
+use Rattle.std.proofs.Common.{ap, sym, ◌∙◌}
+use Rattle.std.specs.Prelude.{option_map}
+use Rattle.std.specs.Option.{option_copied}
+use Rattle.kan_model.specs.Nodes.{relation_entry}
+use Rattle.kan_model.specs.Running as running
+use Rattle.kan_model.specs.Environments.{terms_of}
+use Rattle.kan_model.specs.Programs as programs
+use Rattle.stream_core.proofs.ForceLaws.{relation-found, call-room, narrow-bodies}
+use Rattle.stream_core.proofs.forcing.enter_call.Goals as goal
+
+pub run_goal-requires-clause-room : goal.run_goal-requires-clause-room
+run_goal-requires-clause-room g c =
+    let p = c.args.program.now in
+    call-room (programs.meaning p) c.args.rel (terms_of c.args.args.now) (g.St.Store.meaning c.args.store) _ (narrow-bodies (programs.tables p) c.requires.small) c.requires.may
+    (relation-found (programs.tables p) c.args.rel (relation_entry c.in-Some.relation.now) (ap (λ r. option_map relation_entry (option_copied r)) (sym c.in-Some.is) ∙ c.relation.ensures))
+
+pub returns-in_ok-made-in-Some-clause-made : goal.returns-in_ok-made-in-Some-clause-made
+returns-in_ok-made-in-Some-clause-made g c =
+    let p = c.args.program.now in
+    c.in_ok-made-in-Some.ensures.made
+    ∙ ap (λ o. running.enter o (terms_of c.args.args.now) (g.St.Store.meaning c.args.store))
+    (sym (relation-found (programs.tables p) c.args.rel (relation_entry c.in-Some.relation.now) (ap (λ r. option_map relation_entry (option_copied r)) (sym c.in-Some.is) ∙ c.relation.ensures)))

@@ -1,0 +1,29 @@
+use Rattle.std.proofs.Common.{◌∙◌, subst}
+use Rattle.std.specs.Prelude.{IfSome}
+use Rattle.kan_model.specs.Programs as programs
+use Rattle.stream_core.specs.Standing as standing
+use Rattle.stream_core.proofs.RunningLaws.{grows-twice}
+use Rattle.stream_core.proofs.WayLaws.{next-inside, up-step}
+use Rattle.stream_core.proofs.forcing.force.Goals as goal
+
+pub force_last-requires-clause-inside : goal.force_last-requires-clause-inside
+force_last-requires-clause-inside g c =
+    let tree = g.N.Nodes.tree c.loop-at.nodes in
+    let program = programs.meaning c.args.program.now in
+    let means = g.St.Store.meaning in
+    subst (λ t. IfSome c.loop-at.inside (standing.IsForce (g.N.Nodes.belongs c.loop-at.nodes) tree means program t))
+    (next-inside means program tree (g.N.Nodes.tree c.args.nodes.now c.args.id.now) c.pop.new.self.items c.loop-at.ids.items c.in-Some.at c.in-Some.ensures.items) c.loop-at.invariant.down.inside
+
+pub loop-at-preserved : goal.loop-at-preserved
+loop-at-preserved g c =
+    let program = programs.meaning c.args.program.now in
+    let means = g.St.Store.meaning in
+    let inv = c.loop-at.invariant in
+    let step = c.in_ok-made.ensures in
+    record {
+      down = up-step means program (g.N.Nodes.belongs c.loop-at.nodes) (g.N.Nodes.belongs c.force_last.new.nodes) (g.N.Nodes.tree c.loop-at.nodes) (g.N.Nodes.tree c.force_last.new.nodes)
+          (g.N.Nodes.tree c.args.nodes.now c.args.id.now) c.loop-at.ids.items c.pop.new.self.items c.in-Some.at c.loop-at.inside c.in_ok-made.made inv.down c.in-Some.ensures.items step.older step.force;
+      older = grows-twice (g.N.Nodes.belongs c.args.nodes.now) (g.N.Nodes.belongs c.loop-at.nodes) (g.N.Nodes.belongs c.force_last.new.nodes)
+          (g.N.Nodes.tree c.args.nodes.now) (g.N.Nodes.tree c.loop-at.nodes) (g.N.Nodes.tree c.force_last.new.nodes) inv.older step.older;
+      same = step.same ∙ inv.same;
+    }
