@@ -21,8 +21,8 @@ fn is_among(symbols: &[u32], symbol: u32) -> bool
     symbols.iter().any(|other| symbol == *other)
 }
 
-// Whether a symbol may be a name of a binder that has these names already.
-fn may_bind(names: &Names, before: &[u32], symbol: u32) -> bool
+/// Whether a symbol may be a name of a binder that has these names already.
+pub(crate) fn may_bind(names: &Names, before: &[u32], symbol: u32) -> bool
     ensures { result ≡ may_bind names.now before.now symbol }
 {
     let is_other = matches!(word_of_symbol(names, symbol), Word::Other);

@@ -1,17 +1,17 @@
 //! Top forms as they are written.
 
-ghost use Rattle.std.specs.Prelude.{◌≡◌, ◌++◌, OnOk};
+ghost use Rattle.std.specs.Prelude.{◌≡◌};
 ghost use Rattle.kan_model.specs.TopForms.{form, relation_form, run_form, limited_form, defined_by, defined_by_head};
 ghost use Rattle.kan_model.specs.Sited.{elements};
 ghost use Rattle.goal_syntax.specs.FormSteps.{step_top, limit_at, run_with};
 ghost use Rattle.goal_syntax.specs.Parts.{sites, site_at};
-ghost use Rattle.goal_syntax.specs.Related.{related};
+ghost use Rattle.goal_syntax.specs.Related.{related_maybe};
 
 use crate::node::{Nodes, Part};
 use crate::relations::Defined;
 use crate::shape::{count, head_word, is_proper, pair_parts};
 use crate::word::{Word, word_of_symbol};
-use kan_terms::{Memory, Names};
+use kan_terms::Names;
 
 /// What a top form is, with the places of its parts.
 #[derive(Clone, Copy, Debug, PartialEq, Eq)]
@@ -86,37 +86,29 @@ fn open_binder(nodes: &Nodes, names: &Names, limit: Option<u32>, binder: u32, go
     }
 }
 
-/// Adds the relation that a top form defines, where it defines one.
-pub(crate) fn define(nodes: &Nodes, names: &Names, place: u32, rows: &mut Vec<Defined>) -> Result<(), Memory>
-    ensures { OnOk result (related rows.new.items ≡ related rows.old.items ++ defined_by names.now (site_at (sites nodes.now) place)) }
+/// The relation that a top form defines, where it defines one.
+pub(crate) fn defined_by(nodes: &Nodes, names: &Names, place: u32) -> Option<Defined>
+    ensures { related_maybe result ≡ defined_by names.now (site_at (sites nodes.now) place) }
 {
-    let Some((head, parts)) = pair_parts(nodes, place) else {
-        return Ok(());
-    };
-    let Some((relation, _)) = pair_parts(nodes, parts) else {
-        return Ok(());
-    };
+    let (head, parts) = pair_parts(nodes, place)?;
+    let (relation, _) = pair_parts(nodes, parts)?;
     match head_word(nodes, names, head) {
-        Word::Defrel => define_by_head(nodes, names, relation, rows),
-        _ => Ok(()),
+        Word::Defrel => defined_by_head(nodes, names, relation),
+        _ => None,
     }
 }
 
-// Adds the relation that a head defines, where it defines one.
-fn define_by_head(nodes: &Nodes, names: &Names, head: u32, rows: &mut Vec<Defined>) -> Result<(), Memory>
-    ensures { OnOk result (related rows.new.items ≡ related rows.old.items ++ defined_by_head names.now (elements (site_at (sites nodes.now) head))) }
+// The relation that a head defines, where it defines one.
+fn defined_by_head(nodes: &Nodes, names: &Names, head: u32) -> Option<Defined>
+    ensures { related_maybe result ≡ defined_by_head names.now (elements (site_at (sites nodes.now) head)) }
 {
-    let Some((first, rest)) = pair_parts(nodes, head) else {
-        return Ok(());
-    };
-    let Some(params) = count(nodes, rest) else {
-        return Ok(());
-    };
+    let (first, rest) = pair_parts(nodes, head)?;
+    let params = count(nodes, rest)?;
     let Part::Name(name) = nodes.read(first).part else {
-        return Ok(());
+        return None;
     };
-    if let Word::Other = word_of_symbol(names, name) {
-        rows.push(Defined { name, params })?;
+    match word_of_symbol(names, name) {
+        Word::Other => Some(Defined { name, params }),
+        _ => None,
     }
-    Ok(())
 }

@@ -5,6 +5,7 @@ mod binder;
 mod fault;
 mod form;
 mod goal;
+mod judge_form;
 mod judge_goal;
 mod judge_term;
 mod node;
