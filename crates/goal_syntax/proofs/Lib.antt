@@ -5,3 +5,4 @@ pub mod WaitingLaws
 pub mod ScopeLaws
 pub mod RelationLaws
 pub mod GoalLaws
+pub mod FaultLaws

@@ -1,9 +1,11 @@
 -- The numbers of relations and what they take.
 use Rattle.std.proofs.Common.{◌≡◌, ℕ, zero, suc, ◌+◌, ◌<◌, ◌≤◌, List, [], ◌∷◌, ◌++◌, length, map, take, get_or, refl, sym, ◌∙◌, ap, arith, Option, Some, None}
-use Rattle.std.proofs.lemmas.Bool.{ltb-false}
+use Rattle.std.proofs.lemmas.Bool.{ltb-false, le-leb, lt-leb}
+use Rattle.std.proofs.lemmas.Bool.Decides.{nat_tests}
+use Rattle.kan_model.specs.TextFaults.{is_new}
 use Rattle.std.proofs.Math.Seq.{take-suc}
 use Rattle.std.proofs.lemmas.List.{length-take-le}
-use Rattle.std.specs.Prelude.{Bool, true, false, nat_lt, ◌==◌, option_map, if◌then◌else◌}
+use Rattle.std.specs.Prelude.{Bool, true, false, leb, nat_lt, ◌==◌, option_map, if◌then◌else◌}
 use Rattle.kan_model.specs.TopForms as forms
 use Rattle.kan_model.specs.Resolved.{relation_number, arity, or_else}
 use Rattle.goal_syntax.specs.Related.{related, related_one}
@@ -73,3 +75,32 @@ number_noted rows lent place e x here same old new noted kept =
     ∙ ap (λ r. or_else r (if x == (get_or rows place e).name then Some place else None)) (kept x)
     ∙ ap (λ n. or_else (relation_number (related (take place rows)) x) (if x == (get_or rows place e).name then Some n else None)) (sym size)
     ∙ sym more ∙ ap (λ l. relation_number (related l) x) (sym split) ∙ ap (λ n. relation_number (related (take n rows)) x) (sym step)
+
+-- a name without a number is new before any relation
+pub new_none : (n : ℕ) (ds : List forms.Defined) (s : ℕ) → None ≡ relation_number ds s → true ≡ is_new (arity (take n ds) s)
+new_none zero ds s e = refl
+new_none (suc n) [] s e = refl
+new_none (suc n) (d ∷ ds) s e = by_test (s == d.name) (relation_number ds s) (λ h. new_none n ds s h) e
+  where
+  by_test : (b : Bool) (r : Option ℕ) → (None ≡ r → true ≡ is_new (arity (take n ds) s)) → None ≡ (if b then Some 0 else option_map (λ n. suc n) r) →
+    true ≡ is_new (if b then Some d.params else arity (take n ds) s)
+  by_test true r later h = cc
+  by_test false None later h = later refl
+  by_test false (Some k) later h = cc
+
+leb-suc : (a b : ℕ) → leb (suc a) (suc b) ≡ leb a b
+leb-suc a b = grind (arith, nat_tests)
+
+-- a name with a number is new before the relations up to that
+pub new_some : (n : ℕ) (ds : List forms.Defined) (s i : ℕ) → Some i ≡ relation_number ds s → leb n i ≡ is_new (arity (take n ds) s)
+new_some zero ds s i e = le-leb 0 i (omega arith)
+new_some (suc n) [] s i e = cc
+new_some (suc n) (d ∷ ds) s i e = by_test (s == d.name) (relation_number ds s) (λ k h. new_some n ds s k h) i e
+  where
+  by_test : (b : Bool) (r : Option ℕ) → ((k : ℕ) → Some k ≡ r → leb n k ≡ is_new (arity (take n ds) s)) → (i : ℕ) → Some i ≡ (if b then Some 0 else option_map (λ n. suc n) r) →
+    leb (suc n) i ≡ is_new (if b then Some d.params else arity (take n ds) s)
+  by_test true r later zero h = lt-leb 0 (suc n) (omega arith)
+  by_test true r later (suc k) h = cc
+  by_test false None later i h = cc
+  by_test false (Some m) later zero h = cc
+  by_test false (Some m) later (suc k) h = leb-suc n k ∙ later k (cc)

@@ -10,3 +10,4 @@ pub mod Related
 pub mod Tabled
 pub mod GoalStack
 pub mod FormSteps
+pub mod Firsts

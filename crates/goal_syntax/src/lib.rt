@@ -8,6 +8,7 @@ mod goal;
 mod judge_form;
 mod judge_goal;
 mod judge_term;
+mod judge_text;
 mod node;
 mod relations;
 mod scope;

@@ -1,0 +1,76 @@
+//! The faults of texts, and the one that comes first.
+
+ghost use Rattle.std.specs.Prelude.{◌≡◌, ◌<◌, ◌≤◌, ◌^◌, ◌++◌, length, take, map, IfOk, OnOk, option_map};
+ghost use Rattle.kan_model.specs.TopForms.{defined};
+ghost use Rattle.kan_model.specs.TextFaults.{is_before, first_of, least, forms_faults};
+ghost use Rattle.goal_syntax.specs.FaultLists.{fault_of, fault_list};
+ghost use Rattle.goal_syntax.specs.Parts.{sites, site_at};
+ghost use Rattle.goal_syntax.specs.Related.{related};
+ghost use Rattle.goal_syntax.specs.Tabled.{relations};
+
+use crate::fault::Fault;
+use crate::form::{defined_by, open};
+use crate::judge_form::judge_form;
+use crate::judge_goal::Text;
+use crate::node::Nodes;
+use crate::relations::Defined;
+use kan_terms::{Memory, Names};
+
+// Whether a fault comes before another: by its offset, and at one offset by its number.
+fn is_before(fault: Fault, other: Fault) -> bool
+    ensures { result ≡ is_before (fault_of fault) (fault_of other) }
+{
+    fault.at < other.at || fault.at == other.at && fault.number <= other.number
+}
+
+// The first of a fault and maybe another.
+fn first_of(fault: Fault, other: Option<Fault>) -> Fault
+    ensures { fault_of result ≡ first_of (fault_of fault) (option_map fault_of other) }
+{
+    match other {
+        Some(other) if !is_before(fault, other) => other,
+        _ => fault,
+    }
+}
+
+/// The fault that comes first.
+pub(crate) fn least(mut faults: Vec<Fault>) -> Option<Fault>
+    ensures { option_map fault_of result ≡ least (fault_list faults.items) }
+{
+    let mut first = None;
+    while let Some(fault) = faults.pop() {
+        first = Some(first_of(fault, first));
+    }
+    first
+}
+
+/// Adds the relations that top forms define.
+pub(crate) fn define_all(nodes: &Nodes, names: &Names, forms: &[u32], rows: &mut Vec<Defined>) -> Result<(), Memory>
+    ensures { OnOk result (related rows.new.items ≡ related rows.old.items ++ defined names.now (map (site_at (sites nodes.now)) forms.now)) }
+{
+    for place in forms {
+        if let Some(relation) = defined_by(nodes, names, *place) {
+            rows.push(relation)?;
+        }
+    }
+    Ok(())
+}
+
+/// Notes the faults of top forms, before which this many relations are defined.
+pub(crate) fn judge_forms(text: &Text, mut before: u32, forms: &[u32], faults: &mut Vec<Fault>) -> Result<(), Memory>
+    requires few { length (relations text.now.relations.now) < 2 ^ 32 }
+    requires before { before ≤ length (relations text.now.relations.now) }
+    requires later { relations text.now.relations.now ≡ take before (relations text.now.relations.now)
+        ++ defined text.now.names.now (map (site_at (sites text.now.nodes.now)) forms.now) }
+    ensures { OnOk result (fault_list faults.new.items ≡ fault_list faults.old.items
+        ++ forms_faults text.now.names.now (relations text.now.relations.now) (take before (relations text.now.relations.now))
+        (map (site_at (sites text.now.nodes.now)) forms.now)) }
+{
+    for place in forms {
+        judge_form(text, before, open(text.nodes, text.names, *place), faults)?;
+        if defined_by(text.nodes, text.names, *place).is_some() {
+            before += 1;
+        }
+    }
+    Ok(())
+}
