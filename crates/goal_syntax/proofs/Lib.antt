@@ -6,3 +6,4 @@ pub mod ScopeLaws
 pub mod RelationLaws
 pub mod GoalLaws
 pub mod FaultLaws
+pub mod FormLaws

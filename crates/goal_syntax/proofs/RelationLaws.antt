@@ -99,7 +99,7 @@ new_some (suc n) (d ∷ ds) s i e = by_test (s == d.name) (relation_number ds s)
   where
   by_test : (b : Bool) (r : Option ℕ) → ((k : ℕ) → Some k ≡ r → leb n k ≡ is_new (arity (take n ds) s)) → (i : ℕ) → Some i ≡ (if b then Some 0 else option_map (λ n. suc n) r) →
     leb (suc n) i ≡ is_new (if b then Some d.params else arity (take n ds) s)
-  by_test true r later zero h = lt-leb 0 (suc n) (omega arith)
+  by_test true r later zero h = lt-leb (suc n) 0 (omega arith)
   by_test true r later (suc k) h = cc
   by_test false None later i h = cc
   by_test false (Some m) later zero h = cc

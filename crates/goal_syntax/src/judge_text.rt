@@ -1,7 +1,7 @@
 //! The faults of texts, and the one that comes first.
 
 ghost use Rattle.std.specs.Prelude.{◌≡◌, ◌<◌, ◌≤◌, ◌^◌, ◌++◌, length, take, map, IfOk, OnOk, option_map};
-ghost use Rattle.kan_model.specs.TopForms.{defined};
+ghost use Rattle.kan_model.specs.TopForms.{defined, defined_by as defined_by_form};
 ghost use Rattle.kan_model.specs.TextFaults.{is_before, first_of, least, forms_faults};
 ghost use Rattle.goal_syntax.specs.FaultLists.{fault_of, fault_list};
 ghost use Rattle.goal_syntax.specs.Parts.{sites, site_at};
@@ -56,6 +56,16 @@ pub(crate) fn define_all(nodes: &Nodes, names: &Names, forms: &[u32], rows: &mut
     Ok(())
 }
 
+// How many relations a top form defines.
+fn count_defined(nodes: &Nodes, names: &Names, place: u32) -> u32
+    ensures { result ≡ length (defined_by_form names.now (site_at (sites nodes.now) place)) }
+{
+    match defined_by(nodes, names, place) {
+        Some(_) => 1,
+        None => 0,
+    }
+}
+
 /// Notes the faults of top forms, before which this many relations are defined.
 pub(crate) fn judge_forms(text: &Text, mut before: u32, forms: &[u32], faults: &mut Vec<Fault>) -> Result<(), Memory>
     requires few { length (relations text.now.relations.now) < 2 ^ 32 }
@@ -68,9 +78,7 @@ pub(crate) fn judge_forms(text: &Text, mut before: u32, forms: &[u32], faults: &
 {
     for place in forms {
         judge_form(text, before, open(text.nodes, text.names, *place), faults)?;
-        if defined_by(text.nodes, text.names, *place).is_some() {
-            before += 1;
-        }
+        before += count_defined(text.nodes, text.names, *place);
     }
     Ok(())
 }
