@@ -26,7 +26,7 @@ mod Complete
 mod CutExamples
 pub mod Cutting
 mod DeepExamples
-mod Exactly
+pub mod Exactly
 mod Examples
 mod First
 mod LongExamples

@@ -1,0 +1,6 @@
+pub mod PieceLaws
+pub mod SeenLaws
+pub mod FrameLaws
+pub mod ReadLaws
+pub mod PrintLaws
+pub mod KeptLaws

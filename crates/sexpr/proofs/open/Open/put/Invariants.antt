@@ -1,0 +1,18 @@
+-- What is left to put gives what putting the datum at the start gives.
+use Rattle.std.proofs.Common.{◌≡◌, ◌<◌, None, vec_len}
+use Rattle.std.specs.List.{fold}
+use Rattle.kan_model.specs.Open.{put}
+use Rattle.sexpr.specs.Seen.{Table, written, as_kept}
+use Rattle.sexpr.specs.Frames.{deepened, place}
+use Rattle.sexpr.proofs.open.Open.put.Given as goal
+
+abbrev pub invariant-loop-frame : goal.invariant-loop-frame
+invariant-loop-frame l = record {
+  open_same : (names : Table) → put as_kept (place names l.self) (written names l.datum) ≡ put as_kept (place names l.initial.self) (written names l.initial.datum);
+  depth_is : l.self.depth ≡ fold deepened 0 l.self.frames.items;
+  room : l.self.depth < 2050;
+  place_is : l.self.ended ≡ None;
+}
+
+abbrev pub decreases-loop-frame : goal.decreases-loop-frame
+decreases-loop-frame l = vec_len l.self.frames

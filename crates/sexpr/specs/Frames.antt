@@ -1,0 +1,63 @@
+-- What is open, kept as stacks.
+use Rattle.std.specs.Prelude.{◌≡◌, ℕ, suc, ◌+◌, ◌<◌, ◌≤◌, List, [], ◌∷◌, length, map, Option, None, Some}
+use Rattle.std.specs.List.{fold}
+use Rattle.kan_model.specs.Words.{Shape, Token}
+use Rattle.kan_model.specs.Written.{Written}
+use Rattle.kan_model.specs.Open.{Place, top, in_list, after_dot, after_prefix, Open, awaiting, ended}
+use Rattle.kan_model.specs.Faults.{refusal, after}
+use Rattle.sexpr.specs.Meaning.{shape_of, prefix_of}
+use Rattle.sexpr.specs.Seen.{Table, written, as_kept}
+use Rattle.sexpr.specs.declared.frame.Frame.{Frame}
+use Rattle.sexpr.specs.declared.frame.Frame.TheVariants as frames
+use Rattle.sexpr.specs.declared.frame.Ended.{Ended}
+use Rattle.sexpr.specs.declared.open.Open as stacks
+
+-- after the dot of a list with these elements, of which there is one
+abbrev pub after_point : Place Written → ℕ → Shape → List Written → ℕ → Place Written
+after_point p at s [] point = in_list p at s []
+after_point p at s (e ∷ ds) point = after_dot p at s e ds point
+
+-- the place that a frame opens inside another
+abbrev pub inside : Table → Place Written → Frame → Place Written
+inside names p (frames.List l) = in_list p l.at (shape_of l.shape) (map (written names) l.items)
+inside names p (frames.Dotted l) = after_point p l.at (shape_of l.shape) (map (written names) l.items) l.point
+inside names p (frames.Prefix at q) = after_prefix p at (prefix_of q)
+
+-- the place inside all frames, of which the last is the innermost
+abbrev pub place : Table → stacks.Open → Place Written
+place names o = fold (inside names) (top (map (written names) o.top)) o.frames.items
+
+-- a list with these elements, of which there is one, whose last datum is there
+abbrev pub ended_at : Place Written → ℕ → Shape → List Written → ℕ → Written → Open Written
+ended_at p at s [] point d = awaiting p
+ended_at p at s (e ∷ ds) point d = ended p at s e ds point d
+
+-- a place, or a list in it whose last datum is there
+abbrev pub ended_in : Table → Place Written → Option Ended → Open Written
+ended_in names p None = awaiting p
+ended_in names p (Some e) = ended_at p e.list.at (shape_of e.list.shape) (map (written names) e.list.items) e.list.point (written names e.last)
+
+-- what is open
+abbrev pub open_of : Table → stacks.Open → Open Written
+open_of names o = ended_in names (place names o) o.ended
+
+-- how deep the next datum stands inside one frame more
+abbrev pub deepened : ℕ → Frame → ℕ
+deepened n (frames.List l) = n + suc (length l.items)
+deepened n (frames.Dotted l) = n + length l.items
+deepened n (frames.Prefix at q) = n + 2
+
+-- a list whose last datum is there is still to be put at its place
+abbrev pub HasRoom : Option Ended → ℕ → Type 0
+HasRoom None n = Unit {0}
+HasRoom (Some e) n = n < 2050
+
+-- the depth that is kept is that inside all frames
+pub record HasDepth (o : stacks.Open) : Type 0 where
+  pub inside_all : o.depth ≡ fold deepened 0 o.frames.items
+  pub bounded : o.depth ≤ 2050
+  pub room : HasRoom o.ended o.depth
+
+-- a token is taken: no question refuses it, and what is open is what comes after it
+abbrev pub Takes : Table → stacks.Open → stacks.Open → ℕ → Token → Type 0
+Takes names old new at t = (refusal (open_of names old) at t ≡ None) × (open_of names new ≡ after as_kept (open_of names old) at t)

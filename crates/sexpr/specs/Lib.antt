@@ -1,0 +1,7 @@
+pub mod Meaning
+pub mod Pieces
+pub mod Seen
+pub mod Reads
+pub mod Frames
+pub mod Works
+pub mod Laws

@@ -1,0 +1,97 @@
+//! What a byte of a text can begin, and how far words and comments go.
+
+ghost use Rattle.std.specs.Prelude.{◌≡◌, ◌≤◌, length};
+ghost use Rattle.std.specs.List.{prefix_len};
+ghost use Rattle.kan_model.specs.Words.{is_word_byte, all_digits};
+ghost use Rattle.kan_model.specs.Tokens.{comment_length, start};
+ghost use Rattle.sexpr.specs.Meaning.{start_of};
+
+use crate::data::Prefix;
+use crate::token::Shape;
+
+/// What a byte begins.
+#[derive(Clone, Copy)]
+pub(crate) enum Start {
+    Separator,
+    Comment,
+    Open(Shape),
+    Close(Shape),
+    Prefix(Prefix),
+    Comma,
+    Hash,
+    Word,
+    Bad,
+}
+
+/// What a byte begins.
+pub(crate) fn begun_by(byte: u8) -> Start
+    ensures { start_of result ≡ start byte }
+{
+    match byte {
+        b' ' | b'\t' | b'\n' | b'\r' => Start::Separator,
+        b';' => Start::Comment,
+        b'(' => Start::Open(Shape::Round),
+        b'[' => Start::Open(Shape::Square),
+        b')' => Start::Close(Shape::Round),
+        b']' => Start::Close(Shape::Square),
+        b'\'' => Start::Prefix(Prefix::Quote),
+        b'`' => Start::Prefix(Prefix::Quasiquote),
+        b',' => Start::Comma,
+        b'#' => Start::Hash,
+        _ if is_word_byte(byte) => Start::Word,
+        _ => Start::Bad,
+    }
+}
+
+/// Whether a byte belongs to words.
+pub(crate) fn is_word_byte(byte: u8) -> bool
+    ensures { result ≡ is_word_byte byte }
+{
+    byte.is_ascii_alphanumeric()
+        || byte > 127
+        || matches!(
+            byte,
+            b'!' | b'$'
+                | b'%'
+                | b'&'
+                | b'*'
+                | b'/'
+                | b':'
+                | b'<'
+                | b'='
+                | b'>'
+                | b'?'
+                | b'^'
+                | b'_'
+                | b'~'
+                | b'+'
+                | b'-'
+                | b'.'
+                | b'@'
+        )
+}
+
+#[tactic(auto, using(crate::proofs::PieceLaws::run_within))]
+/// How many bytes of a word stand at the front.
+pub(crate) fn word_length(bytes: &[u8]) -> usize
+    ensures count { result ≡ prefix_len is_word_byte bytes.now }
+    ensures within { result ≤ length bytes.now }
+{
+    bytes.iter().take_while(|byte| is_word_byte(**byte)).count()
+}
+
+#[tactic(auto, using(crate::proofs::PieceLaws::run_within))]
+/// How many bytes come before the next line feed, or before the end.
+pub(crate) fn comment_length(bytes: &[u8]) -> usize
+    ensures count { result ≡ comment_length bytes.now }
+    ensures within { result ≤ length bytes.now }
+{
+    bytes.iter().take_while(|byte| **byte != b'\n').count()
+}
+
+/// Whether all bytes are digits.
+pub(crate) fn all_digits(bytes: &[u8]) -> bool
+    ensures { result ≡ all_digits bytes.now }
+{
+    bytes.iter().all(|byte| byte.is_ascii_digit())
+}

@@ -1,0 +1,40 @@
+//! Open lists, and prefixes without their datum.
+
+ghost use Rattle.std.specs.Prelude.{◌<◌, length};
+
+use crate::data::{Data, Datum, Prefix};
+use crate::token::Shape;
+
+/// An open list after its elements.
+#[derive(Drop)]
+pub(crate) struct OpenList {
+    pub(crate) at: u32,
+    pub(crate) shape: Shape,
+    pub(crate) items: Data,
+}
+
+/// A list after its dot, which stands behind an element.
+#[derive(Drop)]
+pub(crate) struct DottedList {
+    pub(crate) at: u32,
+    pub(crate) shape: Shape,
+    pub(crate) items: Data,
+    pub(crate) point: u32,
+    ghost has_first: { 0 < length items },
+}
+
+/// A list with the datum after its dot, where only its close may come.
+#[derive(Drop)]
+pub(crate) struct Ended {
+    pub(crate) list: DottedList,
+    pub(crate) last: Datum,
+}
+
+/// What is open around the next datum.
+#[derive(Drop)]
+pub(crate) enum Frame {
+    List(OpenList),
+    Dotted(DottedList),
+    /// A prefix without its datum: its offset, and which it is.
+    Prefix(u32, Prefix),
+}

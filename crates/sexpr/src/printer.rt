@@ -1,0 +1,213 @@
+//! The text of a datum.
+
+ghost use Rattle.std.specs.Prelude.{◌≡◌, ◌+◌, ◌<◌, ◌++◌, OnOk, IfOk, codes, string_bytes};
+ghost use Rattle.std.specs.Option.{option_copied};
+ghost use Rattle.kan_model.specs.Printed.{datum_text, named_text, pairs, pairs_within, prefix_name};
+ghost use Rattle.sexpr.specs.Meaning.{prefix_of};
+ghost use Rattle.sexpr.specs.Seen.{written};
+ghost use Rattle.sexpr.specs.Works.{within, rest_text, cost_within, work_text, works_text, work_cost, works_cost};
+ghost use Rattle.sexpr.specs.declared.printer.Work.TheVariants as work_variants;
+
+use crate::data::{Datum, DatumKind, Prefix};
+use kan_terms::{Memory, Names};
+use sqlite_items::Boxed;
+use std::alloc::Global;
+
+/// What is left to print.
+#[derive(Clone, Copy)]
+pub(crate) enum Work<'a> {
+    /// A datum, as an element or at the top.
+    Datum(&'a Datum),
+    /// The elements that follow one in its list, and the datum after the list's dot.
+    Rest(&'a [Datum], Option<&'a Datum>),
+    /// The datum after the dot of a list.
+    Tail(&'a Datum),
+    /// The close of a list.
+    Close,
+}
+
+/// The text of a datum, as it is read as pairs: with round parentheses, one space between elements, and prefixes written out as
+/// lists. A symbol without a name prints as nothing.
+pub fn print(alloc: Global, datum: &Datum, names: &Names) -> Result<Vec<u8>, Memory>
+    ensures { IfOk result (λ text. text.items ≡ datum_text (written names.now datum.now)) }
+{
+    let mut text = String::new(alloc);
+    let mut works = Vec::new(alloc);
+    works.push(Work::Datum(datum))?;
+    while let Some(work) = works.pop() {
+        print_work(work, names, &mut text, &mut works)?;
+    }
+    Ok(text.into_bytes())
+}
+
+/// Prints what is on top, as far as its first part.
+fn print_work<'a>(
+    work: Work<'a>,
+    names: &Names,
+    text: &mut String,
+    works: &mut Vec<Work<'a>>,
+) -> Result<(), Memory>
+    ensures printed { OnOk result (string_bytes text.new ++ works_text names.now works.new.items
+        ≡ string_bytes text.old ++ (work_text names.now work.entry ++ works_text names.now works.old.items)) }
+    ensures falls { OnOk result (works_cost names.now works.new.items < work_cost names.now work.entry + works_cost names.now works.old.items) }
+{
+    match work {
+        Work::Datum(datum) => print_datum(datum, names, text, works),
+        Work::Rest(items, last) => print_rest(items, last, names, text, works),
+        Work::Tail(datum) => print_tail(datum, names, text, works),
+        Work::Close => {
+            text.push(')')?;
+            Ok(())
+        }
+    }
+}
+
+/// Prints a datum, as far as its first part.
+fn print_datum<'a>(
+    datum: &'a Datum,
+    names: &Names,
+    text: &mut String,
+    works: &mut Vec<Work<'a>>,
+) -> Result<(), Memory>
+    ensures printed { OnOk result (string_bytes text.new ++ works_text names.now works.new.items
+        ≡ string_bytes text.old ++ (work_text names.now (work_variants.Datum datum.entry) ++ works_text names.now works.old.items)) }
+    ensures falls { OnOk result (works_cost names.now works.new.items < work_cost names.now (work_variants.Datum datum.entry) + works_cost names.now works.old.items) }
+{
+    match &datum.kind {
+        DatumKind::Symbol(number) => text.push_str(names.name(*number).unwrap_or(""))?,
+        DatumKind::Number(number) => write!(text, "{number}")?,
+        DatumKind::Truth(true) => text.push_str("#t")?,
+        DatumKind::Truth(false) => text.push_str("#f")?,
+        DatumKind::List(items, last) => return print_list(
+            items.as_slice(),
+            lent(last),
+            names,
+            text,
+            works,
+        ),
+        DatumKind::Prefixed(prefix, inner) => {
+            text.push('(')?;
+            text.push_str(name_of(*prefix))?;
+            text.push(' ')?;
+            works.push(Work::Close)?;
+            works.push(Work::Datum(inner.get()))?;
+        }
+    }
+    Ok(())
+}
+
+/// Prints a list, as far as its first element.
+fn print_list<'a>(
+    items: &'a [Datum],
+    last: Option<&'a Datum>,
+    names: &Names,
+    text: &mut String,
+    works: &mut Vec<Work<'a>>,
+) -> Result<(), Memory>
+    ensures printed { OnOk result (string_bytes text.new ++ works_text names.now works.new.items
+        ≡ string_bytes text.old ++ (named_text (pairs_within (within names.now items.entry last.entry)) ++ works_text names.now works.old.items)) }
+    ensures falls { OnOk result (works_cost names.now works.new.items
+        < 3 + cost_within (within names.now items.entry last.entry) + works_cost names.now works.old.items) }
+{
+    if let Some((first, rest)) = items.split_first() {
+        text.push('(')?;
+        works.push(Work::Close)?;
+        works.push(Work::Rest(rest, last))?;
+        works.push(Work::Datum(first))?;
+        return Ok(());
+    }
+    match last {
+        Some(datum) => works.push(Work::Datum(datum))?,
+        None => text.push_str("()")?,
+    }
+    Ok(())
+}
+
+/// Prints what follows an element of a list, as far as the next one.
+fn print_rest<'a>(
+    items: &'a [Datum],
+    last: Option<&'a Datum>,
+    names: &Names,
+    text: &mut String,
+    works: &mut Vec<Work<'a>>,
+) -> Result<(), Memory>
+    ensures printed { OnOk result (string_bytes text.new ++ works_text names.now works.new.items
+        ≡ string_bytes text.old ++ (rest_text (pairs_within (within names.now items.entry last.entry)) ++ works_text names.now works.old.items)) }
+    ensures falls { OnOk result (works_cost names.now works.new.items
+        < 1 + cost_within (within names.now items.entry last.entry) + works_cost names.now works.old.items) }
+{
+    if let Some((first, rest)) = items.split_first() {
+        text.push(' ')?;
+        works.push(Work::Rest(rest, last))?;
+        works.push(Work::Datum(first))?;
+        return Ok(());
+    }
+    if let Some(datum) = last {
+        works.push(Work::Tail(datum))?;
+    }
+    Ok(())
+}
+
+/// Prints the datum after the dot of a list, as far as its first part: a list goes on with its elements.
+fn print_tail<'a>(
+    datum: &'a Datum,
+    names: &Names,
+    text: &mut String,
+    works: &mut Vec<Work<'a>>,
+) -> Result<(), Memory>
+    ensures printed { OnOk result (string_bytes text.new ++ works_text names.now works.new.items
+        ≡ string_bytes text.old ++ (work_text names.now (work_variants.Tail datum.entry) ++ works_text names.now works.old.items)) }
+    ensures falls { OnOk result (works_cost names.now works.new.items < work_cost names.now (work_variants.Tail datum.entry) + works_cost names.now works.old.items) }
+{
+    match &datum.kind {
+        DatumKind::List(items, last) => works.push(Work::Rest(items.as_slice(), lent(last)))?,
+        DatumKind::Prefixed(prefix, inner) => {
+            text.push(' ')?;
+            text.push_str(name_of(*prefix))?;
+            text.push(' ')?;
+            works.push(Work::Datum(inner.get()))?;
+        }
+        DatumKind::Symbol(_) => return print_last(datum, names, text, works),
+        DatumKind::Number(_) => return print_last(datum, names, text, works),
+        DatumKind::Truth(_) => return print_last(datum, names, text, works),
+    }
+    Ok(())
+}
+
+/// Prints the dot before a last part that is no list.
+fn print_last<'a>(
+    datum: &'a Datum,
+    names: &Names,
+    text: &mut String,
+    works: &mut Vec<Work<'a>>,
+) -> Result<(), Memory>
+    requires { rest_text (pairs (written names.now datum.now)) ≡ codes " . " ++ named_text (pairs (written names.now datum.now)) }
+    ensures printed { OnOk result (string_bytes text.new ++ works_text names.now works.new.items
+        ≡ string_bytes text.old ++ (work_text names.now (work_variants.Tail datum.entry) ++ works_text names.now works.old.items)) }
+    ensures falls { OnOk result (works_cost names.now works.new.items < work_cost names.now (work_variants.Tail datum.entry) + works_cost names.now works.old.items) }
+{
+    text.push_str(" . ")?;
+    works.push(Work::Datum(datum))?;
+    Ok(())
+}
+
+/// The datum after a dot, lent.
+fn lent(last: &Option<Boxed<Datum>>) -> Option<&Datum>
+    ensures { option_copied result ≡ last.now }
+{
+    match last {
+        Some(datum) => Some(datum.get()),
+        None => None,
+    }
+}
+
+/// The symbol that a prefix stands for.
+fn name_of(prefix: Prefix) -> &'static str
+    ensures { result.now ≡ prefix_name (prefix_of prefix) }
+{
+    match prefix {
+        Prefix::Quote => "quote",
+        Prefix::Quasiquote => "quasiquote",
+        Prefix::Unquote => "unquote",
+    }
+}
