@@ -39,3 +39,9 @@ mod WordExamples
 mod TextExamples
 mod FaultExamples
 mod ProgramExamples
+pub mod TableLaws
+pub mod NoteLaws
+pub mod RowLaws
+pub mod ScopeLaws
+pub mod EntryLaws
+pub mod EnvironmentLaws

@@ -110,7 +110,7 @@ tables = record {
   terms = TermEntry.slot 0 ∷ TermEntry.slot 1 ∷ TermEntry.sym 0 ∷ TermEntry.pair 1 2 ∷ [];
   arguments = 0 ∷ 1 ∷ [];
   goals = GoalEntry.same 0 1 ∷ GoalEntry.call 0 0 2 ∷ GoalEntry.either 0 1 ∷ GoalEntry.call 1 2 0 ∷ [];
-  relations = record { params = 2; body = 2 } ∷ record { params = 0; body = 3 } ∷ [];
+  relations = record { name = 0; params = 2; body = 2 } ∷ record { name = 1; params = 0; body = 3 } ∷ [];
 }
 
 pub trees : program_of tables ≡ two_relations

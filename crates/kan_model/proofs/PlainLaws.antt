@@ -1,6 +1,6 @@
 -- What the plain store's equations are, and that equations alone are kept exactly where they have an answer.
 use Rattle.std.proofs.Common.{◌≡◌, ℕ, Bool, true, false, List, [], ◌∷◌, ◌++◌, map, reverse, refl, sym, ◌∙◌, ap, ap₂, subst, lt-ltb, ltb-true, arith, append_assoc, append-nil, eqb, take, get_or, length, ◌<◌, ◌+◌, Option, Some, None, true≢false}
-use Rattle.std.specs.Prelude.{IsTrue, ◌&&◌, Contains, unwrap_or, ltb}
+use Rattle.std.specs.Prelude.{◌&&◌, Contains, unwrap_or}
 use Rattle.std.specs.List.{list_all, list_any}
 use Rattle.std.proofs.lemmas.List.{map-append, map_push, reverse-append, take_more}
 use Rattle.kan_terms.specs.Tree.{Tree, Tm, term_eq}
@@ -8,8 +8,8 @@ use Rattle.kan_terms.proofs.TreeLaws.{term_eq-true, eq-term_eq}
 use Rattle.std.proofs.lemmas.Bool.{eqb-true, eq-eqb}
 use Rattle.kan_terms.specs.declared.terms.TermPair.{TermPair}
 use Rattle.kan_model.specs.Goals.{Primitive}
-use Rattle.kan_model.specs.Stores.{Store, Equation, equations}
-use Rattle.kan_model.specs.Solve.{Replaced, Replacement, solve, apply, image, left_first}
+use Rattle.kan_model.specs.Stores.{Equation, equations}
+use Rattle.kan_model.specs.Solve.{Replaced, Replacement, solve, apply, left_first}
 use Rattle.kan_model.specs.Scope.{all_below, sides_below}
 use Rattle.kan_model.proofs.SolveLaws.{solve_by-nothing}
 use Rattle.kan_model.proofs.ReplacedLaws.{applied_twice}
@@ -18,7 +18,7 @@ use Rattle.kan_terms.specs.declared.terms.Term.{Term}
 use Rattle.std.specs.Borrow.{Bor}
 use Rattle.std.proofs.lemmas.List.Elements.{All-nil}
 use Rattle.kan_model.specs.Prims.{prim as primitive}
-use Rattle.kan_model.specs.declared.prims.Prim.{Prim}
+use Rattle.kan_model.specs.declared.prims.Asserted.{Asserted}
 use Rattle.kan_model.specs.Kept.{is_kept, holds_with, holds_under, allows, gives_one_type, makes_symbol, makes_number}
 use Rattle.kan_model.specs.Answers.{same_form, same_pair, has_absence}
 use Rattle.kan_model.specs.StoreCalls.{is_equation, is_answer, answer, kind_at, AreTags, AreDifferences, differences, IsFoundFor, WalksTo}
@@ -84,7 +84,7 @@ pub equations_hold : (s : Replacement) (ps : List (Primitive Tm)) → list_all i
 equations_hold s ps e = rw (equations_allowed s ps e, equations_one_type s ps ps e) refl
 
 -- one primitive more, of a list of primitives
-pub list_step : (prims : List Prim) (i : ℕ) (p : Prim) (listed longer : List Equation) →
+pub list_step : (prims : List Asserted) (i : ℕ) (p : Asserted) (listed longer : List Equation) →
     i < length prims → p ≡ get_or prims i p → listed ≡ equations (map primitive (take i prims)) → longer ≡ listed ++ equations (primitive p ∷ []) →
     longer ≡ equations (map primitive (take (i + 1) prims))
 list_step prims i p listed longer below here so_far grown =
@@ -153,9 +153,10 @@ not_in_nil : (tag : ℕ) → Contains [] tag → ⊥
 not_in_nil tag h = absurd (omega (arith, h.1))
 
 pub no_tags : (ps : List (Primitive Tm)) (n v : ℕ) (tags : List ℕ) → list_all is_equation ps ≡ true → tags ≡ [] → AreTags (record { prims = ps; counter = n }) v tags
-no_tags ps n v tags e none tag =
-    (λ there. absurd (not_in_nil tag (subst (λ ts. Contains ts tag) none there)),
-    λ has. absurd (true≢false (sym has ∙ no_absence (answer (record { prims = ps; counter = n })) tag v ps e)))
+no_tags ps n v tags e none tag = (
+  λ there. absurd (not_in_nil tag (subst (λ ts. Contains ts tag) none there)),
+  λ has. absurd (true≢false (sym has ∙ no_absence (answer (record { prims = ps; counter = n })) tag v ps e)),
+)
 
 no_differences : (ps : List (Primitive Tm)) → list_all is_equation ps ≡ true → differences ps ≡ []
 no_differences [] e = refl

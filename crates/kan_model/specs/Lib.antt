@@ -40,3 +40,11 @@ pub mod TopForms
 pub mod Resolved
 pub mod ProgramText
 pub mod TextFaults
+pub mod Needs
+pub mod Nodes
+pub mod Notes
+pub mod Drafts
+pub mod Programs
+pub mod Calls
+pub mod Flat
+pub mod Environments

@@ -2,10 +2,10 @@
 use Rattle.kan_terms.specs.Tree.{Tm}
 use Rattle.kan_terms.specs.Terms.{tree}
 use Rattle.kan_model.specs.Goals.{Primitive}
-use Rattle.kan_model.specs.declared.prims.Prim.{Prim}
-use Rattle.kan_model.specs.declared.prims.Prim.TheVariants.{Same, Differ, Symbol, Number, Absent}
+use Rattle.kan_model.specs.declared.prims.Asserted.{Asserted}
+use Rattle.kan_model.specs.declared.prims.Asserted.TheVariants.{Same, Differ, Symbol, Number, Absent}
 
-abbrev pub prim : Prim → Primitive Tm
+abbrev pub prim : Asserted → Primitive Tm
 prim (Same a b) = Primitive.same (tree a) (tree b)
 prim (Differ a b) = Primitive.differ (tree a) (tree b)
 prim (Symbol a) = Primitive.symbol (tree a)

@@ -1,10 +1,10 @@
 -- What the calls of a store answer.
-use Rattle.std.specs.Prelude.{◌≡◌, ℕ, Bool, true, false, List, [], ◌∷◌, Option, Some, None, ◌↔◌, Contains, All, Any, map, unwrap_or, is_some, if◌then◌else◌}
+use Rattle.std.specs.Prelude.{◌≡◌, ℕ, Bool, true, false, List, [], ◌∷◌, Option, Some, None, ◌↔◌, Contains, All, Any, unwrap_or, is_some, if◌then◌else◌}
 use Rattle.std.specs.List.{list_all}
 use Rattle.kan_terms.specs.Tree.{Tree, Tm, Gd, ground_eq}
 use Rattle.kan_terms.specs.Valuations.{value}
 use Rattle.kan_model.specs.Goals.{Primitive}
-use Rattle.kan_model.specs.Stores.{Store, Equation, equations, with_prim}
+use Rattle.kan_model.specs.Stores.{Store, Equation, equations}
 use Rattle.kan_model.specs.Solve.{Replacement, image, apply, solve, solved}
 use Rattle.kan_model.specs.Kept.{is_kept, is_symbol_variable, is_number_variable}
 use Rattle.kan_model.specs.Answers.{has_absence, same_form}

@@ -28,8 +28,9 @@ pub data GoalEntry : Type 0 where
   fresh : ℕ → ℕ → GoalEntry
   call : ℕ → ℕ → ℕ → GoalEntry
 
--- an entry of the table of relations
+-- an entry of the table of relations, with the symbol that is its name
 pub record RelationEntry : Type 0 where
+  pub name : ℕ
   pub params : ℕ
   pub body : ℕ
 
@@ -39,6 +40,19 @@ pub record Tables : Type 0 where
   pub arguments : List ℕ
   pub goals : List GoalEntry
   pub relations : List RelationEntry
+
+-- tables with one entry more
+abbrev pub with_term : Tables → TermEntry → Tables
+with_term tables e = record tables { terms = tables.terms ++ e ∷ [] }
+
+abbrev pub with_argument : Tables → ℕ → Tables
+with_argument tables t = record tables { arguments = tables.arguments ++ t ∷ [] }
+
+abbrev pub with_goal : Tables → GoalEntry → Tables
+with_goal tables e = record tables { goals = tables.goals ++ e ∷ [] }
+
+abbrev pub with_relation : Tables → RelationEntry → Tables
+with_relation tables r = record tables { relations = tables.relations ++ r ∷ [] }
 
 -- the tree at a place
 abbrev pub template_at : List Template → ℕ → Template

@@ -27,7 +27,7 @@ pub enum Letter {
 }
 
 // The first letter of a term.
-fn first_letter(term: &Term) -> Letter
+pub(crate) fn first_letter(term: &Term) -> Letter
     ensures { result ≡ letter_of (tree term.now) }
 {
     match term {

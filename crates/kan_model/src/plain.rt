@@ -10,7 +10,7 @@ ghost use Rattle.kan_model.specs.Stores.{equations};
 ghost use Rattle.kan_model.specs.Prims.{prim as primitive};
 ghost use Rattle.kan_model.specs.Solving.{equation, replaced_by, stacked};
 
-use crate::prims::{Kind, Prim, copied};
+use crate::prims::{Kind, Asserted, copied};
 use crate::solving::{Replaced, copied_answer, found, solve};
 use crate::stores::Store;
 use kan_terms::{ListOf, Memory, PairLists, Tags, Term, TermPair};
@@ -19,7 +19,7 @@ use std::alloc::Global;
 /// A store that keeps the list of its primitives and the answer of its equations.
 #[derive(Drop)]
 pub struct PlainStore {
-    prims: Vec<Prim>,
+    prims: Vec<Asserted>,
     counter: u64,
     answer: Vec<Replaced>,
     ghost kept: { IsTrue (is_kept (record { prims = map primitive prims.items; counter = counter })) },
@@ -30,10 +30,10 @@ pub struct PlainStore {
 }
 
 // Adds the equation of a primitive, where it is one.
-fn push_equation(prim: &Prim, listed: &mut Vec<TermPair>) -> Result<(), Memory>
+fn push_equation(prim: &Asserted, listed: &mut Vec<TermPair>) -> Result<(), Memory>
     ensures { OnOk result (map equation listed.new.items ≡ map equation listed.old.items ++ equations (primitive prim.now ∷ [])) }
 {
-    if let Prim::Same(left, right) = prim {
+    if let Asserted::Same(left, right) = prim {
         let first = left.again()?;
         let rest = right.again()?;
         listed.push(TermPair { first, rest })?;
@@ -42,7 +42,7 @@ fn push_equation(prim: &Prim, listed: &mut Vec<TermPair>) -> Result<(), Memory>
 }
 
 // The equations of primitives, in their order.
-fn list_equations(alloc: Global, prims: &[Prim]) -> Result<Vec<TermPair>, Memory>
+fn list_equations(alloc: Global, prims: &[Asserted]) -> Result<Vec<TermPair>, Memory>
     ensures { IfOk result (λ listed. map equation listed.items ≡ equations (map primitive prims.now)) }
 {
     let mut listed = Vec::new(alloc);
@@ -53,7 +53,7 @@ fn list_equations(alloc: Global, prims: &[Prim]) -> Result<Vec<TermPair>, Memory
 }
 
 // The equations of primitives, the first on top of the stack.
-fn stack_equations(alloc: Global, prims: &[Prim]) -> Result<Vec<TermPair>, Memory>
+fn stack_equations(alloc: Global, prims: &[Asserted]) -> Result<Vec<TermPair>, Memory>
     ensures { IfOk result (λ pending. stacked pending.items ≡ equations (map primitive prims.now)) }
 {
     let mut pending = list_equations(alloc, prims)?;
@@ -63,7 +63,7 @@ fn stack_equations(alloc: Global, prims: &[Prim]) -> Result<Vec<TermPair>, Memor
 
 impl PlainStore {
     // The store of these primitives, where they are kept.
-    fn of(alloc: Global, prims: Vec<Prim>, counter: u64) -> Result<Option<PlainStore>, Memory>
+    fn of(alloc: Global, prims: Vec<Asserted>, counter: u64) -> Result<Option<PlainStore>, Memory>
         requires counted { is_counted (record { prims = map primitive prims.items; counter = counter }) ≡ true }
         requires bounded { counter ≤ 2 ^ 63 }
         requires equations_alone { list_all is_equation (map primitive prims.items) ≡ true }
@@ -110,7 +110,7 @@ impl Store for PlainStore {
         })
     }
 
-    fn assert(&self, alloc: Global, prim: &Prim) -> Result<Option<PlainStore>, Memory> {
+    fn assert(&self, alloc: Global, prim: &Asserted) -> Result<Option<PlainStore>, Memory> {
         let mut prims = copied(alloc, &self.prims)?;
         prims.push(prim.again()?)?;
         PlainStore::of(alloc, prims, self.counter)

@@ -8,7 +8,7 @@ use std::alloc::Global;
 
 /// A primitive over terms.
 #[derive(Drop)]
-pub enum Prim {
+pub enum Asserted {
     /// The two terms are equal.
     Same(Term, Term),
     /// The two terms are different.
@@ -30,23 +30,23 @@ pub enum Kind {
     Number,
 }
 
-impl Prim {
+impl Asserted {
     /// The primitive once more, over the same terms.
-    pub fn again(&self) -> Result<Prim, Memory>
+    pub fn again(&self) -> Result<Asserted, Memory>
         ensures { IfOk result (λ copy. primitive copy ≡ primitive self.now) }
     {
         Ok(match self {
-            Prim::Same(left, right) => Prim::Same(left.again()?, right.again()?),
-            Prim::Differ(left, right) => Prim::Differ(left.again()?, right.again()?),
-            Prim::Symbol(term) => Prim::Symbol(term.again()?),
-            Prim::Number(term) => Prim::Number(term.again()?),
-            Prim::Absent(tag, term) => Prim::Absent(*tag, term.again()?),
+            Asserted::Same(left, right) => Asserted::Same(left.again()?, right.again()?),
+            Asserted::Differ(left, right) => Asserted::Differ(left.again()?, right.again()?),
+            Asserted::Symbol(term) => Asserted::Symbol(term.again()?),
+            Asserted::Number(term) => Asserted::Number(term.again()?),
+            Asserted::Absent(tag, term) => Asserted::Absent(*tag, term.again()?),
         })
     }
 }
 
 /// Primitives once more, in the same order.
-pub fn copied(alloc: Global, prims: &[Prim]) -> Result<Vec<Prim>, Memory>
+pub fn copied(alloc: Global, prims: &[Asserted]) -> Result<Vec<Asserted>, Memory>
     ensures { IfOk result (λ copies. map primitive copies.items ≡ map primitive prims.now) }
 {
     let mut copies = Vec::new(alloc);

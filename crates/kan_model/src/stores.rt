@@ -9,7 +9,7 @@ ghost use Rattle.kan_model.specs.Prims.{prim as primitive};
 ghost use Rattle.kan_model.specs.Solving.{equation};
 ghost use Rattle.kan_model.specs.StoreCalls.{Gives, WalksTo, IsFree, kind_at, AreTags, AreDifferences, answer, is_equation};
 
-use crate::prims::{Kind, Prim};
+use crate::prims::{Kind, Asserted};
 use kan_terms::{Memory, PairLists, Tags, Term};
 use std::alloc::Global;
 
@@ -34,7 +34,7 @@ pub trait Store: Sized + Drop {
         ensures { IfOk result (λ made. meaning made ≡ facts.with_fresh (meaning self.now) count) };
 
     /// The store with one more primitive, and None exactly where that isn't kept.
-    fn assert(&self, alloc: Global, prim: &Prim) -> Result<Option<Self>, Memory>
+    fn assert(&self, alloc: Global, prim: &Asserted) -> Result<Option<Self>, Memory>
         requires below { sides_below (meaning self.now).counter (primitive prim.now) ≡ true }
         // Until the other primitives are built.
         requires equation { is_equation (primitive prim.now) ≡ true }

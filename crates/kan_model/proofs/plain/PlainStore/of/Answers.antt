@@ -17,4 +17,5 @@ invariant_of-result c =
       counted = c.requires.counted;
       bounded = c.requires.bounded;
       equations_alone = c.requires.equations_alone;
-      answered = answer_is _ _ answered }
+      answered = answer_is _ _ answered;
+    }

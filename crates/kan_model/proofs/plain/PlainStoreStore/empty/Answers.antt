@@ -16,4 +16,5 @@ invariant_of-result c =
       counted = moved_test (λ ps. is_counted (record { prims = ps; counter = 0 })) [] _ none refl;
       bounded = omega arith;
       equations_alone = moved_test (list_all is_equation) [] _ none refl;
-      answered = moved_answer [] _ [] _ none (ap (map replaced_by) c.new-2.ensures.items) nothing_answered }
+      answered = moved_answer [] _ [] _ none (ap (map replaced_by) c.new-2.ensures.items) nothing_answered;
+    }

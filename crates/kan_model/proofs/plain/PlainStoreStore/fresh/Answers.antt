@@ -16,4 +16,5 @@ invariant_of-result c =
       counted = moved_test (λ ps. is_counted (record { prims = ps; counter = c.args.self.now.counter + c.from.result })) _ _ same (counted_more c.args.self.now.counter c.from.result (map primitive c.args.self.now.prims.items) c.args.self.now.counted);
       bounded = omega (arith, c.requires, c.from.ensures);
       equations_alone = moved_test (list_all is_equation) _ _ same c.args.self.now.equations_alone;
-      answered = moved_answer _ _ _ _ same (c.in_ok-copied_answer.ensures ∙ ap (map replaced_by) c.deref-2.ensures.value) c.args.self.now.answered }
+      answered = moved_answer _ _ _ _ same (c.in_ok-copied_answer.ensures ∙ ap (map replaced_by) c.deref-2.ensures.value) c.args.self.now.answered;
+    }

@@ -1,4 +1,4 @@
-use Rattle.std.proofs.Common.{ap, map, rules}
+use Rattle.std.proofs.Common.{ap, map}
 use Rattle.kan_terms.specs.Terms.{tree}
 use Rattle.kan_model.specs.Prims.{prim as primitive}
 use Rattle.kan_model.specs.Solving.{replaced_by}

@@ -1,0 +1,8 @@
+use Rattle.kan_model.specs.Goals.{Goal}
+use Rattle.kan_model.specs.Needs.{goal_slots}
+use Rattle.kan_model.specs.Drafts.{goals}
+use Rattle.kan_model.proofs.NoteLaws.{noted}
+use Rattle.kan_model.proofs.draft.Draft.one_goal_slots.Goals as goal
+
+pub returns : goal.returns
+returns c = noted (λ row. row.slots) goal_slots c.args.self.now.goals.items (goals c.args.self.now) c.args.goal _ _ Goal.fail c.args.self.now.goal_slots c.index.ensures c.requires

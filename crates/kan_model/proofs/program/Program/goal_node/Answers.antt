@@ -1,0 +1,19 @@
+use Rattle.std.proofs.Common.{ap, ◌∙◌}
+use Rattle.std.specs.Prelude.{option_map}
+use Rattle.std.specs.Option.{option_copied}
+use Rattle.kan_model.specs.Nodes.{goal_entry}
+use Rattle.kan_model.specs.Programs as programs
+use Rattle.kan_model.proofs.EntryLaws.{goal-found, goal_found}
+use Rattle.kan_model.proofs.program.Program.goal_node.Goals as goal
+
+pub returns-in-Some : goal.returns-in-Some
+returns-in-Some c =
+    let p = c.args.self.now in
+    goal-found (programs.tables p) c.args.at _ p.draft.grown c.goal.ensures
+    ∙ ap (λ r. goal_found (programs.templates p) (programs.tables p).arguments (programs.goals p) (option_map goal_entry (option_copied r))) c.in-Some.is
+
+pub returns-in-None : goal.returns-in-None
+returns-in-None c =
+    let p = c.args.self.now in
+    goal-found (programs.tables p) c.args.at _ p.draft.grown c.goal.ensures
+    ∙ ap (λ r. goal_found (programs.templates p) (programs.tables p).arguments (programs.goals p) (option_map goal_entry (option_copied r))) c.in-None.is

@@ -1,0 +1,154 @@
+//! Environments: what the slots in scope stand for.
+
+ghost use Rattle.std.specs.Prelude.{◌≡◌, IsTrue, IfOk, map};
+ghost use Rattle.std.specs.List.{list_all};
+ghost use Rattle.kan_terms.specs.Terms.{tree};
+ghost use Rattle.kan_model.specs.Flat.{is_flat};
+
+use crate::letters::{Letter, build, first_letter};
+use crate::nodes::TermNode;
+use crate::program::Program;
+use kan_terms::{Memory, Term};
+use std::alloc::Global;
+
+/// A list of terms without pairs, one for each slot.
+#[derive(Drop)]
+pub struct Env {
+    values: Vec<Term>,
+    ghost flat: { IsTrue (list_all is_flat (map tree values.items)) },
+}
+
+// Terms once more, in the same order.
+fn copied(alloc: Global, values: &[Term]) -> Result<Vec<Term>, Memory>
+    ensures { IfOk result (λ copies. map tree copies.items ≡ map tree values.now) }
+{
+    let mut copies = Vec::new(alloc);
+    for value in values {
+        copies.push(value.again()?)?;
+    }
+    Ok(copies)
+}
+
+impl Env {
+    ghost use Rattle.std.specs.Prelude.{◌+◌, ◌≤◌, ◌^◌, [], ◌∷◌, ◌++◌, true, slice_get, OnOk};
+    ghost use Rattle.std.specs.Option.{option_copied};
+    ghost use Rattle.kan_terms.specs.Tree.{Tree};
+    ghost use Rattle.kan_model.specs.Running.{instance, variables};
+    ghost use Rattle.kan_model.specs.Letters.{letter_of, spelling};
+    ghost use Rattle.kan_model.specs.Flat.{letters_waiting};
+    ghost use Rattle.kan_model.specs.Programs as programs;
+    ghost use Rattle.kan_model.specs.Environments.{terms_of};
+
+    /// The environment of one slot, which stands for a variable.
+    pub fn start(alloc: Global, var: u64) -> Result<Env, Memory>
+        ensures { IfOk result (λ made. terms_of made ≡ Tree.leaf var ∷ []) }
+    {
+        let mut values = Vec::new(alloc);
+        values.push(Term::Var(var))?;
+        Ok(Env { values })
+    }
+
+    /// The environment of these terms, of which none is a pair. It takes no memory.
+    pub fn of(_program: &Program, values: Vec<Term>) -> Env
+        requires { list_all is_flat (map tree values.items) ≡ true }
+        ensures { terms_of result ≡ map tree values.items }
+    {
+        Env { values }
+    }
+
+    /// An equal environment.
+    pub fn again(&self, alloc: Global) -> Result<Env, Memory>
+        ensures { IfOk result (λ copy. terms_of copy ≡ terms_of self.now) }
+    {
+        let values = copied(alloc, &self.values)?;
+        Ok(Env { values })
+    }
+
+    /// The environment with slots more, which stand for the variables from a number on.
+    pub fn extend(&self, alloc: Global, first: u64, count: u32) -> Result<Env, Memory>
+        requires { first + count ≤ 2 ^ 63 }
+        ensures { IfOk result (λ made. terms_of made ≡ terms_of self.now ++ variables first count) }
+    {
+        let mut values = copied(alloc, &self.values)?;
+        for offset in 0..count {
+            values.push(Term::Var(first + u64::from(offset)))?;
+        }
+        Ok(Env { values })
+    }
+
+    // What a slot stands for.
+    fn slot_value(&self, slot: u32) -> Option<&Term>
+        ensures { option_copied result ≡ slice_get self.now.values.items slot }
+    {
+        self.values.get(slot as usize)
+    }
+
+    // The first letter of what a slot stands for.
+    fn slot_letter(&self, slot: u32) -> Letter
+        ensures { result ≡ letter_of (instance (terms_of self.now) (Tree.leaf slot)) }
+    {
+        match self.slot_value(slot) {
+            Some(value) => first_letter(value),
+            None => Letter::Nil,
+        }
+    }
+
+    // The first letter of a template's term.
+    fn template_letter(&self, program: &Program, term: u32) -> Letter
+        ensures { result ≡ letter_of (instance (terms_of self.now) (programs.template program.now term)) }
+    {
+        match program.template_node(term) {
+            TermNode::Slot(slot) => self.slot_letter(slot),
+            TermNode::Sym(name) => Letter::Sym(name),
+            TermNode::Num(number) => Letter::Num(number),
+            TermNode::Truth(truth) => Letter::Truth(truth),
+            TermNode::Nil => Letter::Nil,
+            TermNode::Pair(_, _) => Letter::Pair,
+        }
+    }
+
+    // Puts the parts of a template that is a pair on a stack of waiting templates, the first part on top.
+    fn wait_for_parts(
+        &self,
+        program: &Program,
+        term: u32,
+        waiting: &mut Vec<u32>,
+    ) -> Result<(), Memory>
+        ensures { OnOk result (letter_of (instance (terms_of self.now) (programs.template program.now term)) ∷ letters_waiting (map (λ at. instance (terms_of self.now) (programs.template program.now at)) waiting.new.items)
+            ≡ spelling (instance (terms_of self.now) (programs.template program.now term)) ++ letters_waiting (map (λ at. instance (terms_of self.now) (programs.template program.now at)) waiting.old.items)) }
+    {
+        match program.template_node(term) {
+            TermNode::Pair(first, rest) => {
+                waiting.push(rest)?;
+                waiting.push(first)?;
+                Ok(())
+            }
+            _ => Ok(()),
+        }
+    }
+
+    // The letters of a template's term.
+    fn spelled(&self, alloc: Global, program: &Program, term: u32) -> Result<Vec<Letter>, Memory>
+        ensures { IfOk result (λ letters. letters.items ≡ spelling (instance (terms_of self.now) (programs.template program.now term))) }
+    {
+        let mut letters = Vec::new(alloc);
+        let mut waiting = Vec::new(alloc);
+        waiting.push(term)?;
+        while let Some(next) = waiting.pop() {
+            letters.push(self.template_letter(program, next))?;
+            self.wait_for_parts(program, next, &mut waiting)?;
+        }
+        Ok(letters)
+    }
+
+    /// The term of a template, with the slots filled.
+    pub fn value(&self, alloc: Global, program: &Program, term: u32) -> Result<Term, Memory>
+        ensures { IfOk result (λ made. tree made ≡ instance (terms_of self.now) (programs.template program.now term)) }
+    {
+        let letters = self.spelled(alloc, program, term)?;
+        match build(alloc, letters)? {
+            Some(made) => Ok(made),
+            None => Err(Memory),
+        }
+    }
+}

@@ -1,0 +1,122 @@
+-- Stacks of streams while the table of suspensions grows, and steps of the tasks in the words of the code.
+use Rattle.std.proofs.Common.{◌≡◌, ℕ, zero, suc, ◌+◌, ◌≤◌, ◌<◌, List, [], ◌∷◌, ◌++◌, refl, sym, ◌∙◌, ap, ap₂, subst, arith, map}
+use Rattle.std.specs.Prelude.{Option, Some, None, option_map, IfSome, Result, Ok, Err, OnOk}
+use Rattle.kan_terms.specs.Tree.{Tm}
+use Rattle.kan_model.specs.Goals.{Goal}
+use Rattle.kan_model.specs.Stores as facts
+use Rattle.kan_model.specs.Streams as model
+use Rattle.kan_model.specs.Running.{run, variables}
+use Rattle.stream_core.specs.Machine as machine
+use Rattle.stream_core.specs.Machine.{Becomes, Each, count, done}
+use Rattle.stream_core.specs.Standing as standing
+use Rattle.stream_core.specs.Standing.{Grows, StreamBelongs, stream, going_on}
+use Rattle.stream_core.specs.Tasks.{stack}
+use Rattle.stream_core.specs.declared.streams.Stream.{Stream}
+use Rattle.stream_core.proofs.StackLaws.{stack-push, stack-pop}
+use Rattle.stream_core.proofs.MachineLaws.{becomes-both, becomes-either, becomes-fresh, becomes-stream, becomes-appended, becomes-bound}
+
+tail-grows : {I : Type 0} (belonged belongs : I → Type 0) (was is : I → model.Thunk) → Grows belonged was belongs is → (o : Option I) → IfSome o belonged → option_map is o ≡ option_map was o
+tail-grows belonged belongs was is grows None h = refl
+tail-grows belonged belongs was is grows (Some i) h = ap Some (grows i h).1
+
+tail-belongs : {I : Type 0} (belonged belongs : I → Type 0) (was is : I → model.Thunk) → Grows belonged was belongs is → (o : Option I) → IfSome o belonged → IfSome o belongs
+tail-belongs belonged belongs was is grows None h = h
+tail-belongs belonged belongs was is grows (Some i) h = (grows i h).0
+
+-- a stream stands for what it stood for
+pub stream-grows : {I St : Type 0} (belonged belongs : I → Type 0) (was is : I → model.Thunk) (means : St → facts.Store) → Grows belonged was belongs is →
+    (s : Stream I St) → StreamBelongs belonged s → stream is means s ≡ stream was means s
+stream-grows belonged belongs was is means grows s h = ap (going_on (map means s.heads)) (tail-grows belonged belongs was is grows s.tail h)
+
+pub stack-grows : {I St : Type 0} (belonged belongs : I → Type 0) (was is : I → model.Thunk) (means : St → facts.Store) → Grows belonged was belongs is →
+    (ss : List (Stream I St)) → Each (StreamBelongs belonged) ss → stack (stream is means) ss ≡ stack (stream was means) ss
+stack-grows belonged belongs was is means grows [] h = refl
+stack-grows belonged belongs was is means grows (s ∷ ss) (h, hs) =
+    ap₂ (λ t ts. ts ++ t ∷ []) (stream-grows belonged belongs was is means grows s h) (stack-grows belonged belongs was is means grows ss hs)
+
+pub all-belong : {I St : Type 0} (belonged belongs : I → Type 0) (was is : I → model.Thunk) → Grows belonged was belongs is →
+    (ss : List (Stream I St)) → Each (StreamBelongs belonged) ss → Each (StreamBelongs belongs) ss
+all-belong belonged belongs was is grows [] h = tt
+all-belong belonged belongs was is grows (s ∷ ss) (h, hs) = (tail-belongs belonged belongs was is grows s.tail h, all-belong belonged belongs was is grows ss hs)
+
+pub Each-last : {X : Type 0} (P : X → Type 0) (xs : List X) (x : X) → Each P xs → P x → Each P (xs ++ x ∷ [])
+Each-last P [] x h k = (k, tt)
+Each-last P (y ∷ xs) x (h, hs) k = (h, Each-last P xs x hs k)
+
+pub Each-front : {X : Type 0} (P : X → Type 0) (xs rest : List X) (x : X) → xs ≡ rest ++ x ∷ [] → Each P xs → Each P rest × P x
+Each-front P xs rest x split h = go rest (subst (Each P) split h)
+  where
+    go : (ys : List _) → Each P (ys ++ x ∷ []) → Each P ys × P x
+    go [] (k, end) = (tt, k)
+    go (y ∷ ys) (k, ks) = let (more, last) = go ys ks in ((k, more), last)
+
+pub grows-twice : {I : Type 0} (b1 b2 b3 : I → Type 0) (t1 t2 t3 : I → model.Thunk) → Grows b1 t1 b2 t2 → Grows b2 t2 b3 t3 → Grows b1 t1 b3 t3
+grows-twice b1 b2 b3 t1 t2 t3 one two id h = let (there, same) = one id h in let (now, still) = two id there in (now, still ∙ same)
+
+pub grows-same : {I : Type 0} (b : I → Type 0) (t : I → model.Thunk) → Grows b t b t
+grows-same b t id h = (h, refl)
+
+-- steps where the tasks and streams are those that a law has
+pub becomes-moved : (ts us us' : List machine.Task) (vs ws ws' : List model.Stream) → Becomes ts vs us ws → us' ≡ us → ws' ≡ ws → Becomes ts vs us' ws'
+becomes-moved ts us us' vs ws ws' step is are = rw (is, are) step
+
+pub becomes-goal : (g h : Goal) (env : List Tm) (st : facts.Store) (ts us us' : List machine.Task) (vs ws ws' : List model.Stream) → g ≡ h →
+    Becomes (machine.Task.run_at h env st ∷ ts) vs us ws → us' ≡ us → ws' ≡ ws → Becomes (machine.Task.run_at g env st ∷ ts) vs us' ws'
+becomes-goal g h env st ts us us' vs ws ws' same step is are = rw (same, is, are) step
+
+-- each goal takes a task
+pub count-some : (g : Goal) (env : List Tm) (st : facts.Store) → 0 < count g env st
+count-some (Goal.prim p) env st = omega arith
+count-some Goal.succeed env st = omega arith
+count-some Goal.fail env st = omega arith
+count-some (Goal.both g h) env st = omega arith
+count-some (Goal.either g h) env st = omega arith
+count-some (Goal.fresh k g) env st = omega arith
+count-some (Goal.call r args) env st = omega arith
+
+-- a goal's stream on top
+pub becomes-given : (g : Goal) (env : List Tm) (st : facts.Store) (ts us : List machine.Task) (vs ws ws' : List model.Stream) (s : model.Stream) →
+    us ≡ ts → s ≡ run g env st → ws ≡ vs → ws' ≡ s ∷ ws → Becomes (machine.Task.run_at g env st ∷ ts) vs us ws'
+becomes-given g env st ts us vs ws ws' s is made same grown =
+    becomes-moved _ _ _ _ _ _ (becomes-stream g env st ts vs (count-some g env st)) is (grown ∙ ap₂ (λ x xs. x ∷ xs) made same)
+
+-- what follows where a call gave a value
+pub on-ok : {T E : Type 0} (r : Result T E) (P Q : Type 0) → (P → Q) → OnOk r P → OnOk r Q
+on-ok (Ok x) P Q f h = f h
+on-ok (Err e) P Q f h = h
+
+-- the two streams on top appended
+pub becomes-top : (ts : List machine.Task) (vs ws : List model.Stream) (s t made : model.Stream) (rest : List model.Stream) →
+    vs ≡ s ∷ t ∷ rest → ws ≡ made ∷ rest → made ≡ model.append s t → Becomes (machine.Task.append_two ∷ ts) vs ts ws
+becomes-top ts vs ws s t made rest old new is = rw (old, new, is) (becomes-appended s t ts rest)
+
+pub heads-going : (hs : List facts.Store) (o : Option model.Thunk) → model.heads (going_on hs o) ≡ hs
+heads-going hs None = refl
+heads-going hs (Some t) = refl
+
+-- a goal bound to the stream on top
+pub becomes-bound-top : (g : Goal) (env : List Tm) (ts us : List machine.Task) (vs ws rest : List model.Stream) (s made : model.Stream) (hs : List facts.Store) →
+    vs ≡ s ∷ rest → us ≡ machine.run_each g env hs ts → model.heads s ≡ hs → ws ≡ made ∷ rest → made ≡ machine.bound_last g env s → Becomes (machine.Task.bind_to g env ∷ ts) vs us ws
+becomes-bound-top g env ts us vs ws rest s made hs old new has grown is =
+    let step : Becomes (machine.Task.bind_to g env ∷ ts) (s ∷ rest) (machine.run_each g env hs ts) (machine.bound_last g env s ∷ rest) =
+      subst (λ h. Becomes (machine.Task.bind_to g env ∷ ts) (s ∷ rest) (machine.run_each g env h ts) (machine.bound_last g env s ∷ rest)) has (becomes-bound g env s ts rest) in
+    rw (old, new, grown, is) step
+
+-- a step of the loop
+pub record StillFine (ts : List machine.Task) (vs : List model.Stream) (us : List machine.Task) (ws : List model.Stream) : Type 0 where
+  pub same : done us ws ≡ done ts vs
+  pub ready : machine.AreReady us ws
+
+pub first-ready : (ts us : List machine.Task) (t : machine.Task) (vs : List model.Stream) → ts ≡ t ∷ us → machine.AreReady ts vs → machine.AreReady (t ∷ us) vs
+first-ready ts us t vs is ready = subst (λ xs. machine.AreReady xs vs) is ready
+
+pub step-done : (ts us ws : List machine.Task) (t : machine.Task) (vs xs : List model.Stream) (whole : List model.Stream) → ts ≡ t ∷ us → Becomes (t ∷ us) vs ws xs → done ts vs ≡ whole → done ws xs ≡ whole
+step-done ts us ws t vs xs whole is step kept = step.same ∙ ap (λ ys. done ys vs) (sym is) ∙ kept
+
+pub step-fewer : (ts us ws : List machine.Task) (t : machine.Task) (vs xs : List model.Stream) → ts ≡ t ∷ us → Becomes (t ∷ us) vs ws xs → machine.AreReady ts vs → machine.left ws xs < machine.left ts vs
+step-fewer ts us ws t vs xs is step ready = rw is (step.fewer (first-ready ts us t vs is ready))
+
+-- the top of the stack when no task is left
+pub top-is : (ts : List machine.Task) (vs rest whole : List model.Stream) (s : model.Stream) → ts ≡ [] → done ts vs ≡ whole → vs ≡ s ∷ rest → (v : model.Stream) (more : List model.Stream) → whole ≡ v ∷ more → s ≡ v
+top-is ts vs rest whole s none kept top v more is =
+    let same : s ∷ rest ≡ v ∷ more = sym top ∙ ap (λ xs. done xs vs) (sym none) ∙ kept ∙ is in cc

@@ -1,0 +1,4 @@
+pub mod Standing
+pub mod Machine
+pub mod Tasks
+pub mod Naming

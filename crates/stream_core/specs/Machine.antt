@@ -1,0 +1,83 @@
+-- What is left to be done while goals are run: tasks on a stack, and the streams that earlier tasks left for them.
+use Rattle.std.specs.Prelude.{◌≡◌, ℕ, suc, ◌+◌, ◌≤◌, ◌<◌, ◌^◌, true, List, [], ◌∷◌, length}
+use Rattle.std.specs.List.{list_all}
+use Rattle.kan_terms.specs.Tree.{Tm}
+use Rattle.kan_model.specs.Goals.{Goal}
+use Rattle.kan_model.specs.Stores.{Store, with_fresh}
+use Rattle.kan_model.specs.Streams.{Stream, Thunk, heads, append, bind_all, empty}
+use Rattle.kan_model.specs.Running.{run, variables}
+use Rattle.kan_model.specs.Scope.{width, all_below}
+use Rattle.std.specs.Prelude.{◌++◌}
+
+-- to run a goal at a store, to append the two streams on top, or to bind a goal to the one on top
+pub data Task : Type 0 where
+  run_at : Goal → List Tm → Store → Task
+  append_two : Task
+  bind_to : Goal → List Tm → Task
+
+-- the streams that are there when all tasks are done, the last one first
+abbrev pub done : List Task → List Stream → List Stream
+done [] vs = vs
+done (Task.run_at g env st ∷ ts) vs = done ts (run g env st ∷ vs)
+done (Task.append_two ∷ ts) (s ∷ t ∷ vs) = done ts (append s t ∷ vs)
+done (Task.append_two ∷ ts) vs = vs
+done (Task.bind_to g env ∷ ts) (s ∷ vs) = done ts (bind_all (run g env) g env s ∷ vs)
+done (Task.bind_to g env ∷ ts) [] = []
+
+-- a fact of each element
+abbrev pub Each : {X : Type 0} → (X → Type 0) → List X → Type 0
+Each P [] = Unit {0}
+Each P (x ∷ xs) = P x × Each P xs
+
+-- the variables are there, and enough numbers are left for those that the goal takes
+abbrev pub HasRoom : Goal → List Tm → Store → Type 0
+HasRoom g env st = (list_all (all_below st.counter) env ≡ true) × (st.counter + width g ≤ 2 ^ 63)
+
+-- each task finds its streams, and room
+abbrev pub AreReady : List Task → List Stream → Type 0
+AreReady [] vs = Unit {0}
+AreReady (Task.run_at g env st ∷ ts) vs = HasRoom g env st × AreReady ts (run g env st ∷ vs)
+AreReady (Task.append_two ∷ ts) (s ∷ t ∷ vs) = AreReady ts (append s t ∷ vs)
+AreReady (Task.append_two ∷ ts) vs = ⊥
+AreReady (Task.bind_to g env ∷ ts) (s ∷ vs) = Each (HasRoom g env) (heads s) × AreReady ts (bind_all (run g env) g env s ∷ vs)
+AreReady (Task.bind_to g env ∷ ts) [] = ⊥
+
+-- the sum of a number for each store
+abbrev pub for_each : (Store → ℕ) → List Store → ℕ
+for_each f [] = 0
+for_each f (st ∷ sts) = for_each f sts + (f st + 1)
+
+-- how many tasks it takes to run a goal
+abbrev pub count : Goal → List Tm → Store → ℕ
+count (Goal.prim p) env st = 1
+count Goal.succeed env st = 1
+count Goal.fail env st = 1
+count (Goal.both g h) env st = count g env st + (for_each (count h env) (heads (run g env st)) + 1) + 1
+count (Goal.either g h) env st = count h env st + (count g env st + 1) + 1
+count (Goal.fresh k g) env st = count g (env ++ variables st.counter k) (with_fresh st k) + 1
+count (Goal.call r args) env st = 1
+
+-- how many tasks it takes until all are done
+abbrev pub left : List Task → List Stream → ℕ
+left [] vs = 0
+left (Task.run_at g env st ∷ ts) vs = count g env st + left ts (run g env st ∷ vs)
+left (Task.append_two ∷ ts) (s ∷ t ∷ vs) = left ts (append s t ∷ vs) + 1
+left (Task.append_two ∷ ts) vs = 0
+left (Task.bind_to g env ∷ ts) (s ∷ vs) = for_each (count g env) (heads s) + left ts (bind_all (run g env) g env s ∷ vs) + 1
+left (Task.bind_to g env ∷ ts) [] = 0
+
+-- tasks and streams that come from others by one task: the same is there in the end, all tasks are ready, and fewer are left
+pub record Becomes (ts : List Task) (vs : List Stream) (us : List Task) (ws : List Stream) : Type 0 where
+  pub same : done us ws ≡ done ts vs
+  pub ready : AreReady ts vs → AreReady us ws
+  pub fewer : AreReady ts vs → left us ws < left ts vs
+
+-- a goal at each store, the last one first, each followed by an appending
+abbrev pub run_each : Goal → List Tm → List Store → List Task → List Task
+run_each g env [] ts = ts
+run_each g env (st ∷ sts) ts = run_each g env sts (Task.run_at g env st ∷ Task.append_two ∷ ts)
+
+-- what waits behind the stores of a stream that a goal is bound to
+abbrev pub bound_last : Goal → List Tm → Stream → Stream
+bound_last g env (Stream.ends hs) = empty
+bound_last g env (Stream.goes_on hs i) = Stream.goes_on [] (Thunk.bind g env i)

@@ -1,0 +1,23 @@
+-- Arguments without pairs: what naming the first ones leaves for the others.
+use Rattle.std.specs.Prelude.{◌≡◌, ℕ, ◌+◌, ◌≤◌, true, List, [], ◌∷◌, ◌++◌}
+use Rattle.std.specs.List.{list_all}
+use Rattle.kan_terms.specs.Tree.{Tm}
+use Rattle.kan_model.specs.Stores.{Store}
+use Rattle.kan_model.specs.Running.{Arguments, named, and_value}
+use Rattle.kan_model.specs.Flat.{is_flat}
+
+-- an argument's value and the store after it: whatever follows, naming goes on from there
+pub record NamesOne (before : Store) (argument value : Tm) (after : Store) : Type 0 where
+  pub goes_on : (rest : List Tm) → named before (argument ∷ rest) ≡ and_value value (named after rest)
+  pub flat : is_flat value ≡ true
+  pub above : before.counter ≤ after.counter
+  pub within : after.counter ≤ before.counter + 1
+
+-- values in front of those of the others
+abbrev pub in_front : List Tm → Arguments → Arguments
+in_front values rest = record { values = values ++ rest.values; store = rest.store }
+
+-- the values of the first arguments and the store after them
+pub record NamesFirst (before : Store) (arguments values : List Tm) (after : Store) : Type 0 where
+  pub goes_on : (rest : List Tm) → named before (arguments ++ rest) ≡ in_front values (named after rest)
+  pub flat : list_all is_flat values ≡ true

@@ -1,0 +1,68 @@
+//! Appending streams.
+
+ghost use Rattle.std.specs.Prelude.{◌≡◌, ◌++◌, ◌∷◌, [], map, reverse, IfOk, OnOk};
+ghost use Rattle.kan_model.specs.Streams as model;
+ghost use Rattle.stream_core.specs.Standing as standing;
+
+use crate::nodes::Nodes;
+use crate::streams::{Stores, Stream, Thunk};
+use kan_model::Store;
+use kan_terms::{ListOf, Memory};
+use std::alloc::Global;
+
+// Adds a store at the end of a list.
+pub(crate) fn put_last<St: Drop>(stores: &mut Stores<St>, store: St) -> Result<(), Memory>
+    ensures { OnOk result (stores.new ≡ stores.old ++ store ∷ []) }
+{
+    match stores.push(store) {
+        Ok(()) => Ok(()),
+        Err(_) => Err(Memory),
+    }
+}
+
+// The stores of a list, the last one first.
+pub(crate) fn reversed<St: Drop>(alloc: Global, mut stores: Stores<St>) -> Result<Stores<St>, Memory>
+    ensures { IfOk result (λ turned. turned ≡ reverse stores) }
+{
+    let mut turned = ListOf::new(alloc);
+    while let Some(store) = stores.pop() {
+        put_last(&mut turned, store)?;
+    }
+    Ok(turned)
+}
+
+// The stores of two lists, one after the other.
+fn joined<St: Drop>(alloc: Global, mut left: Stores<St>, right: Stores<St>) -> Result<Stores<St>, Memory>
+    ensures { IfOk result (λ joined. joined ≡ left ++ right) }
+{
+    let mut waiting = reversed(alloc, right)?;
+    while let Some(store) = waiting.pop() {
+        put_last(&mut left, store)?;
+    }
+    Ok(left)
+}
+
+/// The stream of the left one's stores, which goes on as the right one, or with a suspension before which the right one
+/// waits.
+pub fn append<N: Nodes<St>, St: Store>(alloc: Global, left: Stream<N::Id, St>, right: Stream<N::Id, St>, nodes: &mut N) -> Result<Stream<N::Id, St>, Memory>
+    requires left { standing.StreamBelongs (N.belongs nodes.old) left }
+    requires right { standing.StreamBelongs (N.belongs nodes.old) right }
+    ensures made { IfOk result (λ made. standing.stream (N.tree nodes.new) St.meaning made ≡ model.append (standing.stream (N.tree nodes.old) St.meaning left) (standing.stream (N.tree nodes.old) St.meaning right)) }
+    ensures belong { IfOk result (λ made. standing.StreamBelongs (N.belongs nodes.new) made) }
+    ensures older { standing.Grows (N.belongs nodes.old) (N.tree nodes.old) (N.belongs nodes.new) (N.tree nodes.new) }
+    ensures same { N.goal nodes.new ≡ N.goal nodes.old }
+{
+    let Stream { heads, tail } = left;
+    match tail {
+        None => {
+            let Stream { heads: more, tail } = right;
+            let heads = joined(alloc, heads, more)?;
+            Ok(Stream { heads, tail })
+        }
+        Some(inner) => {
+            let Stream { heads: waiting, tail } = right;
+            let tail = nodes.suspend(Thunk::Swap { heads: waiting, tail, inner })?;
+            Ok(Stream { heads, tail: Some(tail) })
+        }
+    }
+}
