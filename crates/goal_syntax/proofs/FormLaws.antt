@@ -1,11 +1,15 @@
 -- The relations before a top form, and the faults of the forms that are left.
-use Rattle.std.proofs.Common.{◌≡◌, ℕ, suc, ◌+◌, ◌<◌, ◌≤◌, List, [], ◌∷◌, ◌++◌, map, take, drop, length, get_or, refl, sym, ◌∙◌, ap, append_assoc, arith, length-append, drop-cons, add-one}
+use Rattle.std.proofs.Common.{◌≡◌, ℕ, suc, ◌+◌, ◌<◌, ◌≤◌, List, [], ◌∷◌, ◌++◌, map, take, drop, length, get_or, refl, sym, ◌∙◌, ap, append_assoc, arith, length-append, drop-cons, Option, Some, None, Bool, true, false}
+use Rattle.std.specs.Prelude.{if◌then◌else◌}
 use Rattle.std.proofs.Math.Seq.{take-append_seam, take-append-add}
-use Rattle.std.proofs.lemmas.List.{length-take-le}
+use Rattle.std.proofs.lemmas.List.{length-take-le, length-map}
+use Rattle.goal_syntax.specs.Related.{related, related_one}
+use Rattle.goal_syntax.specs.declared.relations.Defined.{Defined as Row}
 use Rattle.kan_model.specs.Text.{Table}
-use Rattle.kan_model.specs.Sited.{Sited}
+use Rattle.kan_model.specs.Sited.{Sited, elements}
 use Rattle.kan_model.specs.Faults.{Fault}
-use Rattle.kan_model.specs.TopForms.{Defined, form, defined, defined_by}
+use Rattle.kan_model.specs.TopForms.{Defined, form, defined, defined_by, defined_by_head}
+use Rattle.kan_model.specs.Language.{Word, word, head_word, is_other}
 use Rattle.kan_model.specs.TextFaults.{form_faults, forms_faults}
 use Rattle.goal_syntax.specs.Parts.{site_at}
 
@@ -57,3 +61,51 @@ faults_step t ds rs forms i b k noted more whole here within later count judged 
     ap (λ l. l ++ forms_faults t rs (take (b + k) rs) others) judged ∙ append_assoc noted ours (forms_faults t rs (take (b + k) rs) others)
     ∙ ap (λ l. noted ++ (ours ++ forms_faults t rs l others)) (before_step t ds rs forms i b k here within later count)
     ∙ sym (ap (λ l. noted ++ forms_faults t rs (take b rs) (map (site_at ds) l)) (next_place forms i here)) ∙ kept
+
+-- a top form defines one relation at most
+head_at_most_one : (t : Table) (parts : Option (List Sited)) → length (defined_by_head t parts) ≤ 1
+head_at_most_one t None = omega arith
+head_at_most_one t (Some []) = omega arith
+head_at_most_one t (Some (Sited.name at s ∷ params)) = by_test (is_other (word t s))
+  where
+  by_test : (b : Bool) → length {A = Defined} (if b then record { name = s; params = length params } ∷ [] else []) ≤ 1
+  by_test true = omega arith
+  by_test false = omega arith
+head_at_most_one t (Some (Sited.num at n ∷ params)) = omega arith
+head_at_most_one t (Some (Sited.bool at b ∷ params)) = omega arith
+head_at_most_one t (Some (Sited.nil at ∷ params)) = omega arith
+head_at_most_one t (Some (Sited.pair at a d ∷ params)) = omega arith
+
+at_most_one : (t : Table) (d : Sited) → length (defined_by t d) ≤ 1
+at_most_one t (Sited.name at s) = omega arith
+at_most_one t (Sited.num at n) = omega arith
+at_most_one t (Sited.bool at b) = omega arith
+at_most_one t (Sited.nil at) = omega arith
+at_most_one t (Sited.pair at h (Sited.name end s)) = omega arith
+at_most_one t (Sited.pair at h (Sited.num end n)) = omega arith
+at_most_one t (Sited.pair at h (Sited.bool end b)) = omega arith
+at_most_one t (Sited.pair at h (Sited.nil end)) = omega arith
+at_most_one t (Sited.pair at h (Sited.pair later hd parts)) = by_word (head_word t h)
+  where
+  by_word : (w : Word) → length (elim w as (λ x. List Defined) [ Word.defrel ↦ defined_by_head t (elements hd) | _ ↦ [] ]) ≤ 1
+  by_word Word.defrel = head_at_most_one t (elements hd)
+  by_word w = omega arith
+
+-- there are no more relations than forms
+pub few_defined : (t : Table) (ds : List Sited) → length (defined t ds) ≤ length ds
+few_defined t [] = omega arith
+few_defined t (d ∷ ds) =
+    let all : length (defined t (d ∷ ds)) ≡ length (defined_by t d) + length (defined t ds) = length-append (defined_by t d) (defined t ds) in
+    let one = at_most_one t d in
+    let others = few_defined t ds in
+    omega arith
+
+-- rows to which the relations of forms were added
+pub few_rows : (t : Table) (ds : List Sited) (forms : List ℕ) (old new : List Row) → related new ≡ related old ++ defined t (map (site_at ds) forms) → length new ≤ length old + length forms
+few_rows t ds forms old new added =
+    let few = few_defined t (map (site_at ds) forms) in
+    let forms_size : length (map (site_at ds) forms) ≡ length forms = simp length-map in
+    let new_size : length (related new) ≡ length new = simp length-map in
+    let old_size : length (related old) ≡ length old = simp length-map in
+    let all : length (related new) ≡ length (related old) + length (defined t (map (site_at ds) forms)) = ap length added ∙ length-append (related old) (defined t (map (site_at ds) forms)) in
+    omega arith

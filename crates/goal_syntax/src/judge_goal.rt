@@ -26,6 +26,7 @@ use kan_terms::{Memory, Names};
 use std::alloc::Global;
 
 /// What a text is judged by: its data, the table of names, and the relations that are defined.
+#[derive(Drop)]
 pub(crate) struct Text<'a> {
     pub(crate) alloc: Global,
     pub(crate) nodes: &'a Nodes,

@@ -1,8 +1,8 @@
 //! The faults of texts, and the one that comes first.
 
-ghost use Rattle.std.specs.Prelude.{◌≡◌, ◌<◌, ◌≤◌, ◌^◌, ◌++◌, length, take, map, IfOk, OnOk, option_map};
+ghost use Rattle.std.specs.Prelude.{◌≡◌, ◌<◌, ◌≤◌, ◌+◌, ◌^◌, ◌++◌, length, take, map, IfOk, OnOk, option_map};
 ghost use Rattle.kan_model.specs.TopForms.{defined, defined_by as defined_by_form};
-ghost use Rattle.kan_model.specs.TextFaults.{is_before, first_of, least, forms_faults};
+ghost use Rattle.kan_model.specs.TextFaults.{is_before, first_of, least, forms_faults, faults_of};
 ghost use Rattle.goal_syntax.specs.FaultLists.{fault_of, fault_list};
 ghost use Rattle.goal_syntax.specs.Parts.{sites, site_at};
 ghost use Rattle.goal_syntax.specs.Related.{related};
@@ -13,8 +13,9 @@ use crate::form::{defined_by, open};
 use crate::judge_form::judge_form;
 use crate::judge_goal::Text;
 use crate::node::Nodes;
-use crate::relations::Defined;
+use crate::relations::{Defined, Relations};
 use kan_terms::{Memory, Names};
+use std::alloc::Global;
 
 // Whether a fault comes before another: by its offset, and at one offset by its number.
 fn is_before(fault: Fault, other: Fault) -> bool
@@ -81,4 +82,27 @@ pub(crate) fn judge_forms(text: &Text, mut before: u32, forms: &[u32], faults: &
         before += count_defined(text.nodes, text.names, *place);
     }
     Ok(())
+}
+
+/// The fault of a text behind a library that comes first, where it has one.
+#[tactic(auto, unfolding(kan_model::specs::TextFaults::faults_of))]
+pub(crate) fn first_fault(alloc: Global, nodes: &Nodes, names: &Names, library: &[u32], text: &[u32]) -> Result<Option<Fault>, Memory>
+    requires { length library.now + length text.now < 2 ^ 32 }
+    ensures { IfOk result (λ fault. option_map fault_of fault ≡ least (faults_of names.now
+        (map (site_at (sites nodes.now)) library.now) (map (site_at (sites nodes.now)) text.now))) }
+{
+    let mut rows = Vec::new(alloc);
+    define_all(nodes, names, library, &mut rows)?;
+    let before = rows.len() as u32;
+    define_all(nodes, names, text, &mut rows)?;
+    let relations = Relations::of(alloc, rows)?;
+    let judged = Text {
+        alloc,
+        nodes,
+        names,
+        relations: &relations,
+    };
+    let mut faults = Vec::new(alloc);
+    judge_forms(&judged, before, text, &mut faults)?;
+    Ok(least(faults))
 }
