@@ -1,5 +1,5 @@
 -- The first of faults, taken from the last on.
-use Rattle.std.proofs.Common.{◌≡◌, List, [], ◌∷◌, ◌++◌, map, refl, sym, ◌∙◌, ap, Option, Some, None}
+use Rattle.std.proofs.Common.{◌≡◌, List, [], ◌∷◌, ◌++◌, refl, sym, ◌∙◌, ap, Option, Some, None}
 use Rattle.std.proofs.lemmas.List.{map-append}
 use Rattle.kan_model.specs.Faults as faults
 use Rattle.kan_model.specs.TextFaults.{first_of, least}

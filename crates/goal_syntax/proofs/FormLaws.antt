@@ -1,9 +1,9 @@
 -- The relations before a top form, and the faults of the forms that are left.
-use Rattle.std.proofs.Common.{◌≡◌, ℕ, suc, ◌+◌, ◌<◌, ◌≤◌, List, [], ◌∷◌, ◌++◌, map, take, drop, length, get_or, refl, sym, ◌∙◌, ap, append_assoc, arith, length-append, drop-cons, Option, Some, None, Bool, true, false}
+use Rattle.std.proofs.Common.{◌≡◌, ℕ, suc, ◌+◌, ◌<◌, ◌≤◌, List, [], ◌∷◌, ◌++◌, map, take, drop, length, get_or, sym, ◌∙◌, ap, append_assoc, arith, length-append, drop-cons, Option, Some, None, Bool, true, false}
 use Rattle.std.specs.Prelude.{if◌then◌else◌}
 use Rattle.std.proofs.Math.Seq.{take-append_seam, take-append-add}
 use Rattle.std.proofs.lemmas.List.{length-take-le, length-map}
-use Rattle.goal_syntax.specs.Related.{related, related_one}
+use Rattle.goal_syntax.specs.Related.{related}
 use Rattle.goal_syntax.specs.declared.relations.Defined.{Defined as Row}
 use Rattle.kan_model.specs.Text.{Table}
 use Rattle.kan_model.specs.Sited.{Sited, elements}
@@ -68,9 +68,9 @@ head_at_most_one t None = omega arith
 head_at_most_one t (Some []) = omega arith
 head_at_most_one t (Some (Sited.name at s ∷ params)) = by_test (is_other (word t s))
   where
-  by_test : (b : Bool) → length {A = Defined} (if b then record { name = s; params = length params } ∷ [] else []) ≤ 1
-  by_test true = omega arith
-  by_test false = omega arith
+    by_test : (b : Bool) → length {A = Defined} (if b then record { name = s; params = length params } ∷ [] else []) ≤ 1
+    by_test true = omega arith
+    by_test false = omega arith
 head_at_most_one t (Some (Sited.num at n ∷ params)) = omega arith
 head_at_most_one t (Some (Sited.bool at b ∷ params)) = omega arith
 head_at_most_one t (Some (Sited.nil at ∷ params)) = omega arith
@@ -87,9 +87,9 @@ at_most_one t (Sited.pair at h (Sited.bool end b)) = omega arith
 at_most_one t (Sited.pair at h (Sited.nil end)) = omega arith
 at_most_one t (Sited.pair at h (Sited.pair later hd parts)) = by_word (head_word t h)
   where
-  by_word : (w : Word) → length (elim w as (λ x. List Defined) [ Word.defrel ↦ defined_by_head t (elements hd) | _ ↦ [] ]) ≤ 1
-  by_word Word.defrel = head_at_most_one t (elements hd)
-  by_word w = omega arith
+    by_word : (w : Word) → length (elim w as (λ x. List Defined) [ Word.defrel ↦ defined_by_head t (elements hd) | _ ↦ [] ]) ≤ 1
+    by_word Word.defrel = head_at_most_one t (elements hd)
+    by_word w = omega arith
 
 -- there are no more relations than forms
 pub few_defined : (t : Table) (ds : List Sited) → length (defined t ds) ≤ length ds

@@ -1,12 +1,11 @@
 -- What waits on a stack of goals.
-use Rattle.std.proofs.Common.{◌≡◌, ℕ, suc, ◌+◌, ◌<◌, ◌≤◌, List, [], ◌∷◌, ◌++◌, length, take, map, reverse, refl, sym, ◌∙◌, ap, append_assoc, append-nil, arith, Option, Some, None}
+use Rattle.std.proofs.Common.{◌≡◌, ℕ, ◌+◌, ◌<◌, List, [], ◌∷◌, ◌++◌, length, map, reverse, refl, sym, ◌∙◌, ap, append_assoc, append-nil, arith, Option, Some, None}
 use Rattle.std.specs.Prelude.{Bool, true, false}
-use Rattle.std.specs.List.{flat_map}
 use Rattle.std.proofs.Math.Seq.{take-append_seam}
 use Rattle.std.proofs.lemmas.List.{reverse-append}
 use Rattle.kan_model.specs.Text.{Table}
 use Rattle.kan_model.specs.Sited.{Sited, site, is_proper}
-use Rattle.kan_model.specs.Faults.{Fault, fault}
+use Rattle.kan_model.specs.Faults.{Fault}
 use Rattle.kan_model.specs.GoalForms.{GoalForm, none, more, all_of, misshapen, goal_form, goal_forms, clause_forms}
 use Rattle.kan_model.specs.TopForms.{Defined}
 use Rattle.kan_model.specs.Binders.{binder}
@@ -96,7 +95,7 @@ judged_goal rs t ds before ns inside noted own all old new g form opens same jud
     let after : List Fault = stack_faults rs t ds inside (reverse new) in
     let all_is : all ≡ (noted ++ mine) ++ fresh = bound ∙ ap (λ l. l ++ fresh) (judged ∙ ap (λ n. noted ++ own_faults rs t ds n g) same) in
     let inner_is : fresh ++ after ≡ inner ++ below =
-      ap (λ n. fresh ++ stack_faults rs t ds n (reverse new)) scoped ∙ ap (λ l. fresh ++ stack_faults rs t ds (inner_names t ds ns g) (reverse l)) waits ∙ inner-stack rs t ds ns g old in
+    ap (λ n. fresh ++ stack_faults rs t ds n (reverse new)) scoped ∙ ap (λ l. fresh ++ stack_faults rs t ds (inner_names t ds ns g) (reverse l)) waits ∙ inner-stack rs t ds ns g old in
     let form_is : mine ++ inner ≡ goal_faults rs ns form = goal-faults rs t ds ns g ∙ ap (goal_faults rs ns) opens in
     ap (λ l. l ++ after) all_is ∙ append_assoc (noted ++ mine) fresh after ∙ append_assoc noted mine (fresh ++ after) ∙ ap (λ l. noted ++ (mine ++ l)) inner_is
     ∙ ap (λ l. noted ++ l) (sym (append_assoc mine inner below)) ∙ ap (λ l. noted ++ (l ++ below)) form_is
@@ -116,12 +115,13 @@ parts-is (Sited.bool at b) a d e = cc
 parts-is (Sited.nil at) a d e = cc
 parts-is (Sited.pair at b c) a d e = (at, ap (λ p. Sited.pair at (left p) (right p)) (sym e))
   where
-  left : Option (Sited × Sited) → Sited
-  left None = a
-  left (Some p) = p.0
-  right : Option (Sited × Sited) → Sited
-  right None = d
-  right (Some p) = p.1
+    left : Option (Sited × Sited) → Sited
+    left None = a
+    left (Some p) = p.0
+
+    right : Option (Sited × Sited) → Sited
+    right None = d
+    right (Some p) = p.1
 
 goals-none : (t : Table) (s : Sited) → None ≡ parts s → goal_forms t s ≡ none
 goals-none t (Sited.name at s) e = refl
@@ -190,15 +190,15 @@ first_clause rs t ds ns place a d ws mid new e proper f g =
     let others : List Fault = goals_faults rs ns (clause_forms t (site_at ds d)) in
     let below : List Fault = stack_faults rs t ds ns (reverse ws) in
     let split : clause_forms t (site_at ds place) ≡ clause_forms t (Sited.pair (parts-is (site_at ds place) (site_at ds a) (site_at ds d) e).0 (site_at ds a) (site_at ds d)) =
-      ap (clause_forms t) (parts-is (site_at ds place) (site_at ds a) (site_at ds d) e).1 in
+    ap (clause_forms t) (parts-is (site_at ds place) (site_at ds a) (site_at ds d) e).1 in
     let top : reverse new ≡ waiting.Goals a ∷ waiting.Clauses d ∷ reverse ws = ap reverse g ∙ top-push mid (waiting.Goals a) ∙ ap (λ l. waiting.Goals a ∷ l) (ap reverse f ∙ top-push ws (waiting.Clauses d)) in
     ap (stack_faults rs t ds ns) top ∙ sym (append_assoc goals others below)
     ∙ ap (λ g. (goal_faults rs ns g ++ others) ++ below) (clause_is (is_proper (site_at ds a)) proper)
     ∙ sym (ap (λ gs. goals_faults rs ns gs ++ below) split)
   where
-  clause_is : (b : Bool) → true ≡ b → all_of (goal_forms t (site_at ds a)) ≡ elim b as (λ x. GoalForm) [ true ↦ all_of (goal_forms t (site_at ds a)) | false ↦ misshapen (site (site_at ds a)) ]
-  clause_is true h = refl
-  clause_is false h = cc
+    clause_is : (b : Bool) → true ≡ b → all_of (goal_forms t (site_at ds a)) ≡ elim b as (λ x. GoalForm) [ true ↦ all_of (goal_forms t (site_at ds a)) | false ↦ misshapen (site (site_at ds a)) ]
+    clause_is true h = refl
+    clause_is false h = cc
 
 pub bad_clause_parts : (ds : List Sited) (place a d : ℕ) (ws mid : List Waiting) (v : Waiting) → Some (site_at ds a, site_at ds d) ≡ parts (site_at ds place) →
     mid ≡ ws ++ v ∷ [] → waiting_parts ds v ≡ site_size (site_at ds d) → stack_parts ds mid < site_size (site_at ds place) + stack_parts ds ws

@@ -1,11 +1,10 @@
 -- Reading the parts of a table, and adding one.
-use Rattle.std.proofs.Common.{◌≡◌, ℕ, zero, suc, add-zero, ◌+◌, ◌<◌, ◌≤◌, List, [], ◌∷◌, ◌++◌, length, refl, sym, ◌∙◌, ap, ap₂, append_assoc, append-nil, length-append, arith, Option, Some, None}
-use Rattle.std.specs.Prelude.{get_or, ◌&&◌, nat_lt, Bool, true, false, if◌then◌else◌}
+use Rattle.std.proofs.Common.{◌≡◌, ℕ, zero, suc, add-zero, ◌+◌, ◌<◌, ◌≤◌, List, [], ◌∷◌, ◌++◌, length, refl, sym, ◌∙◌, ap, ap₂, append_assoc, append-nil, length-append, arith}
+use Rattle.std.specs.Prelude.{get_or, nat_lt, Bool, true, false, if◌then◌else◌}
 use Rattle.std.proofs.Math.ListN.{get_or-append}
 use Rattle.std.proofs.Math.Seq.{get_or-append_seam}
 use Rattle.std.proofs.lemmas.List.{get_or_past}
-use Rattle.std.proofs.lemmas.Grind.{common_steps}
-use Rattle.std.proofs.lemmas.Bool.{ltb-true, ltb-false, lt-ltb, and_parts, and_from}
+use Rattle.std.proofs.lemmas.Bool.{ltb-true, ltb-false, and_parts, and_from}
 use Rattle.kan_model.specs.Sited.{Sited, site}
 use Rattle.goal_syntax.specs.declared.node.Part.{Part}
 use Rattle.goal_syntax.specs.declared.node.Part.TheVariants.{Name, Number, Truth, Nil, Pair}
@@ -121,9 +120,9 @@ read_grown rows lent place node same within found grown =
 pub read_offset : (ds : List Sited) (place : ℕ) (node : Node) → site_at ds place ≡ node_site ds node → node.at ≡ site (site_at ds place)
 read_offset ds place node part = sym (ap site part ∙ offset ds node.at node.part)
   where
-  offset : (ds : List Sited) (at : ℕ) (part : Part) → site (part_site ds at part) ≡ at
-  offset ds at (Name s) = refl
-  offset ds at (Number n) = refl
-  offset ds at (Truth b) = refl
-  offset ds at Nil = refl
-  offset ds at (Pair a d) = refl
+    offset : (ds : List Sited) (at : ℕ) (part : Part) → site (part_site ds at part) ≡ at
+    offset ds at (Name s) = refl
+    offset ds at (Number n) = refl
+    offset ds at (Truth b) = refl
+    offset ds at Nil = refl
+    offset ds at (Pair a d) = refl

@@ -1,5 +1,5 @@
 -- The numbers of relations and what they take.
-use Rattle.std.proofs.Common.{◌≡◌, ℕ, zero, suc, ◌+◌, ◌<◌, ◌≤◌, List, [], ◌∷◌, ◌++◌, length, map, take, get_or, refl, sym, ◌∙◌, ap, arith, Option, Some, None}
+use Rattle.std.proofs.Common.{◌≡◌, ℕ, zero, suc, ◌+◌, ◌<◌, ◌≤◌, List, [], ◌∷◌, ◌++◌, length, take, get_or, refl, sym, ◌∙◌, ap, arith, Option, Some, None}
 use Rattle.std.proofs.lemmas.Bool.{ltb-false, le-leb, lt-leb}
 use Rattle.std.proofs.lemmas.Bool.Decides.{nat_tests}
 use Rattle.kan_model.specs.TextFaults.{is_new}
@@ -8,7 +8,7 @@ use Rattle.std.proofs.lemmas.List.{length-take-le}
 use Rattle.std.specs.Prelude.{Bool, true, false, leb, nat_lt, ◌==◌, option_map, if◌then◌else◌}
 use Rattle.kan_model.specs.TopForms as forms
 use Rattle.kan_model.specs.Resolved.{relation_number, arity, or_else}
-use Rattle.goal_syntax.specs.Related.{related, related_one}
+use Rattle.goal_syntax.specs.Related.{related}
 use Rattle.goal_syntax.specs.declared.relations.Defined.{Defined}
 
 -- a name without a number takes nothing
@@ -16,23 +16,23 @@ pub arity_none : (ds : List forms.Defined) (s : ℕ) → None ≡ relation_numbe
 arity_none [] s e = refl
 arity_none (d ∷ ds) s e = by_test (s == d.name) (relation_number ds s) (λ h. arity_none ds s h) e
   where
-  by_test : (b : Bool) (r : Option ℕ) → (None ≡ r → None ≡ arity ds s) → None ≡ (if b then Some 0 else option_map (λ n. suc n) r) → None ≡ (if b then Some d.params else arity ds s)
-  by_test true r later h = cc
-  by_test false None later h = later refl
-  by_test false (Some n) later h = cc
+    by_test : (b : Bool) (r : Option ℕ) → (None ≡ r → None ≡ arity ds s) → None ≡ (if b then Some 0 else option_map (λ n. suc n) r) → None ≡ (if b then Some d.params else arity ds s)
+    by_test true r later h = cc
+    by_test false None later h = later refl
+    by_test false (Some n) later h = cc
 
 -- the relation at a name's number takes what the name takes
 pub arity_some : (rows : List Defined) (s i : ℕ) (d : Defined) → Some i ≡ relation_number (related rows) s → (i < length rows) × (Some (get_or rows i d).params ≡ arity (related rows) s)
 arity_some [] s i d e = cc
 arity_some (row ∷ rows) s i d e = by_test (s == row.name) (relation_number (related rows) s) (λ k h. arity_some rows s k d h) i e
   where
-  by_test : (b : Bool) (r : Option ℕ) → ((k : ℕ) → Some k ≡ r → (k < length rows) × (Some (get_or rows k d).params ≡ arity (related rows) s)) → (i : ℕ) →
-    Some i ≡ (if b then Some 0 else option_map (λ n. suc n) r) → (i < length (row ∷ rows)) × (Some (get_or (row ∷ rows) i d).params ≡ (if b then Some row.params else arity (related rows) s))
-  by_test true r later zero h = (omega arith, refl)
-  by_test true r later (suc k) h = cc
-  by_test false None later i h = cc
-  by_test false (Some n) later zero h = cc
-  by_test false (Some n) later (suc k) h = let found = later k (cc) in (omega (arith, found.0), found.1)
+    by_test : (b : Bool) (r : Option ℕ) → ((k : ℕ) → Some k ≡ r → (k < length rows) × (Some (get_or rows k d).params ≡ arity (related rows) s)) → (i : ℕ) →
+        Some i ≡ (if b then Some 0 else option_map (λ n. suc n) r) → (i < length (row ∷ rows)) × (Some (get_or (row ∷ rows) i d).params ≡ (if b then Some row.params else arity (related rows) s))
+    by_test true r later zero h = (omega arith, refl)
+    by_test true r later (suc k) h = cc
+    by_test false None later i h = cc
+    by_test false (Some n) later zero h = cc
+    by_test false (Some n) later (suc k) h = let found = later k (cc) in (omega (arith, found.0), found.1)
 
 pub arity_found : (rows lent : List Defined) (s i : ℕ) (d : Defined) → Some i ≡ relation_number (related rows) s → lent ≡ rows → d ≡ get_or lent i d → Some d.params ≡ arity (related rows) s
 arity_found rows lent s i d number same found =
@@ -49,18 +49,18 @@ arity_there rows lent s i number same past =
 pub number-more : (rows : List Defined) (d : Defined) (s : ℕ) → relation_number (related (rows ++ d ∷ [])) s ≡ or_else (relation_number (related rows) s) (if s == d.name then Some (length rows) else None)
 number-more [] d s = by_test (s == d.name)
   where
-  by_test : (b : Bool) → (if b then Some 0 else option_map (λ n. suc n) None) ≡ (if b then Some 0 else None)
-  by_test true = refl
-  by_test false = refl
+    by_test : (b : Bool) → (if b then Some 0 else option_map (λ n. suc n) None) ≡ (if b then Some 0 else None)
+    by_test true = refl
+    by_test false = refl
 number-more (row ∷ rows) d s = by_test (s == row.name) (s == d.name) (relation_number (related rows) s) (relation_number (related (rows ++ d ∷ [])) s) (number-more rows d s)
   where
-  by_test : (a b : Bool) (r q : Option ℕ) → q ≡ or_else r (if b then Some (length rows) else None) →
-    (if a then Some 0 else option_map (λ n. suc n) q) ≡ or_else (if a then Some 0 else option_map (λ n. suc n) r) (if b then Some (suc (length rows)) else None)
-  by_test true b r q e = refl
-  by_test false true None q e = ap (option_map (λ n. suc n)) e
-  by_test false true (Some n) q e = ap (option_map (λ n. suc n)) e
-  by_test false false None q e = ap (option_map (λ n. suc n)) e
-  by_test false false (Some n) q e = ap (option_map (λ n. suc n)) e
+    by_test : (a b : Bool) (r q : Option ℕ) → q ≡ or_else r (if b then Some (length rows) else None) →
+        (if a then Some 0 else option_map (λ n. suc n) q) ≡ or_else (if a then Some 0 else option_map (λ n. suc n) r) (if b then Some (suc (length rows)) else None)
+    by_test true b r q e = refl
+    by_test false true None q e = ap (option_map (λ n. suc n)) e
+    by_test false true (Some n) q e = ap (option_map (λ n. suc n)) e
+    by_test false false None q e = ap (option_map (λ n. suc n)) e
+    by_test false false (Some n) q e = ap (option_map (λ n. suc n)) e
 
 -- one relation more has its number
 pub number_noted : (rows lent : List Defined) (place : ℕ) (e : Defined) (x : ℕ) → place < length rows → lent ≡ rows → (old new : ℕ → Option ℕ) →
@@ -82,11 +82,11 @@ new_none zero ds s e = refl
 new_none (suc n) [] s e = refl
 new_none (suc n) (d ∷ ds) s e = by_test (s == d.name) (relation_number ds s) (λ h. new_none n ds s h) e
   where
-  by_test : (b : Bool) (r : Option ℕ) → (None ≡ r → true ≡ is_new (arity (take n ds) s)) → None ≡ (if b then Some 0 else option_map (λ n. suc n) r) →
-    true ≡ is_new (if b then Some d.params else arity (take n ds) s)
-  by_test true r later h = cc
-  by_test false None later h = later refl
-  by_test false (Some k) later h = cc
+    by_test : (b : Bool) (r : Option ℕ) → (None ≡ r → true ≡ is_new (arity (take n ds) s)) → None ≡ (if b then Some 0 else option_map (λ n. suc n) r) →
+        true ≡ is_new (if b then Some d.params else arity (take n ds) s)
+    by_test true r later h = cc
+    by_test false None later h = later refl
+    by_test false (Some k) later h = cc
 
 leb-suc : (a b : ℕ) → leb (suc a) (suc b) ≡ leb a b
 leb-suc a b = grind (arith, nat_tests)
@@ -97,10 +97,10 @@ new_some zero ds s i e = le-leb 0 i (omega arith)
 new_some (suc n) [] s i e = cc
 new_some (suc n) (d ∷ ds) s i e = by_test (s == d.name) (relation_number ds s) (λ k h. new_some n ds s k h) i e
   where
-  by_test : (b : Bool) (r : Option ℕ) → ((k : ℕ) → Some k ≡ r → leb n k ≡ is_new (arity (take n ds) s)) → (i : ℕ) → Some i ≡ (if b then Some 0 else option_map (λ n. suc n) r) →
-    leb (suc n) i ≡ is_new (if b then Some d.params else arity (take n ds) s)
-  by_test true r later zero h = lt-leb (suc n) 0 (omega arith)
-  by_test true r later (suc k) h = cc
-  by_test false None later i h = cc
-  by_test false (Some m) later zero h = cc
-  by_test false (Some m) later (suc k) h = leb-suc n k ∙ later k (cc)
+    by_test : (b : Bool) (r : Option ℕ) → ((k : ℕ) → Some k ≡ r → leb n k ≡ is_new (arity (take n ds) s)) → (i : ℕ) → Some i ≡ (if b then Some 0 else option_map (λ n. suc n) r) →
+        leb (suc n) i ≡ is_new (if b then Some d.params else arity (take n ds) s)
+    by_test true r later zero h = lt-leb (suc n) 0 (omega arith)
+    by_test true r later (suc k) h = cc
+    by_test false None later i h = cc
+    by_test false (Some m) later zero h = cc
+    by_test false (Some m) later (suc k) h = leb-suc n k ∙ later k (cc)

@@ -1,9 +1,9 @@
 -- The slot of a name, looked for from the last slot on.
-use Rattle.std.proofs.Common.{◌≡◌, ℕ, zero, suc, ◌+◌, ◌-◌, ◌<◌, ◌≤◌, List, [], ◌∷◌, ◌++◌, length, take, get_or, refl, sym, ◌∙◌, ap, arith, Option, Some, None, length-append}
-use Rattle.std.specs.Prelude.{Bool, true, false, option_map, if◌then◌else◌}
+use Rattle.std.proofs.Common.{◌≡◌, ℕ, zero, suc, ◌-◌, ◌<◌, ◌≤◌, [], ◌∷◌, ◌++◌, length, take, get_or, refl, sym, ◌∙◌, ap, arith, Option, Some}
+use Rattle.std.specs.Prelude.{true, false}
 use Rattle.std.proofs.Math.Seq.{take-suc}
 use Rattle.std.proofs.lemmas.List.{length-take-le}
-use Rattle.kan_model.specs.Resolved.{Names, is_named, or_else, slot_of}
+use Rattle.kan_model.specs.Resolved.{Names, is_named, slot_of}
 
 found_last : (ns : Names) (n : Option ℕ) (s : ℕ) → is_named n s ≡ true → slot_of (ns ++ n ∷ []) s ≡ Some (length ns)
 found_last [] n s named = rw named refl

@@ -1,6 +1,6 @@
 -- The elements of lists, counted from the first on.
-use Rattle.std.proofs.Common.{◌≡◌, ℕ, suc, ◌+◌, ◌<◌, ◌≤◌, List, [], ◌∷◌, length, refl, sym, ◌∙◌, ap, arith, Option, Some, None}
-use Rattle.std.specs.Prelude.{Bool, true, false, option_map}
+use Rattle.std.proofs.Common.{◌≡◌, ℕ, suc, ◌+◌, List, ◌∷◌, length, refl, sym, ◌∙◌, ap, arith, Option, Some, None}
+use Rattle.std.specs.Prelude.{true, false, option_map}
 use Rattle.kan_model.specs.Sited.{Sited, elements, count}
 use Rattle.goal_syntax.specs.Shapes.{parts, is_end, only, two}
 
@@ -16,9 +16,9 @@ count-pair (Sited.bool at b) a d e = cc
 count-pair (Sited.nil at) a d e = cc
 count-pair (Sited.pair at b c) a d e = longer b (elements c) ∙ ap (λ x. option_map (λ n. suc n) (count x)) (sym (ap rest_of e))
   where
-  rest_of : Option (Sited × Sited) → Sited
-  rest_of None = d
-  rest_of (Some p) = p.1
+    rest_of : Option (Sited × Sited) → Sited
+    rest_of None = d
+    rest_of (Some p) = p.1
 
 shifted : (k : ℕ) (r : Option ℕ) → option_map (λ n. (k + 1) + n) r ≡ option_map (λ n. k + n) (option_map (λ n. suc n) r)
 shifted k None = refl
@@ -47,9 +47,9 @@ count_none k (Sited.pair at b c) whole none ends kept = cc
 pub count_start : (s : Sited) → option_map (λ n. 0 + n) (count s) ≡ count s
 count_start s = same (count s)
   where
-  same : (r : Option ℕ) → option_map (λ n. 0 + n) r ≡ r
-  same None = refl
-  same (Some n) = let e : 0 + n ≡ n = omega arith in ap (λ m. Some m) e
+    same : (r : Option ℕ) → option_map (λ n. 0 + n) r ≡ r
+    same None = refl
+    same (Some n) = let e : 0 + n ≡ n = omega arith in ap (λ m. Some m) e
 
 -- a list of one is a pair before an end
 pub only-is : (s a : Sited) → Some a ≡ only s → (at : ℕ) × (end : ℕ) × (s ≡ Sited.pair at a (Sited.nil end))
@@ -78,10 +78,11 @@ two-is (Sited.pair at b (Sited.pair later c (Sited.num end n))) a d e = cc
 two-is (Sited.pair at b (Sited.pair later c (Sited.bool end f))) a d e = cc
 two-is (Sited.pair at b (Sited.pair later c (Sited.nil end))) a d e = (at, later, end, ap (λ (p : Option (Sited × Sited)). Sited.pair at (left p) (Sited.pair later (right p) (Sited.nil end))) (sym e))
   where
-  left : Option (Sited × Sited) → Sited
-  left None = a
-  left (Some p) = p.0
-  right : Option (Sited × Sited) → Sited
-  right None = d
-  right (Some p) = p.1
+    left : Option (Sited × Sited) → Sited
+    left None = a
+    left (Some p) = p.0
+
+    right : Option (Sited × Sited) → Sited
+    right None = d
+    right (Some p) = p.1
 two-is (Sited.pair at b (Sited.pair later c (Sited.pair end f g))) a d e = cc

@@ -1,5 +1,5 @@
 -- Forms of terms with the right number of parts.
-use Rattle.std.proofs.Common.{◌≡◌, ℕ, refl, sym, ap, Option, Some}
+use Rattle.std.proofs.Common.{◌≡◌, ℕ, sym, ap, Some}
 use Rattle.kan_terms.specs.Tree.{Tree}
 use Rattle.kan_model.specs.Text.{Table}
 use Rattle.kan_model.specs.Sited.{Sited}

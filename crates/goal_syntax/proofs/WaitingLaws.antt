@@ -1,12 +1,12 @@
 -- What waits on a stack when tasks are put on it.
-use Rattle.std.proofs.Common.{◌≡◌, ℕ, suc, ◌+◌, ◌<◌, ◌≤◌, List, [], ◌∷◌, ◌++◌, refl, sym, ◌∙◌, ap, append_assoc, append-nil, arith}
+use Rattle.std.proofs.Common.{◌≡◌, ◌+◌, ◌<◌, List, [], ◌∷◌, ◌++◌, refl, sym, ◌∙◌, ap, append_assoc, append-nil, arith}
 use Rattle.std.specs.List.{flat_map}
 use Rattle.std.proofs.lemmas.Grind.{flat_map-append}
 use Rattle.kan_terms.specs.Tree.{leaves}
 use Rattle.kan_model.specs.Text.{Table}
 use Rattle.kan_model.specs.Sited.{Sited}
 use Rattle.kan_model.specs.Faults.{Fault}
-use Rattle.kan_model.specs.TermForms.{Use, TermForm}
+use Rattle.kan_model.specs.TermForms.{Use}
 use Rattle.goal_syntax.specs.TermSteps.{task_form, task_size, step_form, step_size}
 use Rattle.goal_syntax.specs.Waiting.{own_uses, task_uses, later_uses, waiting_uses, waiting_size}
 use Rattle.goal_syntax.specs.declared.term.Task.{Task}
@@ -59,8 +59,8 @@ pub judged_step : (f : Use → List Fault) (ds : List Sited) (t : Table) (noted 
     noted ++ flat_map f (waiting_uses ds t old) ≡ whole → more ++ flat_map f (waiting_uses ds t new) ≡ whole
 judged_step f ds t noted more whole s old popped new task split form judged waits kept =
     let uses : waiting_uses ds t old ≡ own_uses s ++ waiting_uses ds t new =
-      one_waits ds t popped old task split ∙ ap (λ u. leaves u ++ waiting_uses ds t popped) (sym form) ∙ ap (λ u. u ++ waiting_uses ds t popped) (sym (step-uses ds t s))
-      ∙ append_assoc (own_uses s) (later_uses ds t s) (waiting_uses ds t popped) ∙ ap (λ w. own_uses s ++ w) (sym waits) in
+    one_waits ds t popped old task split ∙ ap (λ u. leaves u ++ waiting_uses ds t popped) (sym form) ∙ ap (λ u. u ++ waiting_uses ds t popped) (sym (step-uses ds t s))
+    ∙ append_assoc (own_uses s) (later_uses ds t s) (waiting_uses ds t popped) ∙ ap (λ w. own_uses s ++ w) (sym waits) in
     ap (λ m. m ++ flat_map f (waiting_uses ds t new)) judged ∙ append_assoc noted (flat_map f (own_uses s)) (flat_map f (waiting_uses ds t new))
     ∙ ap (λ m. noted ++ m) (sym (flat_map-append f (own_uses s) (waiting_uses ds t new))) ∙ ap (λ u. noted ++ flat_map f u) (sym uses) ∙ kept
 

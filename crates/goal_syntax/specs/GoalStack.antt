@@ -4,7 +4,7 @@ use Rattle.std.specs.List.{flat_map}
 use Rattle.kan_model.specs.Text.{Table}
 use Rattle.kan_model.specs.Sited.{Sited}
 use Rattle.kan_model.specs.Faults.{Fault, fault}
-use Rattle.kan_model.specs.Binders.{Checked, binder, tag}
+use Rattle.kan_model.specs.Binders.{binder, tag}
 use Rattle.kan_model.specs.TermForms.{term_form}
 use Rattle.kan_model.specs.GoalForms.{goal_form, goal_forms, clause_forms, term_forms}
 use Rattle.kan_model.specs.TopForms.{Defined}
@@ -13,7 +13,7 @@ use Rattle.kan_model.specs.TextFaults.{term_faults, call_faults, goal_faults, go
 use Rattle.goal_syntax.specs.Parts.{site_at}
 use Rattle.goal_syntax.specs.TermSteps.{site_size}
 use Rattle.goal_syntax.specs.declared.goal.Goal as opened
-use Rattle.goal_syntax.specs.declared.goal.Goal.TheVariants.{Succeed, Fail, Same, Differ, Symbol, Number, Absent, Fresh, AllOf, OneOf, Clauses, Call, Misshapen}
+use Rattle.goal_syntax.specs.declared.goal.Goal.TheVariants.{Same, Differ, Symbol, Number, Absent, Fresh, AllOf, OneOf, Clauses, Call, Misshapen}
 use Rattle.goal_syntax.specs.declared.judge_goal.Waiting.{Waiting}
 use Rattle.goal_syntax.specs.declared.judge_goal.Waiting.TheVariants as waiting
 

@@ -4,7 +4,6 @@ use Rattle.kan_model.specs.Text.{Table}
 use Rattle.kan_model.specs.Sited.{Sited}
 use Rattle.kan_model.specs.Binders.{binder, tag}
 use Rattle.kan_model.specs.TermForms.{term_form}
-use Rattle.kan_model.specs.GoalForms as forms
 use Rattle.kan_model.specs.GoalForms.{GoalForm, goal_forms, clause_forms, term_forms}
 use Rattle.goal_syntax.specs.Parts.{site_at}
 use Rattle.goal_syntax.specs.TermSteps.{site_size}

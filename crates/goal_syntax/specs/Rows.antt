@@ -1,7 +1,7 @@
 -- Tables of parts, in which each pair names places before its own.
 use Rattle.std.specs.Prelude.{ℕ, suc, Bool, true, ◌&&◌, nat_lt, List, [], ◌∷◌}
 use Rattle.goal_syntax.specs.declared.node.Part.{Part}
-use Rattle.goal_syntax.specs.declared.node.Part.TheVariants.{Name, Number, Truth, Nil, Pair}
+use Rattle.goal_syntax.specs.declared.node.Part.TheVariants.{Pair}
 use Rattle.goal_syntax.specs.declared.node.Node.{Node}
 
 -- what a part names is there where so many parts are

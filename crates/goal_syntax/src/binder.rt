@@ -30,7 +30,13 @@ pub(crate) fn may_bind(names: &Names, before: &[u32], symbol: u32) -> bool
 }
 
 // Adds the name that a part of a binder is, and notes its fault.
-fn bind_part(nodes: &Nodes, names: &Names, place: u32, bound: &mut Vec<u32>, faults: &mut Vec<Fault>) -> Result<(), Memory>
+fn bind_part(
+    nodes: &Nodes,
+    names: &Names,
+    place: u32,
+    bound: &mut Vec<u32>,
+    faults: &mut Vec<Fault>,
+) -> Result<(), Memory>
     ensures bound { OnOk result (bound.new.items ≡ bound.old.items ++ names_of (site_at (sites nodes.now) place)) }
     ensures faults { OnOk result (fault_list faults.new.items
         ≡ fault_list faults.old.items ++ binder_faults names.now bound.old.items (site_at (sites nodes.now) place)) }
@@ -47,7 +53,13 @@ fn bind_part(nodes: &Nodes, names: &Names, place: u32, bound: &mut Vec<u32>, fau
 }
 
 /// The names in a list; their faults are noted.
-pub(crate) fn bind_parts(alloc: Global, nodes: &Nodes, names: &Names, mut place: u32, faults: &mut Vec<Fault>) -> Result<Vec<u32>, Memory>
+pub(crate) fn bind_parts(
+    alloc: Global,
+    nodes: &Nodes,
+    names: &Names,
+    mut place: u32,
+    faults: &mut Vec<Fault>,
+) -> Result<Vec<u32>, Memory>
     ensures bound { IfOk result (λ bound. bound.items ≡ bound_names (site_at (sites nodes.now) place)) }
     ensures faults { OnOk result (fault_list faults.new.items
         ≡ fault_list faults.old.items ++ names_faults names.now [] (site_at (sites nodes.now) place)) }
@@ -61,7 +73,13 @@ pub(crate) fn bind_parts(alloc: Global, nodes: &Nodes, names: &Names, mut place:
 }
 
 /// The names of a binder, which is a proper list of them; its faults are noted.
-pub(crate) fn bind(alloc: Global, nodes: &Nodes, names: &Names, place: u32, faults: &mut Vec<Fault>) -> Result<Vec<u32>, Memory>
+pub(crate) fn bind(
+    alloc: Global,
+    nodes: &Nodes,
+    names: &Names,
+    place: u32,
+    faults: &mut Vec<Fault>,
+) -> Result<Vec<u32>, Memory>
     ensures bound { IfOk result (λ bound. bound.items ≡ (binder names.now (site_at (sites nodes.now) place)).value) }
     ensures faults { OnOk result (fault_list faults.new.items
         ≡ fault_list faults.old.items ++ (binder names.now (site_at (sites nodes.now) place)).faults) }
@@ -98,7 +116,12 @@ pub(crate) fn quoted_symbol(nodes: &Nodes, names: &Names, place: u32) -> Option<
 }
 
 /// Notes the fault of a tag, which is to be a quoted symbol.
-pub(crate) fn judge_tag(nodes: &Nodes, names: &Names, place: u32, faults: &mut Vec<Fault>) -> Result<(), Memory>
+pub(crate) fn judge_tag(
+    nodes: &Nodes,
+    names: &Names,
+    place: u32,
+    faults: &mut Vec<Fault>,
+) -> Result<(), Memory>
     ensures { OnOk result (fault_list faults.new.items
         ≡ fault_list faults.old.items ++ (tag names.now (site_at (sites nodes.now) place)).faults) }
 {

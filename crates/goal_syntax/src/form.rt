@@ -69,7 +69,9 @@ fn open_run(nodes: &Nodes, names: &Names, at: u32, limit: Option<u32>, parts: u3
     ensures { step_top (sites nodes.now) names.now result ≡ run_form names.now at (limit_at (sites nodes.now) limit) (site_at (sites nodes.now) parts) }
 {
     match pair_parts(nodes, parts) {
-        Some((binder, goals)) if is_proper(nodes, goals) => open_binder(nodes, names, limit, binder, goals),
+        Some((binder, goals)) if is_proper(nodes, goals) => open_binder(
+            nodes, names, limit, binder, goals,
+        ),
         _ => Form::Misshapen(at),
     }
 }

@@ -135,7 +135,13 @@ fn bind_one(text: &Text, at: u32, symbol: u32, faults: &mut Vec<Fault>) -> Resul
 }
 
 // Notes the faults of a form's goals, where these names come behind those in scope.
-fn judge_body(text: &Text, bound: &[u32], goals: u32, mut scope: Vec<Option<u32>>, faults: &mut Vec<Fault>) -> Result<(), Memory>
+fn judge_body(
+    text: &Text,
+    bound: &[u32],
+    goals: u32,
+    mut scope: Vec<Option<u32>>,
+    faults: &mut Vec<Fault>,
+) -> Result<(), Memory>
     ensures { OnOk result (fault_list faults.new.items ≡ fault_list faults.old.items
         ++ goals_faults (relations_of text.now.relations.now) (within scope.items bound.now) (goal_forms text.now.names.now (site_at (sites text.now.nodes.now) goals))) }
 {
@@ -154,7 +160,12 @@ fn unnamed(alloc: Global) -> Result<Vec<Option<u32>>, Memory>
 }
 
 /// Notes the faults of a top form before which this many relations are defined.
-pub(crate) fn judge_form(text: &Text, before: u32, form: Form, faults: &mut Vec<Fault>) -> Result<(), Memory>
+pub(crate) fn judge_form(
+    text: &Text,
+    before: u32,
+    form: Form,
+    faults: &mut Vec<Fault>,
+) -> Result<(), Memory>
     ensures { OnOk result (fault_list faults.new.items ≡ fault_list faults.old.items
         ++ form_faults text.now.names.now (relations_of text.now.relations.now) (take before (relations_of text.now.relations.now))
         (step_top (sites text.now.nodes.now) text.now.names.now form)) }

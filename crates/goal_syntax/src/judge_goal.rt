@@ -47,19 +47,37 @@ fn count_terms(nodes: &Nodes, mut place: u32) -> u32
 }
 
 // Notes the faults of the terms in a list.
-fn judge_terms(text: &Text, scope: &[Option<u32>], mut place: u32, faults: &mut Vec<Fault>) -> Result<(), Memory>
+fn judge_terms(
+    text: &Text,
+    scope: &[Option<u32>],
+    mut place: u32,
+    faults: &mut Vec<Fault>,
+) -> Result<(), Memory>
     ensures { OnOk result (fault_list faults.new.items ≡ fault_list faults.old.items
         ++ flat_map (term_faults scope.now) (term_forms text.now.names.now (site_at (sites text.now.nodes.now) place))) }
 {
     while let Some((first, rest)) = pair_parts(text.nodes, place) {
-        judge_term(text.alloc, text.nodes, text.names, scope, Task::Term(first), faults)?;
+        judge_term(
+            text.alloc,
+            text.nodes,
+            text.names,
+            scope,
+            Task::Term(first),
+            faults,
+        )?;
         place = rest;
     }
     Ok(())
 }
 
 // Notes the fault of a call's head, where it has so many arguments.
-fn judge_head(text: &Text, at: u32, symbol: u32, count: u32, faults: &mut Vec<Fault>) -> Result<(), Memory>
+fn judge_head(
+    text: &Text,
+    at: u32,
+    symbol: u32,
+    count: u32,
+    faults: &mut Vec<Fault>,
+) -> Result<(), Memory>
     ensures { OnOk result (fault_list faults.new.items
         ≡ fault_list faults.old.items ++ call_faults (arity (relations text.now.relations.now) symbol) at count) }
 {
@@ -84,15 +102,32 @@ pub(crate) enum Waiting {
 }
 
 // Notes the faults of a term.
-fn judge_one(text: &Text, scope: &[Option<u32>], term: u32, faults: &mut Vec<Fault>) -> Result<(), Memory>
+fn judge_one(
+    text: &Text,
+    scope: &[Option<u32>],
+    term: u32,
+    faults: &mut Vec<Fault>,
+) -> Result<(), Memory>
     ensures { OnOk result (fault_list faults.new.items ≡ fault_list faults.old.items
         ++ term_faults scope.now (term_form text.now.names.now (site_at (sites text.now.nodes.now) term))) }
 {
-    judge_term(text.alloc, text.nodes, text.names, scope, Task::Term(term), faults)
+    judge_term(
+        text.alloc,
+        text.nodes,
+        text.names,
+        scope,
+        Task::Term(term),
+        faults,
+    )
 }
 
 // Notes the faults of a goal's terms, of its head and of its shape.
-fn judge_own(text: &Text, scope: &[Option<u32>], goal: Goal, faults: &mut Vec<Fault>) -> Result<(), Memory>
+fn judge_own(
+    text: &Text,
+    scope: &[Option<u32>],
+    goal: Goal,
+    faults: &mut Vec<Fault>,
+) -> Result<(), Memory>
     ensures { OnOk result (fault_list faults.new.items ≡ fault_list faults.old.items
         ++ own_faults (relations text.now.relations.now) text.now.names.now (sites text.now.nodes.now) scope.now goal) }
 {
@@ -137,7 +172,13 @@ fn enter_fresh(
 }
 
 // Puts what stands in a goal on the stack, in its scope, and notes the faults of its binder.
-fn wait_for(text: &Text, goal: Goal, scope: &mut Vec<Option<u32>>, waiting: &mut Vec<Waiting>, faults: &mut Vec<Fault>) -> Result<(), Memory>
+fn wait_for(
+    text: &Text,
+    goal: Goal,
+    scope: &mut Vec<Option<u32>>,
+    waiting: &mut Vec<Waiting>,
+    faults: &mut Vec<Fault>,
+) -> Result<(), Memory>
     ensures faults { OnOk result (fault_list faults.new.items
         ≡ fault_list faults.old.items ++ fresh_faults text.now.names.now (sites text.now.nodes.now) goal) }
     ensures scope { OnOk result (scope.new.items ≡ inner_names text.now.names.now (sites text.now.nodes.now) scope.old.items goal) }
@@ -158,7 +199,13 @@ fn wait_for(text: &Text, goal: Goal, scope: &mut Vec<Option<u32>>, waiting: &mut
 }
 
 // Notes the faults of a goal but for those of the goals in it, which are put on the stack.
-fn judge_goal(text: &Text, place: u32, scope: &mut Vec<Option<u32>>, waiting: &mut Vec<Waiting>, faults: &mut Vec<Fault>) -> Result<(), Memory>
+fn judge_goal(
+    text: &Text,
+    place: u32,
+    scope: &mut Vec<Option<u32>>,
+    waiting: &mut Vec<Waiting>,
+    faults: &mut Vec<Fault>,
+) -> Result<(), Memory>
     ensures faults { OnOk result (fault_list faults.new.items
         ++ stack_faults (relations text.now.relations.now) text.now.names.now (sites text.now.nodes.now) scope.new.items (reverse waiting.new.items)
         ≡ fault_list faults.old.items
@@ -188,7 +235,12 @@ fn wait_for_goals(text: &Text, place: u32, waiting: &mut Vec<Waiting>) -> Result
 }
 
 // Puts the first of some clauses and the others on the stack, or notes that the first is no list.
-fn wait_for_clauses(text: &Text, place: u32, waiting: &mut Vec<Waiting>, faults: &mut Vec<Fault>) -> Result<(), Memory>
+fn wait_for_clauses(
+    text: &Text,
+    place: u32,
+    waiting: &mut Vec<Waiting>,
+    faults: &mut Vec<Fault>,
+) -> Result<(), Memory>
     ensures faults { OnOk result ((slots : List (Option ℕ)) → fault_list faults.new.items
         ++ stack_faults (relations text.now.relations.now) text.now.names.now (sites text.now.nodes.now) slots (reverse waiting.new.items)
         ≡ fault_list faults.old.items
@@ -209,7 +261,13 @@ fn wait_for_clauses(text: &Text, place: u32, waiting: &mut Vec<Waiting>, faults:
 }
 
 // Notes the faults of what comes next, but for those of what stands in it, which is put on the stack.
-fn judge_next(text: &Text, next: Waiting, scope: &mut Vec<Option<u32>>, waiting: &mut Vec<Waiting>, faults: &mut Vec<Fault>) -> Result<(), Memory>
+fn judge_next(
+    text: &Text,
+    next: Waiting,
+    scope: &mut Vec<Option<u32>>,
+    waiting: &mut Vec<Waiting>,
+    faults: &mut Vec<Fault>,
+) -> Result<(), Memory>
     ensures faults { OnOk result (fault_list faults.new.items
         ++ stack_faults (relations text.now.relations.now) text.now.names.now (sites text.now.nodes.now) scope.new.items (reverse waiting.new.items)
         ≡ fault_list faults.old.items
@@ -227,7 +285,12 @@ fn judge_next(text: &Text, next: Waiting, scope: &mut Vec<Option<u32>>, waiting:
 }
 
 /// Notes the faults of the goals in a list, where these names are in scope.
-pub(crate) fn judge_goals(text: &Text, goals: u32, mut scope: Vec<Option<u32>>, faults: &mut Vec<Fault>) -> Result<(), Memory>
+pub(crate) fn judge_goals(
+    text: &Text,
+    goals: u32,
+    mut scope: Vec<Option<u32>>,
+    faults: &mut Vec<Fault>,
+) -> Result<(), Memory>
     ensures { OnOk result (fault_list faults.new.items ≡ fault_list faults.old.items
         ++ goals_faults (relations text.now.relations.now) scope.items (goal_forms text.now.names.now (site_at (sites text.now.nodes.now) goals))) }
 {

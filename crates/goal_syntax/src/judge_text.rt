@@ -46,7 +46,12 @@ pub(crate) fn least(mut faults: Vec<Fault>) -> Option<Fault>
 }
 
 /// Adds the relations that top forms define.
-pub(crate) fn define_all(nodes: &Nodes, names: &Names, forms: &[u32], rows: &mut Vec<Defined>) -> Result<(), Memory>
+pub(crate) fn define_all(
+    nodes: &Nodes,
+    names: &Names,
+    forms: &[u32],
+    rows: &mut Vec<Defined>,
+) -> Result<(), Memory>
     ensures { OnOk result (related rows.new.items ≡ related rows.old.items ++ defined names.now (map (site_at (sites nodes.now)) forms.now)) }
 {
     for place in forms {
@@ -68,7 +73,12 @@ fn count_defined(nodes: &Nodes, names: &Names, place: u32) -> u32
 }
 
 /// Notes the faults of top forms, before which this many relations are defined.
-pub(crate) fn judge_forms(text: &Text, mut before: u32, forms: &[u32], faults: &mut Vec<Fault>) -> Result<(), Memory>
+pub(crate) fn judge_forms(
+    text: &Text,
+    mut before: u32,
+    forms: &[u32],
+    faults: &mut Vec<Fault>,
+) -> Result<(), Memory>
     requires few { length (relations text.now.relations.now) < 2 ^ 32 }
     requires before { before ≤ length (relations text.now.relations.now) }
     requires later { relations text.now.relations.now ≡ take before (relations text.now.relations.now)
@@ -86,7 +96,13 @@ pub(crate) fn judge_forms(text: &Text, mut before: u32, forms: &[u32], faults: &
 
 /// The fault of a text behind a library that comes first, where it has one.
 #[tactic(auto, unfolding(kan_model::specs::TextFaults::faults_of))]
-pub(crate) fn first_fault(alloc: Global, nodes: &Nodes, names: &Names, library: &[u32], text: &[u32]) -> Result<Option<Fault>, Memory>
+pub(crate) fn first_fault(
+    alloc: Global,
+    nodes: &Nodes,
+    names: &Names,
+    library: &[u32],
+    text: &[u32],
+) -> Result<Option<Fault>, Memory>
     requires { length library.now + length text.now < 2 ^ 32 }
     ensures { IfOk result (λ fault. option_map fault_of fault ≡ least (faults_of names.now
         (map (site_at (sites nodes.now)) library.now) (map (site_at (sites nodes.now)) text.now))) }

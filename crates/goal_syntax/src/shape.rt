@@ -34,7 +34,11 @@ pub(crate) fn only_part(nodes: &Nodes, place: u32) -> Option<u32>
     ensures { option_map (site_at (sites nodes.now)) result ≡ only (site_at (sites nodes.now) place) }
 {
     let (first, rest) = pair_parts(nodes, place)?;
-    if is_end(nodes, rest) { Some(first) } else { None }
+    if is_end(nodes, rest) {
+        Some(first)
+    } else {
+        None
+    }
 }
 
 /// The places of the two elements of a list, where it has just two.

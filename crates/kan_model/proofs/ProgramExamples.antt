@@ -135,16 +135,18 @@ limits = refl
 
 -- a relation may be used before its definition
 used_before : meaning (codes "(run* q (foo q)) (defrel (two a b) (== a b)) (defrel (foo x) (two x x) (foo x))") ≡ record {
-    relations = record { params = 2; body = equal (Tree.leaf 0) (Tree.leaf 1) } ∷ record { params = 1; body = Goal.both (Goal.call 0 (Tree.leaf 0 ∷ Tree.leaf 0 ∷ [])) (Goal.call 1 (Tree.leaf 0 ∷ [])) } ∷ [];
-    queries = record { goal = Goal.call 1 (q ∷ []); limit = None } ∷ [] }
+  relations = record { params = 2; body = equal (Tree.leaf 0) (Tree.leaf 1) } ∷ record { params = 1; body = Goal.both (Goal.call 0 (Tree.leaf 0 ∷ Tree.leaf 0 ∷ [])) (Goal.call 1 (Tree.leaf 0 ∷ [])) } ∷ [];
+  queries = record { goal = Goal.call 1 (q ∷ []); limit = None } ∷ [];
+}
 unfolding meaning
 used_before = refl
 
 -- a family: its facts, a rule, and a run
 family : meaning (codes "(defrel (foo x y) (conde ((== x 'a) (== y 'b)) ((== x 'b) (== y 'c))))\n(defrel (two x z) (fresh (y) (foo x y) (foo y z)))\n(run 1 q (two 'a q))") ≡ record {
-    relations = record { params = 2; body = Goal.either (Goal.both (equal (Tree.leaf 0) a) (equal (Tree.leaf 1) b)) (Goal.both (equal (Tree.leaf 0) b) (equal (Tree.leaf 1) c)) }
+  relations = record { params = 2; body = Goal.either (Goal.both (equal (Tree.leaf 0) a) (equal (Tree.leaf 1) b)) (Goal.both (equal (Tree.leaf 0) b) (equal (Tree.leaf 1) c)) }
       ∷ record { params = 2; body = Goal.fresh 1 (Goal.both (Goal.call 0 (Tree.leaf 0 ∷ Tree.leaf 2 ∷ [])) (Goal.call 0 (Tree.leaf 2 ∷ Tree.leaf 1 ∷ []))) } ∷ [];
-    queries = record { goal = Goal.call 1 (a ∷ q ∷ []); limit = Some 1 } ∷ [] }
+  queries = record { goal = Goal.call 1 (a ∷ q ∷ []); limit = Some 1 } ∷ [];
+}
 unfolding meaning
 family = refl
 

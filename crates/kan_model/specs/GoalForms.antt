@@ -82,9 +82,9 @@ abbrev mutual
   pub goal_form : Table → Sited → GoalForm
   goal_form t (Sited.name at s) = atom_goal (word t s) at
   goal_form t (Sited.pair at (Sited.name head s) parts) = elim (is_count (parts_of (word t s)) (count parts)) [
-    false ↦ misshapen at
+    | false ↦ misshapen at
     | true ↦ elim (word t s) [
-      Word.same ↦ same (term_one t parts) (term_two t parts)
+      | Word.same ↦ same (term_one t parts) (term_two t parts)
       | Word.differ ↦ differ (term_one t parts) (term_two t parts)
       | Word.symbolo ↦ symbol (term_one t parts)
       | Word.numbero ↦ number (term_one t parts)
@@ -96,7 +96,9 @@ abbrev mutual
       | Word.conj_two ↦ all_of (goal_forms t parts)
       | Word.disj_two ↦ one_of (goal_forms t parts)
       | Word.other ↦ call head s (term_forms t parts)
-      | _ ↦ misshapen at ] ]
+      | _ ↦ misshapen at
+    ]
+  ]
   goal_form t d = misshapen (site d)
 
   -- goals in a row

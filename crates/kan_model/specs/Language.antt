@@ -40,18 +40,18 @@ form_names = spelled Word.defrel (codes "defrel") ∷ spelled Word.run (codes "r
 -- the names that are goals or begin them
 abbrev pub goal_names : List Spelled
 goal_names = spelled Word.succeed (codes "succeed") ∷ spelled Word.fail (codes "fail") ∷ spelled Word.fresh (codes "fresh")
-  ∷ spelled Word.conde (codes "conde") ∷ spelled Word.conj (codes "conj") ∷ spelled Word.disj (codes "disj")
-  ∷ spelled Word.conj_two (codes "conj2") ∷ spelled Word.disj_two (codes "disj2") ∷ []
+    ∷ spelled Word.conde (codes "conde") ∷ spelled Word.conj (codes "conj") ∷ spelled Word.disj (codes "disj")
+    ∷ spelled Word.conj_two (codes "conj2") ∷ spelled Word.disj_two (codes "disj2") ∷ []
 
 -- the names that begin constraints
 abbrev pub constraint_names : List Spelled
 constraint_names = spelled Word.same (codes "==") ∷ spelled Word.differ (codes "=/=") ∷ spelled Word.symbolo (codes "symbolo")
-  ∷ spelled Word.numbero (codes "numbero") ∷ spelled Word.absento (codes "absento") ∷ []
+    ∷ spelled Word.numbero (codes "numbero") ∷ spelled Word.absento (codes "absento") ∷ []
 
 -- the names that begin terms and parts of templates
 abbrev pub term_names : List Spelled
 term_names = spelled Word.quote (codes "quote") ∷ spelled Word.quasiquote (codes "quasiquote") ∷ spelled Word.unquote (codes "unquote")
-  ∷ spelled Word.cons (codes "cons") ∷ spelled Word.list (codes "list") ∷ []
+    ∷ spelled Word.cons (codes "cons") ∷ spelled Word.list (codes "list") ∷ []
 
 -- the name among these that a text is, or else another word
 abbrev pub word_among : List Spelled → Word → List ℕ → Word

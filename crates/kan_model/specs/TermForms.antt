@@ -32,11 +32,12 @@ abbrev mutual
   term_form t (Sited.bool at b) = Tree.truth b
   term_form t (Sited.nil at) = Tree.nil
   term_form t (Sited.pair at head parts) = elim (head_word t head) [
-    Word.quote ↦ quoted at parts
+    | Word.quote ↦ quoted at parts
     | Word.cons ↦ cons_form t at parts
     | Word.list ↦ elim (is_proper parts) [ true ↦ list_form t parts | false ↦ bad_term at ]
     | Word.quasiquote ↦ quasiquoted t at parts
-    | _ ↦ bad_term at ]
+    | _ ↦ bad_term at
+  ]
 
   -- a pair of two terms
   pub cons_form : Table → ℕ → Sited → TermForm
@@ -59,9 +60,10 @@ abbrev mutual
   template_form t (Sited.bool at b) = Tree.truth b
   template_form t (Sited.nil at) = Tree.nil
   template_form t (Sited.pair at a d) = elim (head_word t a) [
-    Word.unquote ↦ unquoted t at d
+    | Word.unquote ↦ unquoted t at d
     | Word.quasiquote ↦ bad_term at
-    | _ ↦ Tree.pair (template_form t a) (template_form t d) ]
+    | _ ↦ Tree.pair (template_form t a) (template_form t d)
+  ]
 
   -- one part, which is a term
   pub unquoted : Table → ℕ → Sited → TermForm

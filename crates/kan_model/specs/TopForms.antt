@@ -73,10 +73,11 @@ limited_form t at d = misshapen at
 -- a top form is a list that begins with one of three names
 abbrev pub form : Table → Sited → Form
 form t (Sited.pair at h parts) = elim (head_word t h) [
-  Word.defrel ↦ relation_form t at parts
+  | Word.defrel ↦ relation_form t at parts
   | Word.run ↦ limited_form t at parts
   | Word.run_all ↦ run_form t at no_limit parts
-  | _ ↦ unknown at ]
+  | _ ↦ unknown at
+]
 form t d = unknown (site d)
 
 -- a relation that is defined, and how many arguments it takes

@@ -10,7 +10,7 @@ ghost use Rattle.kan_model.specs.Stores.{equations};
 ghost use Rattle.kan_model.specs.Prims.{prim as primitive};
 ghost use Rattle.kan_model.specs.Solving.{equation, replaced_by, stacked};
 
-use crate::prims::{Kind, Asserted, copied};
+use crate::prims::{Asserted, Kind, copied};
 use crate::solving::{Replaced, copied_answer, found, solve};
 use crate::stores::Store;
 use kan_terms::{ListOf, Memory, PairLists, Tags, Term, TermPair};

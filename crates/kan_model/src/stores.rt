@@ -9,7 +9,7 @@ ghost use Rattle.kan_model.specs.Prims.{prim as primitive};
 ghost use Rattle.kan_model.specs.Solving.{equation};
 ghost use Rattle.kan_model.specs.StoreCalls.{Gives, WalksTo, IsFree, kind_at, AreTags, AreDifferences, answer, is_equation};
 
-use crate::prims::{Kind, Asserted};
+use crate::prims::{Asserted, Kind};
 use kan_terms::{Memory, PairLists, Tags, Term};
 use std::alloc::Global;
 

@@ -9,7 +9,7 @@ abbrev pub invariant-loop-first : goal.invariant-loop-first
 invariant-loop-first l = record {
   bound : l.bound.items ++ bound_names (site_at (sites l.nodes) l.place) ≡ bound_names (site_at (sites l.nodes) l.fn.place);
   faults : fault_list l.faults.items ++ names_faults l.names l.bound.items (site_at (sites l.nodes) l.place)
-    ≡ fault_list l.fn.faults.items ++ names_faults l.names [] (site_at (sites l.nodes) l.fn.place)
+      ≡ fault_list l.fn.faults.items ++ names_faults l.names [] (site_at (sites l.nodes) l.fn.place);
 }
 
 abbrev pub decreases-loop-first : goal.decreases-loop-first

@@ -8,7 +8,7 @@ use Rattle.goal_syntax.proofs.judge_goal.count_terms.Given as goal
 abbrev pub invariant-loop-rest : goal.invariant-loop-rest
 invariant-loop-rest l = record {
   counts : (names : Table) → l.counted + length (term_forms names (site_at (sites l.nodes) l.place)) ≡ length (term_forms names (site_at (sites l.nodes) l.fn.place));
-  falls : l.counted + l.place ≤ l.fn.place
+  falls : l.counted + l.place ≤ l.fn.place;
 }
 
 abbrev pub decreases-loop-rest : goal.decreases-loop-rest

@@ -17,5 +17,5 @@ loop-place-preserved c =
       before = within_step t ds rs c.args.forms.now c.loop-place.place-index c.loop-place.before _ (omega arith) before later c.count_defined-before.ensures;
       later = later_step t ds rs c.args.forms.now c.loop-place.place-index c.loop-place.before _ (omega arith) before later c.count_defined-before.ensures;
       faults = faults_step t ds rs c.args.forms.now c.loop-place.place-index c.loop-place.before _ _ _ _ (omega arith) before later c.count_defined-before.ensures
-        (c.in_ok-judge_form.ensures ∙ ap (λ f. fault_list c.loop-place.faults.items ++ form_faults t rs (take c.loop-place.before rs) f) c.open.ensures) c.loop-place.invariant.faults
+          (c.in_ok-judge_form.ensures ∙ ap (λ f. fault_list c.loop-place.faults.items ++ form_faults t rs (take c.loop-place.before rs) f) c.open.ensures) c.loop-place.invariant.faults;
     }

@@ -11,9 +11,9 @@ abbrev pub invariant-loop-place : goal.invariant-loop-place
 invariant-loop-place l = record {
   before : l.before ≤ length (relations l.text.relations.now);
   later : relations l.text.relations.now ≡ take l.before (relations l.text.relations.now)
-    ++ defined l.text.names.now (map (site_at (sites l.text.nodes.now)) (drop l.place-index l.forms));
+      ++ defined l.text.names.now (map (site_at (sites l.text.nodes.now)) (drop l.place-index l.forms));
   faults : fault_list l.faults.items ++ forms_faults l.text.names.now (relations l.text.relations.now) (take l.before (relations l.text.relations.now))
       (map (site_at (sites l.text.nodes.now)) (drop l.place-index l.forms))
-    ≡ fault_list l.fn.faults.items ++ forms_faults l.text.names.now (relations l.text.relations.now) (take l.fn.before (relations l.text.relations.now))
-      (map (site_at (sites l.text.nodes.now)) l.forms)
+      ≡ fault_list l.fn.faults.items ++ forms_faults l.text.names.now (relations l.text.relations.now) (take l.fn.before (relations l.text.relations.now))
+      (map (site_at (sites l.text.nodes.now)) l.forms);
 }

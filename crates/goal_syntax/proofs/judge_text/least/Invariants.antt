@@ -1,4 +1,4 @@
-use Rattle.std.proofs.Common.{◌≡◌, ◌++◌, [], length}
+use Rattle.std.proofs.Common.{◌≡◌, length}
 use Rattle.std.specs.Prelude.{option_map}
 use Rattle.kan_model.specs.TextFaults.{least}
 use Rattle.goal_syntax.specs.FaultLists.{fault_of, fault_list}

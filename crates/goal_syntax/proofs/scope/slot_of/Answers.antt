@@ -9,5 +9,5 @@ returns-then-is_named c =
 pub loop-end-preserved : goal.loop-end-preserved
 loop-end-preserved c = record {
   within = omega arith;
-  none = slot_passed c.args.scope.now c.loop-end.end c.args.symbol _ c.loop-end-test.true c.loop-end.invariant.within c.if-is_named.ensures c.loop-end.invariant.none
+  none = slot_passed c.args.scope.now c.loop-end.end c.args.symbol _ c.loop-end-test.true c.loop-end.invariant.within c.if-is_named.ensures c.loop-end.invariant.none;
 }

@@ -6,7 +6,7 @@ use Rattle.goal_syntax.proofs.scope.slot_of.Given as goal
 abbrev pub invariant-loop-end : goal.invariant-loop-end
 invariant-loop-end l = record {
   within : l.end ≤ length l.scope;
-  none : slot_of (take l.end l.scope) l.symbol ≡ slot_of l.scope l.symbol
+  none : slot_of (take l.end l.scope) l.symbol ≡ slot_of l.scope l.symbol;
 }
 
 abbrev pub decreases-loop-end : goal.decreases-loop-end

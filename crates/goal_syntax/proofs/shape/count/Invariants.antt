@@ -8,7 +8,7 @@ use Rattle.goal_syntax.proofs.shape.count.Given as goal
 abbrev pub invariant-loop-rest : goal.invariant-loop-rest
 invariant-loop-rest l = record {
   counts : option_map (λ n. l.counted + n) (count (site_at (sites l.nodes) l.place)) ≡ count (site_at (sites l.nodes) l.fn.place);
-  falls : l.counted + l.place ≤ l.fn.place
+  falls : l.counted + l.place ≤ l.fn.place;
 }
 
 abbrev pub decreases-loop-rest : goal.decreases-loop-rest
