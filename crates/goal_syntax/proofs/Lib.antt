@@ -7,3 +7,5 @@ pub mod RelationLaws
 pub mod GoalLaws
 pub mod FaultLaws
 pub mod FormLaws
+pub mod TurnLaws
+pub mod TurnWorkLaws

@@ -11,3 +11,5 @@ pub mod Tabled
 pub mod GoalStack
 pub mod FormSteps
 pub mod Firsts
+pub mod Turning
+pub mod TurnWorks

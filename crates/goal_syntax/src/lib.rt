@@ -14,4 +14,5 @@ mod relations;
 mod scope;
 mod shape;
 mod term;
+mod turn;
 mod word;

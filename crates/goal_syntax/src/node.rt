@@ -62,15 +62,16 @@ impl Nodes {
         }
     }
 
-    /// Adds a part, and gives its place.
+    /// Adds a part, and gives its place. A full table has no memory left.
     pub(crate) fn push(&mut self, node: Node) -> Result<u32, Memory>
-        requires room { length (sites self.old) < 2 ^ 32 - 1 }
-        requires there { IsTrue (is_grown (length (sites self.old)) node) }
+        requires { IsTrue (is_grown (length (sites self.old)) node) }
         ensures added { OnOk result (sites self.new ≡ sites self.old ++ node_site (sites self.old) node ∷ []) }
         ensures place { IfOk result (λ place. place ≡ length (sites self.old)) }
         ensures unchanged { OnErr result (sites self.new ≡ sites self.old) }
     {
-        let place = self.rows.len() as u32;
+        let Ok(place) = u32::try_from(self.rows.len()) else {
+            return Err(Memory);
+        };
         self.rows.push(node)?;
         Ok(place)
     }
