@@ -9,3 +9,4 @@ pub mod FaultLaws
 pub mod FormLaws
 pub mod TurnLaws
 pub mod TurnWorkLaws
+pub mod CheckLaws

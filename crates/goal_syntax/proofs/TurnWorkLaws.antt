@@ -84,3 +84,13 @@ within_last names items d last h e =
 pub last_falls : (names : Table) (items : Bor (List Datum)) (d : Bor Datum) (last : Option (Bor Datum)) (ws w1 : List Work) → length items.now ≡ 0 → last ≡ Some d → w1 ≡ ws ++ works.Datum d ∷ [] →
     works_size names w1 < within_size (within names items last) + works_size names ws
 last_falls names items d last ws w1 h e f = omega (arith, pushed_size names ws w1 (works.Datum d) f, ap within_size (within_last names items d last h e))
+
+-- the work on top is done
+pub work_done : (names : Table) (old popped new : List Work) (w : Work) (before after whole : List Sited) → old ≡ popped ++ w ∷ [] → finish names (reverse new) after ≡ finish names (w ∷ reverse popped) before →
+    finish names (reverse old) before ≡ whole → finish names (reverse new) after ≡ whole
+work_done names old popped new w before after whole split done kept =
+    let top : reverse old ≡ w ∷ reverse popped = ap reverse split ∙ reverse-append popped (w ∷ []) in
+    done ∙ sym (ap (λ l. finish names l before) top) ∙ kept
+
+pub work_falls : (names : Table) (old popped new : List Work) (w : Work) → old ≡ popped ++ w ∷ [] → works_size names new < work_size names w + works_size names popped → works_size names new < works_size names old
+work_falls names old popped new w split falls = omega (arith, pushed_size names popped old w split)

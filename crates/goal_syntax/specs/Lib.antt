@@ -13,3 +13,4 @@ pub mod FormSteps
 pub mod Firsts
 pub mod Turning
 pub mod TurnWorks
+pub mod Checks

@@ -8,6 +8,7 @@ use Rattle.kan_model.specs.Written.{Written, Within, single, list, prefixed, clo
 use Rattle.kan_model.specs.Sited.{Sited, sited, sited_within, symbol_number}
 use Rattle.sexpr.specs.Seen.{written}
 use Rattle.sexpr.specs.Works.{within}
+use Rattle.sexpr.specs.declared.data.Datum.{Datum}
 use Rattle.goal_syntax.specs.Turning.{joined, prefixed_last}
 use Rattle.goal_syntax.specs.declared.turn.Prefixes.{Prefixes}
 use Rattle.goal_syntax.specs.declared.turn.Work.{Work}
@@ -48,3 +49,7 @@ work_size names (works.Prefixed at s) = 1
 abbrev pub works_size : Table → List Work → ℕ
 works_size names [] = 0
 works_size names (w ∷ ws) = work_size names w + works_size names ws
+
+-- what a datum means as pairs
+abbrev pub meaning : Table → Datum → Sited
+meaning names d = sited names (written names d)

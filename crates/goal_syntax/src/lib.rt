@@ -2,6 +2,7 @@
 #![tactic(auto)]
 
 mod binder;
+mod check;
 mod fault;
 mod form;
 mod goal;
@@ -16,3 +17,5 @@ mod shape;
 mod term;
 mod turn;
 mod word;
+
+pub use check::{SyntaxError, check_text};

@@ -1,14 +1,14 @@
 //! Data turned into a table of their parts.
 
-ghost use Rattle.std.specs.Prelude.{◌≡◌, ◌+◌, ◌<◌, ◌++◌, ◌∷◌, [], length, reverse, List, ℕ, true, OnOk};
+ghost use Rattle.std.specs.Prelude.{◌≡◌, ◌+◌, ◌<◌, ◌++◌, ◌∷◌, [], length, reverse, List, ℕ, true, OnOk, map};
 ghost use Rattle.kan_model.specs.Printed.{prefix_name};
-ghost use Rattle.kan_model.specs.Sited.{Sited, sited_atom, symbol_number};
+ghost use Rattle.kan_model.specs.Sited.{Sited, sited, sited_atom, symbol_number};
 ghost use Rattle.kan_terms.specs.Table.{IsDistinct, name_of, number_of};
 ghost use Rattle.sexpr.specs.Meaning.{prefix_of};
-ghost use Rattle.sexpr.specs.Seen.{Table, symbol_atom};
+ghost use Rattle.sexpr.specs.Seen.{Table, symbol_atom, written};
 ghost use Rattle.goal_syntax.specs.Parts.{sites, part_site};
 ghost use Rattle.goal_syntax.specs.Rows.{is_there};
-ghost use Rattle.goal_syntax.specs.TurnWorks.{AreNumbered, finish, work_size, works_size};
+ghost use Rattle.goal_syntax.specs.TurnWorks.{AreNumbered, finish, meaning, work_size, works_size};
 ghost use Rattle.goal_syntax.specs.declared.turn.Work.TheVariants as works_of;
 ghost use Rattle.std.specs.Option.{option_copied};
 ghost use Rattle.goal_syntax.specs.Turning.{are_below, kept, joined, prefixed_last};
@@ -17,6 +17,7 @@ use crate::node::{Node, Nodes, Part};
 use kan_terms::{Memory, Names};
 use sexpr::{Datum, DatumKind, Prefix};
 use sqlite_items::Boxed;
+use std::alloc::Global;
 
 /// The numbers of the symbols that prefixes stand for.
 #[derive(Clone, Copy, Debug, PartialEq, Eq)]
@@ -206,4 +207,48 @@ fn turn_work<'a>(
         Work::Pair(at) => join(at, table, places),
         Work::Prefixed(at, symbol) => prefix(at, symbol, table, places),
     }
+}
+
+// Turns a datum: its place is the last of those that were made.
+fn turn_one(
+    alloc: Global,
+    datum: &Datum,
+    names: &Names,
+    prefixes: &Prefixes,
+    table: &mut Nodes,
+    places: &mut Vec<u32>,
+) -> Result<(), Memory>
+    requires numbered { AreNumbered names.now prefixes.now }
+    requires below { are_below (length (sites table.old)) places.old.items ≡ true }
+    ensures made { OnOk result (kept (sites table.new) places.new.items
+        ≡ sited names.now (written names.now datum.now) ∷ kept (sites table.old) places.old.items) }
+    ensures below { OnOk result (are_below (length (sites table.new)) places.new.items ≡ true) }
+{
+    let mut works = Vec::new(alloc);
+    works.push(Work::Datum(datum))?;
+    while let Some(work) = works.pop() {
+        turn_work(work, names, prefixes, table, places, &mut works)?;
+    }
+    Ok(())
+}
+
+/// Turns data: their places come behind those that were made.
+pub(crate) fn turn(
+    alloc: Global,
+    forms: &[Datum],
+    names: &Names,
+    prefixes: &Prefixes,
+    table: &mut Nodes,
+    places: &mut Vec<u32>,
+) -> Result<(), Memory>
+    requires numbered { AreNumbered names.now prefixes.now }
+    requires below { are_below (length (sites table.old)) places.old.items ≡ true }
+    ensures made { OnOk result (kept (sites table.new) places.new.items
+        ≡ reverse (map (meaning names.now) forms.now) ++ kept (sites table.old) places.old.items) }
+    ensures below { OnOk result (are_below (length (sites table.new)) places.new.items ≡ true) }
+{
+    for datum in forms {
+        turn_one(alloc, datum, names, prefixes, table, places)?;
+    }
+    Ok(())
 }
