@@ -1,0 +1,111 @@
+-- The relations before a top form, and the faults of the forms that are left.
+use Rattle.std.proofs.Common.{◌≡◌, ℕ, suc, ◌+◌, ◌<◌, ◌≤◌, List, [], ◌∷◌, ◌++◌, map, take, drop, length, get_or, sym, ◌∙◌, ap, append_assoc, arith, length-append, drop-cons, Option, Some, None, Bool, true, false}
+use Rattle.std.specs.Prelude.{if◌then◌else◌}
+use Rattle.std.proofs.Math.Seq.{take-append_seam, take-append-add}
+use Rattle.std.proofs.lemmas.List.{length-take-le, length-map}
+use Rattle.goal_syntax.specs.Related.{related}
+use Rattle.goal_syntax.specs.declared.relations.Defined.{Defined as Row}
+use Rattle.kan_model.specs.Text.{Table}
+use Rattle.kan_model.specs.Sited.{Sited, elements}
+use Rattle.kan_model.specs.Faults.{Fault}
+use Rattle.kan_model.specs.TopForms.{Defined, form, defined, defined_by, defined_by_head}
+use Rattle.kan_model.specs.Language.{Word, word, head_word, is_other}
+use Rattle.kan_model.specs.TextFaults.{form_faults, forms_faults}
+use Rattle.goal_syntax.specs.Parts.{site_at}
+
+-- the next of some places, and those behind it
+pub next_place : (forms : List ℕ) (i : ℕ) → i < length forms → drop i forms ≡ get_or forms i 0 ∷ drop (i + 1) forms
+next_place forms i here = let step : i + 1 ≡ suc i = omega arith in drop-cons forms i 0 here ∙ ap (λ n. get_or forms i 0 ∷ drop n forms) (sym step)
+
+-- what stands before two lists of relations
+pub passed : (rs front ours theirs : List Defined) → rs ≡ front ++ (ours ++ theirs) → take (length front + length ours) rs ≡ front ++ ours
+passed rs front ours theirs split =
+    ap (take (length front + length ours)) split ∙ take-append-add front (ours ++ theirs) (length ours) ∙ ap (λ l. front ++ l) (take-append_seam ours theirs)
+
+-- a form is passed: its relations come behind those before it
+pub before_step : (t : Table) (ds : List Sited) (rs : List Defined) (forms : List ℕ) (i b k : ℕ) → i < length forms → b ≤ length rs → rs ≡ take b rs ++ defined t (map (site_at ds) (drop i forms)) →
+    k ≡ length (defined_by t (site_at ds (get_or forms i 0))) → take (b + k) rs ≡ take b rs ++ defined_by t (site_at ds (get_or forms i 0))
+before_step t ds rs forms i b k here within later count =
+    let ours = defined_by t (site_at ds (get_or forms i 0)) in
+    let theirs = defined t (map (site_at ds) (drop (i + 1) forms)) in
+    let split : rs ≡ take b rs ++ (ours ++ theirs) = later ∙ ap (λ l. take b rs ++ defined t (map (site_at ds) l)) (next_place forms i here) in
+    let size : length (take b rs) ≡ b = length-take-le b rs within in
+    let place : b + k ≡ length (take b rs) + length ours = omega arith in
+    ap (λ n. take n rs) place ∙ passed rs (take b rs) ours theirs split
+
+pub within_step : (t : Table) (ds : List Sited) (rs : List Defined) (forms : List ℕ) (i b k : ℕ) → i < length forms → b ≤ length rs → rs ≡ take b rs ++ defined t (map (site_at ds) (drop i forms)) →
+    k ≡ length (defined_by t (site_at ds (get_or forms i 0))) → b + k ≤ length rs
+within_step t ds rs forms i b k here within later count =
+    let ours = defined_by t (site_at ds (get_or forms i 0)) in
+    let theirs = defined t (map (site_at ds) (drop (i + 1) forms)) in
+    let split : rs ≡ take b rs ++ (ours ++ theirs) = later ∙ ap (λ l. take b rs ++ defined t (map (site_at ds) l)) (next_place forms i here) in
+    let size : length (take b rs) ≡ b = length-take-le b rs within in
+    let all : length rs ≡ length (take b rs) + (length ours + length theirs) = ap length split ∙ length-append (take b rs) (ours ++ theirs) ∙ ap (λ n. length (take b rs) + n) (length-append ours theirs) in
+    omega arith
+
+pub later_step : (t : Table) (ds : List Sited) (rs : List Defined) (forms : List ℕ) (i b k : ℕ) → i < length forms → b ≤ length rs → rs ≡ take b rs ++ defined t (map (site_at ds) (drop i forms)) →
+    k ≡ length (defined_by t (site_at ds (get_or forms i 0))) → rs ≡ take (b + k) rs ++ defined t (map (site_at ds) (drop (i + 1) forms))
+later_step t ds rs forms i b k here within later count =
+    let ours = defined_by t (site_at ds (get_or forms i 0)) in
+    let theirs = defined t (map (site_at ds) (drop (i + 1) forms)) in
+    let split : rs ≡ take b rs ++ (ours ++ theirs) = later ∙ ap (λ l. take b rs ++ defined t (map (site_at ds) l)) (next_place forms i here) in
+    split ∙ sym (append_assoc (take b rs) ours theirs) ∙ ap (λ l. l ++ theirs) (sym (before_step t ds rs forms i b k here within later count))
+
+pub faults_step : (t : Table) (ds : List Sited) (rs : List Defined) (forms : List ℕ) (i b k : ℕ) (noted more whole : List Fault) → i < length forms → b ≤ length rs →
+    rs ≡ take b rs ++ defined t (map (site_at ds) (drop i forms)) → k ≡ length (defined_by t (site_at ds (get_or forms i 0))) →
+    more ≡ noted ++ form_faults t rs (take b rs) (form t (site_at ds (get_or forms i 0))) → noted ++ forms_faults t rs (take b rs) (map (site_at ds) (drop i forms)) ≡ whole →
+    more ++ forms_faults t rs (take (b + k) rs) (map (site_at ds) (drop (i + 1) forms)) ≡ whole
+faults_step t ds rs forms i b k noted more whole here within later count judged kept =
+    let ours = form_faults t rs (take b rs) (form t (site_at ds (get_or forms i 0))) in
+    let others = map (site_at ds) (drop (i + 1) forms) in
+    ap (λ l. l ++ forms_faults t rs (take (b + k) rs) others) judged ∙ append_assoc noted ours (forms_faults t rs (take (b + k) rs) others)
+    ∙ ap (λ l. noted ++ (ours ++ forms_faults t rs l others)) (before_step t ds rs forms i b k here within later count)
+    ∙ sym (ap (λ l. noted ++ forms_faults t rs (take b rs) (map (site_at ds) l)) (next_place forms i here)) ∙ kept
+
+-- a top form defines one relation at most
+head_at_most_one : (t : Table) (parts : Option (List Sited)) → length (defined_by_head t parts) ≤ 1
+head_at_most_one t None = omega arith
+head_at_most_one t (Some []) = omega arith
+head_at_most_one t (Some (Sited.name at s ∷ params)) = by_test (is_other (word t s))
+  where
+    by_test : (b : Bool) → length {A = Defined} (if b then record { name = s; params = length params } ∷ [] else []) ≤ 1
+    by_test true = omega arith
+    by_test false = omega arith
+head_at_most_one t (Some (Sited.num at n ∷ params)) = omega arith
+head_at_most_one t (Some (Sited.bool at b ∷ params)) = omega arith
+head_at_most_one t (Some (Sited.nil at ∷ params)) = omega arith
+head_at_most_one t (Some (Sited.pair at a d ∷ params)) = omega arith
+
+at_most_one : (t : Table) (d : Sited) → length (defined_by t d) ≤ 1
+at_most_one t (Sited.name at s) = omega arith
+at_most_one t (Sited.num at n) = omega arith
+at_most_one t (Sited.bool at b) = omega arith
+at_most_one t (Sited.nil at) = omega arith
+at_most_one t (Sited.pair at h (Sited.name end s)) = omega arith
+at_most_one t (Sited.pair at h (Sited.num end n)) = omega arith
+at_most_one t (Sited.pair at h (Sited.bool end b)) = omega arith
+at_most_one t (Sited.pair at h (Sited.nil end)) = omega arith
+at_most_one t (Sited.pair at h (Sited.pair later hd parts)) = by_word (head_word t h)
+  where
+    by_word : (w : Word) → length (elim w as (λ x. List Defined) [ Word.defrel ↦ defined_by_head t (elements hd) | _ ↦ [] ]) ≤ 1
+    by_word Word.defrel = head_at_most_one t (elements hd)
+    by_word w = omega arith
+
+-- there are no more relations than forms
+pub few_defined : (t : Table) (ds : List Sited) → length (defined t ds) ≤ length ds
+few_defined t [] = omega arith
+few_defined t (d ∷ ds) =
+    let all : length (defined t (d ∷ ds)) ≡ length (defined_by t d) + length (defined t ds) = length-append (defined_by t d) (defined t ds) in
+    let one = at_most_one t d in
+    let others = few_defined t ds in
+    omega arith
+
+-- rows to which the relations of forms were added
+pub few_rows : (t : Table) (ds : List Sited) (forms : List ℕ) (old new : List Row) → related new ≡ related old ++ defined t (map (site_at ds) forms) → length new ≤ length old + length forms
+few_rows t ds forms old new added =
+    let few = few_defined t (map (site_at ds) forms) in
+    let forms_size : length (map (site_at ds) forms) ≡ length forms = simp length-map in
+    let new_size : length (related new) ≡ length new = simp length-map in
+    let old_size : length (related old) ≡ length old = simp length-map in
+    let all : length (related new) ≡ length (related old) + length (defined t (map (site_at ds) forms)) = ap length added ∙ length-append (related old) (defined t (map (site_at ds) forms)) in
+    omega arith

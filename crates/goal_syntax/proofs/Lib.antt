@@ -1,0 +1,12 @@
+pub mod PartLaws
+pub mod ShapeLaws
+pub mod TermLaws
+pub mod WaitingLaws
+pub mod ScopeLaws
+pub mod RelationLaws
+pub mod GoalLaws
+pub mod FaultLaws
+pub mod FormLaws
+pub mod TurnLaws
+pub mod TurnWorkLaws
+pub mod CheckLaws

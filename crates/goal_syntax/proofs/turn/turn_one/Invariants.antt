@@ -1,0 +1,17 @@
+use Rattle.std.proofs.Common.{◌≡◌, ◌∷◌, reverse, length, true}
+use Rattle.kan_model.specs.Sited.{sited}
+use Rattle.sexpr.specs.Seen.{written}
+use Rattle.goal_syntax.specs.Parts.{sites}
+use Rattle.goal_syntax.specs.Turning.{are_below, kept}
+use Rattle.goal_syntax.specs.TurnWorks.{finish, works_size}
+use Rattle.goal_syntax.proofs.turn.turn_one.Given as goal
+
+-- what is made once all work is done is the datum, on top of what was made before
+abbrev pub invariant-loop-work : goal.invariant-loop-work
+invariant-loop-work l = record {
+  made : finish l.names (reverse l.works.items) (kept (sites l.table) l.places.items) ≡ sited l.names (written l.names l.datum) ∷ kept (sites l.fn.table) l.fn.places.items;
+  below : are_below (length (sites l.table)) l.places.items ≡ true
+}
+
+abbrev pub decreases-loop-work : goal.decreases-loop-work
+decreases-loop-work l = works_size l.names l.works.items

@@ -1,0 +1,19 @@
+-- What checking a text answers.
+use Rattle.std.specs.Prelude.{◌≡◌, List, map, Option, Some, None, Result, Ok, Err}
+use Rattle.kan_model.specs.Faults as faults
+use Rattle.kan_model.specs.Text.{Table}
+use Rattle.kan_model.specs.TextFaults.{fault_of_text}
+use Rattle.sexpr.specs.Seen.{written}
+use Rattle.sexpr.specs.declared.data.Datum.{Datum}
+use Rattle.goal_syntax.specs.declared.check.SyntaxError.{SyntaxError}
+use Rattle.goal_syntax.specs.declared.check.SyntaxError.TheVariants.{Fault, Memory}
+
+-- want of memory
+abbrev pub memory_wanted : SyntaxError
+memory_wanted = Memory
+
+-- the text has no fault, or this is the one that is answered; want of memory says nothing
+abbrev pub Checks : Table → List Datum → List Datum → Result (Unit {0}) SyntaxError → Type 0
+Checks names library text (Ok u) = fault_of_text names (map (written names) library) (map (written names) text) ≡ None
+Checks names library text (Err (Fault at number)) = fault_of_text names (map (written names) library) (map (written names) text) ≡ Some (faults.fault at number)
+Checks names library text (Err Memory) = Unit {0}

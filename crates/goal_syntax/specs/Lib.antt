@@ -1,0 +1,16 @@
+pub mod Meaning
+pub mod Rows
+pub mod Parts
+pub mod Shapes
+pub mod TermSteps
+pub mod FaultLists
+pub mod Waiting
+pub mod GoalSteps
+pub mod Related
+pub mod Tabled
+pub mod GoalStack
+pub mod FormSteps
+pub mod Firsts
+pub mod Turning
+pub mod TurnWorks
+pub mod Checks

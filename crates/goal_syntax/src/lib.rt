@@ -1,0 +1,21 @@
+//! The grammar of texts: which program and which runs the data of a text are, or which fault they have.
+#![tactic(auto)]
+
+mod binder;
+mod check;
+mod fault;
+mod form;
+mod goal;
+mod judge_form;
+mod judge_goal;
+mod judge_term;
+mod judge_text;
+mod node;
+mod relations;
+mod scope;
+mod shape;
+mod term;
+mod turn;
+mod word;
+
+pub use check::{SyntaxError, check_text};
