@@ -1,5 +1,5 @@
 -- The places of data in their table, and the numbers of prefixes.
-use Rattle.std.proofs.Common.{◌≡◌, ℕ, suc, ◌+◌, ◌<◌, ◌≤◌, List, [], ◌∷◌, ◌++◌, length, map, take, drop, reverse, refl, sym, ◌∙◌, ap, ap₂, arith, append-nil, Option, Some, None, length-append}
+use Rattle.std.proofs.Common.{◌≡◌, ℕ, ◌+◌, List, [], ◌∷◌, ◌++◌, length, map, take, drop, reverse, refl, sym, ◌∙◌, ap, ap₂, arith, append-nil, Some, length-append}
 use Rattle.std.specs.Prelude.{unwrap_or}
 use Rattle.std.proofs.lemmas.List.{reverse-append, reverse-reverse, length-map}
 use Rattle.kan_terms.specs.Table.{number_of, interned}
@@ -26,7 +26,7 @@ kept-reverse ds (p ∷ ps) = ap (λ l. l ++ site_at ds p ∷ []) (kept-reverse d
 pub both_made : (ds : List Sited) (ps : List ℕ) (before : List Sited) (first later : List Sited) → kept ds ps ≡ reverse later ++ before → before ≡ reverse first ++ [] → map (site_at ds) ps ≡ first ++ later
 both_made ds ps before first later second earlier =
     let all : reverse (map (site_at ds) ps) ≡ reverse (first ++ later) =
-      sym (kept-reverse ds ps) ∙ second ∙ ap (λ l. reverse later ++ l) (earlier ∙ append-nil (reverse first)) ∙ sym (reverse-append first later) in
+    sym (kept-reverse ds ps) ∙ second ∙ ap (λ l. reverse later ++ l) (earlier ∙ append-nil (reverse first)) ∙ sym (reverse-append first later) in
     sym (reverse-reverse (map (site_at ds) ps)) ∙ ap reverse all ∙ reverse-reverse (first ++ later)
 
 -- the places of the first and of the later ones
@@ -37,12 +37,13 @@ split_made f (p ∷ ps) (d ∷ first) later e =
     let parts = split_made f ps first later (ap rest_of e) in
     (ap₂ (λ x l. x ∷ l) (ap (first_of d) e) parts.0, parts.1)
   where
-  rest_of : List Sited → List Sited
-  rest_of [] = []
-  rest_of (x ∷ xs) = xs
-  first_of : Sited → List Sited → Sited
-  first_of z [] = z
-  first_of z (x ∷ xs) = x
+    rest_of : List Sited → List Sited
+    rest_of [] = []
+    rest_of (x ∷ xs) = xs
+
+    first_of : Sited → List Sited → Sited
+    first_of z [] = z
+    first_of z (x ∷ xs) = x
 
 pub map-meaning : (names : Table) (ds : List Datum) → map (sited names) (map (written names) ds) ≡ map (meaning names) ds
 map-meaning names [] = refl

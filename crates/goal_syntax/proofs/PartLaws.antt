@@ -63,8 +63,8 @@ site_at-sites ds (n ∷ nodes) (suc i) none grown here =
 pub are_grown-push : (n : ℕ) (nodes : List Node) (node : Node) → are_grown n nodes ≡ true → is_grown (n + length nodes) node ≡ true → are_grown n (nodes ++ node ∷ []) ≡ true
 are_grown-push n [] node all last = and_from _ _ (rw add-zero at last) refl
 are_grown-push n (m ∷ nodes) node all last =
-    let parts = and_parts _ _ all in
     let place : n + suc (length nodes) ≡ suc n + length nodes = omega arith in
+    let parts = and_parts _ _ all in
     and_from _ _ parts.0 (are_grown-push (suc n) nodes node parts.1 (rw place at last))
 
 -- a part that is read in a lent table

@@ -1,13 +1,12 @@
 -- The data at the places on a stack.
-use Rattle.std.proofs.Common.{◌≡◌, ℕ, suc, ◌+◌, ◌<◌, ◌≤◌, List, [], ◌∷◌, ◌++◌, length, refl, sym, ◌∙◌, ap, arith, length-append}
-use Rattle.std.specs.Prelude.{Bool, true, nat_lt, ◌&&◌, Some, unwrap_or}
+use Rattle.std.proofs.Common.{◌≡◌, ℕ, suc, ◌<◌, ◌≤◌, List, [], ◌∷◌, ◌++◌, length, refl, sym, ◌∙◌, ap, arith, length-append}
+use Rattle.std.specs.Prelude.{true, Some, unwrap_or}
 use Rattle.std.proofs.Math.Seq.{get_or-append_seam}
 use Rattle.std.proofs.lemmas.Bool.{ltb-true, lt-ltb, and_parts, and_from}
 use Rattle.kan_terms.specs.Table.{IsDistinct, name_of}
 use Rattle.kan_terms.proofs.TableLaws.{number_of-name_of}
 use Rattle.sexpr.specs.Seen.{Table, symbol_atom}
 use Rattle.kan_model.specs.Sited.{Sited, sited_atom}
-use Rattle.goal_syntax.specs.declared.node.Part.{Part}
 use Rattle.goal_syntax.specs.declared.node.Part.TheVariants.{Pair}
 use Rattle.goal_syntax.specs.Rows.{is_there}
 use Rattle.goal_syntax.specs.Parts.{site_at, part_site}
@@ -72,7 +71,7 @@ pub join_made : (at : ℕ) (ds new : List Sited) (p0 p1 p2 qs : List ℕ) (a d :
 join_made at ds new p0 p1 p2 qs a d top next below grown pushed =
     let all = two_below ds p0 p1 p2 a d top next below in
     let tops : kept ds p0 ≡ site_at ds d ∷ site_at ds a ∷ kept ds p2 =
-      ap (kept ds) top ∙ kept-push ds p1 d ∙ ap (λ l. site_at ds d ∷ l) (ap (kept ds) next ∙ kept-push ds p2 a) in
+    ap (kept ds) top ∙ kept-push ds p1 d ∙ ap (λ l. site_at ds d ∷ l) (ap (kept ds) next ∙ kept-push ds p2 a) in
     put_kept ds new p2 qs (part_site ds at (Pair a d)) grown pushed all.0 ∙ sym (ap (joined at) tops)
 
 pub join_below : (at : ℕ) (ds new : List Sited) (p0 p1 p2 qs : List ℕ) (a d : ℕ) → p0 ≡ p1 ++ d ∷ [] → p1 ≡ p2 ++ a ∷ [] → are_below (length ds) p0 ≡ true →

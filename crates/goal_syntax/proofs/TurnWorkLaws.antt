@@ -3,7 +3,7 @@ use Rattle.std.proofs.Common.{◌≡◌, ℕ, ◌+◌, ◌<◌, List, [], ◌∷
 use Rattle.std.specs.Option.{option_map, option_copied}
 use Rattle.std.specs.Borrow.{Bor}
 use Rattle.std.proofs.lemmas.List.{reverse-append}
-use Rattle.kan_model.specs.Written.{Written, list, prefixed, dotted}
+use Rattle.kan_model.specs.Written.{list, prefixed, dotted}
 use Rattle.kan_model.specs.Words.{round}
 use Rattle.kan_model.specs.Printed.{prefix_name}
 use Rattle.kan_model.specs.Sited.{Sited, sited, symbol_number}
@@ -62,7 +62,7 @@ pub prefixed_finish : (names : Table) (d : Datum) (q : Prefix) (x : Datum) (inne
     finish names (reverse w2) made ≡ finish names (reverse ws) (sited names (written names d) ∷ made)
 prefixed_finish names d q x inner s made ws w1 w2 e g numbered f1 f2 =
     let top : reverse w2 ≡ works.Datum inner ∷ works.Prefixed d.at s ∷ reverse ws =
-      ap reverse f2 ∙ reverse-append w1 (works.Datum inner ∷ []) ∙ ap (λ l. works.Datum inner ∷ l) (ap reverse f1 ∙ reverse-append ws (works.Prefixed d.at s ∷ [])) in
+    ap reverse f2 ∙ reverse-append w1 (works.Datum inner ∷ []) ∙ ap (λ l. works.Datum inner ∷ l) (ap reverse f1 ∙ reverse-append ws (works.Prefixed d.at s ∷ [])) in
     let at : ℕ = d.at in
     ap (λ l. finish names l made) top
     ∙ ap (λ n. finish names (reverse ws) (Sited.pair at (Sited.name at n) (Sited.pair at (sited names (written names inner.now)) (Sited.nil at)) ∷ made)) (sym numbered)

@@ -1,5 +1,5 @@
 -- What checking a text answers.
-use Rattle.std.specs.Prelude.{◌≡◌, List, map, Option, Some, None, Result, Ok, Err}
+use Rattle.std.specs.Prelude.{◌≡◌, List, map, Some, None, Result, Ok, Err}
 use Rattle.kan_model.specs.Faults as faults
 use Rattle.kan_model.specs.Text.{Table}
 use Rattle.kan_model.specs.TextFaults.{fault_of_text}

@@ -1,6 +1,5 @@
 -- What is made of the data that are left to be turned.
 use Rattle.std.specs.Prelude.{◌≡◌, ℕ, ◌+◌, List, [], ◌∷◌}
-use Rattle.kan_terms.specs.Table.{number_of}
 use Rattle.kan_model.specs.Text.{Table}
 use Rattle.kan_model.specs.Printed.{prefix_name}
 use Rattle.kan_model.specs.Words as words

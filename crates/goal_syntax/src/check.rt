@@ -1,6 +1,6 @@
 //! Whether a text is accepted.
 
-ghost use Rattle.std.specs.Prelude.{◌≡◌, ◌+◌, ◌-◌, ◌<◌, ◌^◌, length, map, option_map, IfOk, OnOk};
+ghost use Rattle.std.specs.Prelude.{◌≡◌, ◌+◌, ◌-◌, ◌<◌, ◌^◌, length, map, option_map, IfOk};
 ghost use Rattle.sexpr.specs.Reads.{Extends};
 ghost use Rattle.sexpr.specs.Seen.{written};
 ghost use Rattle.kan_model.specs.TextFaults.{fault_of_text};
@@ -37,7 +37,7 @@ impl From<Memory> for SyntaxError {
 fn number_prefixes(names: &mut Names) -> Result<Prefixes, Memory>
     requires { length names.old + 3 < 2 ^ 32 }
     ensures numbered { IfOk result (λ prefixes. AreNumbered names.new prefixes) }
-    ensures names { OnOk result (Extends 3 names.old names.new) }
+    ensures names { Extends 3 names.old names.new }
 {
     let quote = names.intern("quote")?;
     let quasiquote = names.intern("quasiquote")?;
@@ -50,7 +50,13 @@ fn number_prefixes(names: &mut Names) -> Result<Prefixes, Memory>
 }
 
 // The first fault of a text, where it has one, under names that have the prefixes.
-fn judge(alloc: Global, library: &[Datum], text: &[Datum], names: &Names, prefixes: &Prefixes) -> Result<Option<Fault>, Memory>
+fn judge(
+    alloc: Global,
+    library: &[Datum],
+    text: &[Datum],
+    names: &Names,
+    prefixes: &Prefixes,
+) -> Result<Option<Fault>, Memory>
     requires numbered { AreNumbered names.now prefixes.now }
     requires few { length library.now + length text.now < 2 ^ 32 }
     ensures { IfOk result (λ fault. option_map fault_of fault ≡ fault_of_text names.now (map (written names.now) library.now) (map (written names.now) text.now)) }
@@ -66,10 +72,16 @@ fn judge(alloc: Global, library: &[Datum], text: &[Datum], names: &Names, prefix
 
 /// Checks a text behind a library, whose data these are: the text is refused by its fault at the least offset, and of two at one
 /// offset by the one with the smaller number.
-pub fn check_text(alloc: Global, library: &[Datum], text: &[Datum], names: &mut Names) -> Result<(), SyntaxError>
+pub fn check_text(
+    alloc: Global,
+    library: &[Datum],
+    text: &[Datum],
+    names: &mut Names,
+) -> Result<(), SyntaxError>
     requires names { length names.old + 3 < 2 ^ 32 }
     requires few { length library.now + length text.now < 2 ^ 32 }
-    ensures { Checks names.new library.now text.now result }
+    ensures checked { Checks names.new library.now text.now result }
+    ensures names { Extends 3 names.old names.new }
 {
     let prefixes = number_prefixes(names)?;
     match judge(alloc, library, text, names, &prefixes)? {

@@ -147,7 +147,11 @@ fn turn_datum<'a>(
         DatumKind::Symbol(symbol) => make(datum.at, symbol_part(names, *symbol), table, places)?,
         DatumKind::Number(number) => make(datum.at, Part::Number(*number), table, places)?,
         DatumKind::Truth(truth) => make(datum.at, Part::Truth(*truth), table, places)?,
-        DatumKind::List(items, last) => works.push(Work::Rest(items.as_slice(), lent(last), datum.at))?,
+        DatumKind::List(items, last) => works.push(Work::Rest(
+            items.as_slice(),
+            lent(last),
+            datum.at,
+        ))?,
         DatumKind::Prefixed(prefix, inner) => {
             works.push(Work::Prefixed(datum.at, prefix_symbol(prefixes, *prefix)))?;
             works.push(Work::Datum(inner.get()))?;

@@ -10,9 +10,9 @@ returns-clause-numbered c =
     let third = c.intern-3.new.self in
     record {
       quote = numbered third (prefix_name quote) _
-        (keeps_number second third (prefix_name unquote) (prefix_name quote) _ c.in_ok-unquote.ensures.table
-        (keeps_number first second (prefix_name quasiquote) (prefix_name quote) _ c.in_ok-quasiquote.ensures.table c.in_ok-quote.ensures.number));
+          (keeps_number second third (prefix_name unquote) (prefix_name quote) _ c.in_ok-unquote.ensures.table
+          (keeps_number first second (prefix_name quasiquote) (prefix_name quote) _ c.in_ok-quasiquote.ensures.table c.in_ok-quote.ensures.number));
       quasiquote = numbered third (prefix_name quasiquote) _
-        (keeps_number second third (prefix_name unquote) (prefix_name quasiquote) _ c.in_ok-unquote.ensures.table c.in_ok-quasiquote.ensures.number);
-      unquote = numbered third (prefix_name unquote) _ c.in_ok-unquote.ensures.number
+          (keeps_number second third (prefix_name unquote) (prefix_name quasiquote) _ c.in_ok-unquote.ensures.table c.in_ok-quasiquote.ensures.number);
+      unquote = numbered third (prefix_name unquote) _ c.in_ok-unquote.ensures.number;
     }

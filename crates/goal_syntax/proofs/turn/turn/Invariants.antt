@@ -8,5 +8,5 @@ use Rattle.goal_syntax.proofs.turn.turn.Given as goal
 abbrev pub invariant-loop-datum : goal.invariant-loop-datum
 invariant-loop-datum l = record {
   made : kept (sites l.table) l.places.items ≡ reverse (map (meaning l.names) (take l.datum-index l.forms)) ++ kept (sites l.fn.table) l.fn.places.items;
-  below : are_below (length (sites l.table)) l.places.items ≡ true
+  below : are_below (length (sites l.table)) l.places.items ≡ true;
 }

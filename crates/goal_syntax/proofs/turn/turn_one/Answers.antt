@@ -7,5 +7,5 @@ loop-work-smaller c = work_falls c.args.names.now _ _ _ c.in-Some.work c.in-Some
 pub loop-work-preserved : goal.loop-work-preserved
 loop-work-preserved c = record {
   made = work_done c.args.names.now _ _ c.turn_work.new.works.items c.in-Some.work _ _ _ c.in-Some.ensures.items c.in_ok-turn_work.ensures.made c.loop-work.invariant.made;
-  below = c.in_ok-turn_work.ensures.below
+  below = c.in_ok-turn_work.ensures.below;
 }

@@ -10,7 +10,7 @@ use Rattle.goal_syntax.proofs.turn.turn_one.Given as goal
 abbrev pub invariant-loop-work : goal.invariant-loop-work
 invariant-loop-work l = record {
   made : finish l.names (reverse l.works.items) (kept (sites l.table) l.places.items) ≡ sited l.names (written l.names l.datum) ∷ kept (sites l.fn.table) l.fn.places.items;
-  below : are_below (length (sites l.table)) l.places.items ≡ true
+  below : are_below (length (sites l.table)) l.places.items ≡ true;
 }
 
 abbrev pub decreases-loop-work : goal.decreases-loop-work
