@@ -6,7 +6,7 @@ use Rattle.kan_base.specs.Writes.{PutsFront}
 use Rattle.kan_base.specs.Taken.{greatest_text, IsWhole, TakesCount, TakesAtMost}
 use Rattle.kan_base.specs.declared.status.Status.{Status}
 use Rattle.kan_base.specs.declared.status.Status.TheVariants.{Done, Fuel, Usage, Text, ReadFault, WriteFault, TooLong, Memory}
-use Rattle.kanren_run.specs.Refusals.{Answer, output, refusal, text_answer, refusal_line, all_output}
+use Rattle.kanren_run.specs.Refusals.{Answer, output, refusal, Answered, refusal_line, answer_bytes}
 
 -- the two ends of a call: what the opened place held and what is left of it, what was put before and after, and the counts of faults
 pub record Ends : Type 0 where
@@ -29,21 +29,23 @@ pub record Ran (e : Ends) : Type 0 where
   pub text : List ℕ
   pub out : List ℕ
   pub read : ReadsWhole e text
-  pub output : text_answer text ≡ output out
+  pub output : Answered text (output out)
   pub put : Appends e.put e.put_after out
 
 -- the text was read whole and is refused, and what was put is the line that says so
 pub record Refused (e : Ends) (at number : ℕ) : Type 0 where
   pub text : List ℕ
   pub read : ReadsWhole e text
-  pub refused : text_answer text ≡ refusal at number
+  pub refused : Answered text (refusal at number)
   pub put : Appends e.put e.put_after (refusal_line at number)
 
 -- the text was read whole, and a front of what is written for it was put
 pub record PutFront (e : Ends) : Type 0 where
   pub text : List ℕ
   pub read : ReadsWhole e text
-  pub front : PutsFront e.put e.put_after (all_output text)
+  pub answer : Answer
+  pub answered : Answered text answer
+  pub front : PutsFront e.put e.put_after (answer_bytes answer)
 
 -- nothing was put
 abbrev pub PutNothing : Ends → Type 0
@@ -80,15 +82,10 @@ CountsAt e ReadFault = e.read_faults ≤ e.read_faults_after × (e.write_faults_
 CountsAt e WriteFault = (e.read_faults_after ≡ e.read_faults) × (e.write_faults ≤ e.write_faults_after)
 CountsAt e s = (e.read_faults_after ≡ e.read_faults) × (e.write_faults_after ≡ e.write_faults)
 
--- a text that is run
-abbrev pub is_output : Answer → Bool
-is_output (output out) = true
-is_output (refusal at number) = false
-
 -- what a text is answered with where nothing fails
 abbrev pub AnswersText : List ℕ → Status → Type 0
-AnswersText text Done = is_output (text_answer text) ≡ true
-AnswersText text (Text at number) = text_answer text ≡ refusal at number
+AnswersText text Done = (out : List ℕ) × Answered text (output out)
+AnswersText text (Text at number) = Answered text (refusal at number)
 AnswersText text Memory = ⊤
 AnswersText text _ = ⊥
 
@@ -100,8 +97,8 @@ IsComplete e s =
 
 -- what a status says of the writing of a text that was read whole: what was put before and after, and the counts of faults
 abbrev pub Answers : List ℕ → Option (List ℕ) → Option (List ℕ) → ℕ → ℕ → Status → Type 0
-Answers text put after faults more Done = (out : List ℕ) × (text_answer text ≡ output out) × Appends put after out × (more ≡ faults)
-Answers text put after faults more (Text at number) = (text_answer text ≡ refusal at number) × Appends put after (refusal_line at number) × (more ≡ faults)
-Answers text put after faults more WriteFault = Rose faults more × PutsFront put after (all_output text) × (faults ≤ more)
+Answers text put after faults more Done = (out : List ℕ) × Answered text (output out) × Appends put after out × (more ≡ faults)
+Answers text put after faults more (Text at number) = Answered text (refusal at number) × Appends put after (refusal_line at number) × (more ≡ faults)
+Answers text put after faults more WriteFault = Rose faults more × ((answer : Answer) × Answered text answer × PutsFront put after (answer_bytes answer)) × (faults ≤ more)
 Answers text put after faults more Memory = (after ≡ put) × (more ≡ faults)
 Answers text put after faults more _ = ⊥

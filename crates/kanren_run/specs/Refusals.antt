@@ -1,8 +1,11 @@
 -- What a text is answered with, and what is written then: the output of its runs, or the line of its refusal.
-use Rattle.std.specs.Prelude.{ℕ, ◌==◌, List, [], Option, Some, None, codes, if◌then◌else◌}
+use Rattle.std.specs.Prelude.{◌≡◌, ℕ, ◌==◌, List, [], ◌++◌, map, Option, Some, None, codes, if◌then◌else◌}
 use Rattle.kan_model.specs.Open.{as_written}
 use Rattle.kan_model.specs.Faults.{Fault, fault, Reading, data_are, refused, read_text}
+use Rattle.kan_model.specs.TextFaults.{fault_of_text}
 use Rattle.kan_model.specs.Output.{error_line}
+use Rattle.sexpr.specs.Seen.{Table, written, as_kept}
+use Rattle.sexpr.specs.declared.data.Datum.{Datum}
 use Rattle.kanren_run.specs.Texts.{text_output}
 
 -- the refusals of data, by their numbers
@@ -12,29 +15,49 @@ data_refusal_text number = if number == 1 then codes "not UTF-8" else (if number
     else (if number == 5 then codes "bad dot" else (if number == 6 then codes "too deep"
     else (if number == 7 then codes "number out of range" else (if number == 8 then codes "reserved name" else [])))))))
 
+-- the refusals of texts, by their numbers
+abbrev pub form_refusal_text : ℕ → List ℕ
+form_refusal_text number = if number == 9 then codes "unknown form" else (if number == 10 then codes "bad shape"
+    else (if number == 11 then codes "unbound name" else (if number == 12 then codes "unknown relation"
+    else (if number == 13 then codes "wrong number of arguments" else (if number == 14 then codes "defined twice"
+    else (if number == 15 then codes "tag is not a quoted symbol" else data_refusal_text number))))))
+
 -- all refusals
 abbrev pub refusal_text : ℕ → List ℕ
-refusal_text number = if number == 0 then codes "not built yet" else data_refusal_text number
-
--- the fault of a text whose data can't be read
-abbrev pub reading_fault : {D : Type 0} → Reading D → Option Fault
-reading_fault (data_are ds) = None
-reading_fault (refused f) = Some f
+refusal_text number = if number == 0 then codes "not built yet" else form_refusal_text number
 
 -- what a text is answered with: the output of its runs, or the offset and the number of a refusal
 pub data Answer : Type 0 where
   output : List ℕ → Answer
   refusal : ℕ → ℕ → Answer
 
--- a fault of the data comes first; a text without one that isn't run yet has the refusal 0
-abbrev pub answer_by : Option Fault → Option (List ℕ) → Answer
-answer_by (Some (fault at number)) out = refusal at number
-answer_by None (Some out) = output out
-answer_by None None = refusal 0 0
+-- the fault of a text whose data can't be read
+abbrev pub reading_fault : {D : Type 0} → Reading D → Option Fault
+reading_fault (data_are ds) = None
+reading_fault (refused f) = Some f
 
--- the answer of a text
-abbrev pub text_answer : List ℕ → Answer
-text_answer bytes = answer_by (reading_fault (read_text as_written bytes)) (text_output bytes)
+-- a text has these data, whose symbols are named by a table
+abbrev pub AreData : List ℕ → Table → List Datum → Type 0
+AreData bytes names ds = read_text as_kept bytes ≡ data_are (map (written names) ds)
+
+-- the fault that data have without a library, under a table
+abbrev pub fault_in : Table → List Datum → Option Fault
+fault_in names ds = fault_of_text names [] (map (written names) ds)
+
+-- the data of a text have this fault, or none, under a table that names their symbols and maybe other words
+pub record HasFault (bytes : List ℕ) (found : Option Fault) : Type 0 where
+  pub names : Table
+  pub more : Table
+  pub ds : List Datum
+  pub read : AreData bytes names ds
+  pub is : fault_in (names ++ more) ds ≡ found
+
+-- The answer of a text: a fault of the reading of its data comes first, then one of the data; a text without one is run, or isn't run yet.
+pub data Answered (bytes : List ℕ) : Answer → Type 0 where
+  unread : {at number : ℕ} → reading_fault (read_text as_written bytes) ≡ Some (fault at number) → Answered bytes (refusal at number)
+  faulty : {at number : ℕ} → HasFault bytes (Some (fault at number)) → Answered bytes (refusal at number)
+  ran : {out : List ℕ} → HasFault bytes None → text_output bytes ≡ Some out → Answered bytes (output out)
+  not_built : HasFault bytes None → text_output bytes ≡ None → Answered bytes (refusal 0 0)
 
 -- the line of a refusal at an offset
 abbrev pub refusal_line : ℕ → ℕ → List ℕ
@@ -44,7 +67,3 @@ refusal_line at number = error_line number at (refusal_text number)
 abbrev pub answer_bytes : Answer → List ℕ
 answer_bytes (output out) = out
 answer_bytes (refusal at number) = refusal_line at number
-
--- what is written for a text, run or refused
-abbrev pub all_output : List ℕ → List ℕ
-all_output text = answer_bytes (text_answer text)

@@ -1,13 +1,13 @@
 //! Refused texts: their first fault, and the line that says so.
 
-ghost use Rattle.std.specs.Prelude.{◌≡◌, ◌≤◌, ◌++◌, length, IfOk, OnOk, option_map, string_bytes};
-ghost use Rattle.kan_model.specs.Open.{as_written};
-ghost use Rattle.kan_model.specs.Faults.{read_text};
+ghost use Rattle.std.specs.Prelude.{◌≡◌, ◌≤◌, ◌<◌, ◌+◌, ◌^◌, ◌++◌, length, IfOk, OnOk, option_map, string_bytes};
+ghost use Rattle.sexpr.specs.Reads.{Extends};
 ghost use Rattle.kanren_run.specs.Refusals as refusals;
-ghost use Rattle.kanren_run.specs.Replies.{fault_of};
+ghost use Rattle.kanren_run.specs.Replies.{FirstFault, fault_of};
 
+use goal_syntax::{SyntaxError, check_text};
 use kan_terms::{Memory, Names};
-use sexpr::{ReadError, read};
+use sexpr::{Datum, ReadError, read};
 use std::alloc::Global;
 use std::fmt::Write;
 
@@ -20,14 +20,30 @@ pub(crate) struct Fault {
     pub(crate) number: u8,
 }
 
-/// The fault of a text whose data can't be read.
+// The fault of a text's data, where they have one. No text has more data than a u32 counts.
+fn fault_of_data(alloc: Global, forms: &[Datum], names: &mut Names) -> Result<Option<Fault>, Memory>
+    requires { length names.old + 3 < 2 ^ 32 }
+    ensures fault { IfOk result (λ found. option_map fault_of found ≡ refusals.fault_in names.new forms.now) }
+    ensures names { Extends 3 names.old names.new }
+{
+    if u32::try_from(forms.len()).is_err() {
+        return Err(Memory);
+    }
+    match check_text(alloc, &[], forms, names) {
+        Ok(()) => Ok(None),
+        Err(SyntaxError::Fault(at, number)) => Ok(Some(Fault { at, number })),
+        Err(SyntaxError::Memory) => Err(Memory),
+    }
+}
+
+/// The first fault of a text: that of the reading of its data, or else that of the data.
 pub(crate) fn first_fault(alloc: Global, text: &[u8]) -> Result<Option<Fault>, Memory>
     requires { length text.now ≤ 1048576 }
-    ensures { IfOk result (λ found. option_map fault_of found ≡ refusals.reading_fault (read_text as_written text.now)) }
+    ensures { IfOk result (FirstFault text.now) }
 {
     let mut names = Names::new(alloc);
     match read(alloc, text, &mut names) {
-        Ok(_) => Ok(None),
+        Ok(data) => Ok(fault_of_data(alloc, data.as_slice(), &mut names)?),
         Err(ReadError::Fault(at, number)) => Ok(Some(Fault { at, number })),
         Err(ReadError::Memory) => Err(Memory),
     }
@@ -50,13 +66,29 @@ fn data_refusal_text(number: u8) -> &'static str
     }
 }
 
+// What a refusal of a text is called.
+fn form_refusal_text(number: u8) -> &'static str
+    ensures { result.now ≡ refusals.form_refusal_text number }
+{
+    match number {
+        9 => "unknown form",
+        10 => "bad shape",
+        11 => "unbound name",
+        12 => "unknown relation",
+        13 => "wrong number of arguments",
+        14 => "defined twice",
+        15 => "tag is not a quoted symbol",
+        _ => data_refusal_text(number),
+    }
+}
+
 // What a refusal is called.
 fn refusal_text(number: u8) -> &'static str
     ensures { result.now ≡ refusals.refusal_text number }
 {
     match number {
         0 => "not built yet",
-        _ => data_refusal_text(number),
+        _ => form_refusal_text(number),
     }
 }
 

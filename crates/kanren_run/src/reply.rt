@@ -27,7 +27,7 @@ fn line_of(alloc: Global, fault: Fault) -> Result<String, Memory>
     Ok(line)
 }
 
-/// What a text is answered with: a fault of its data comes first.
+/// What a text is answered with: a fault comes first.
 pub(crate) fn reply_to(alloc: Global, text: &[u8]) -> Result<Reply, Memory>
     requires { length text.now ≤ 1048576 }
     ensures { IfOk result (Replies text.now) }

@@ -141,9 +141,14 @@ fn empty_text(rt: HostRuntime) -> Result<(), Fail> {
 #[test]
 fn not_built_yet(rt: HostRuntime) -> Result<(), Fail> {
     let line = "error 0 at 0: not built yet\n";
-    expect(&rt, b"(run* q (foo q))", 64, line, Status::Text(0, 0))?;
-    expect(&rt, b"(run* q (== q x))", 64, line, Status::Text(0, 0))?;
-    expect(&rt, b"(run* == (== == 'a))", 64, line, Status::Text(0, 0))?;
+    expect(&rt, b"(run* q (=/= q 1))", 64, line, Status::Text(0, 0))?;
+    expect(
+        &rt,
+        b"(run* q (== q (cons 1 q)))",
+        64,
+        line,
+        Status::Text(0, 0),
+    )?;
     expect(
         &rt,
         b"(run* q (== q 1000000000000000000))",
@@ -193,6 +198,55 @@ fn refused_data(rt: HostRuntime) -> Result<(), Fail> {
             8,
         ),
         (b"(run* q (== q x)", "error 2 at 0: list not closed\n", 0, 2),
+    ];
+    for (text, line, at, number) in table {
+        expect(&rt, text, 64, line, Status::Text(at, number))?;
+    }
+    Ok(())
+}
+
+#[test]
+fn refused_forms(rt: HostRuntime) -> Result<(), Fail> {
+    let table: [(&[u8], &str, u32, u8); 9] = [
+        (b"(define x 1)", "error 9 at 0: unknown form\n", 0, 9),
+        (b"(run -1 q)", "error 10 at 5: bad shape\n", 5, 10),
+        (b"(run* == (== == 'a))", "error 10 at 6: bad shape\n", 6, 10),
+        (
+            b"(run* q (== q x))",
+            "error 11 at 14: unbound name\n",
+            14,
+            11,
+        ),
+        (
+            b"(run* q (foo q))",
+            "error 12 at 9: unknown relation\n",
+            9,
+            12,
+        ),
+        (
+            b"(defrel (two a b) succeed) (run* q (two q))",
+            "error 13 at 36: wrong number of arguments\n",
+            36,
+            13,
+        ),
+        (
+            b"(defrel (a) succeed) (defrel (a) fail)",
+            "error 14 at 30: defined twice\n",
+            30,
+            14,
+        ),
+        (
+            b"(run* q (absento q 'a))",
+            "error 15 at 17: tag is not a quoted symbol\n",
+            17,
+            15,
+        ),
+        (
+            b"(run* q (foo x)) )",
+            "error 3 at 17: close without open\n",
+            17,
+            3,
+        ),
     ];
     for (text, line, at, number) in table {
         expect(&rt, text, 64, line, Status::Text(at, number))?;
