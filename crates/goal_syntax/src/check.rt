@@ -1,10 +1,10 @@
 //! Whether a text is accepted.
 
-ghost use Rattle.std.specs.Prelude.{◌≡◌, ◌+◌, ◌-◌, ◌<◌, ◌^◌, length, map, option_map, IfOk};
+ghost use Rattle.std.specs.Prelude.{◌≡◌, ◌+◌, ◌-◌, ◌<◌, ◌^◌, length, map, option_map, IfOk, OnOk};
 ghost use Rattle.sexpr.specs.Reads.{Extends};
 ghost use Rattle.sexpr.specs.Seen.{written};
 ghost use Rattle.kan_model.specs.TextFaults.{fault_of_text};
-ghost use Rattle.goal_syntax.specs.Checks.{Checks, memory_wanted};
+ghost use Rattle.goal_syntax.specs.Checks.{Checks, NamesPrefixes, memory_wanted};
 ghost use Rattle.goal_syntax.specs.FaultLists.{fault_of};
 ghost use Rattle.goal_syntax.specs.TurnWorks.{AreNumbered};
 
@@ -37,6 +37,7 @@ impl From<Memory> for SyntaxError {
 fn number_prefixes(names: &mut Names) -> Result<Prefixes, Memory>
     requires { length names.old + 3 < 2 ^ 32 }
     ensures numbered { IfOk result (λ prefixes. AreNumbered names.new prefixes) }
+    ensures named { OnOk result (NamesPrefixes names.new) }
     ensures names { Extends 3 names.old names.new }
 {
     let quote = names.intern("quote")?;

@@ -10,6 +10,7 @@ use Rattle.sexpr.specs.declared.data.Datum.{Datum}
 use Rattle.sexpr.specs.declared.data.ReadError.{ReadError}
 use Rattle.sexpr.specs.declared.data.ReadError.TheVariants.{Fault}
 use Rattle.sexpr.proofs.KeptLaws.{keeps_data}
+use Rattle.goal_syntax.specs.Checks.{NamesPrefixes}
 use Rattle.kanren_run.specs.Refusals.{Answered, unread, faulty, refusal, HasFault, fault_in, reading_fault}
 use Rattle.kanren_run.specs.Replies.{FirstFault, fault_of}
 use Rattle.kanren_run.specs.declared.refusal.Fault as code
@@ -33,9 +34,9 @@ pub same_refusal : (bytes : List ℕ) (a b m n : ℕ) → a ≡ b → m ≡ n �
 same_refusal bytes a b m n p q r = subst (λ at. Answered bytes (refusal at n)) p (subst (λ number. Answered bytes (refusal a number)) q r)
 
 -- data that were read have the fault that checking them finds
-pub checked_has : (bytes : List ℕ) (names later : Table) (ds : List Datum) (found : Option code.Fault) → read_text as_kept bytes ≡ data_are (map (written names) ds) → Extends 3 names later → option_map fault_of found ≡ fault_in later ds → FirstFault bytes found
-checked_has bytes names later ds None e (more, is, few) f = record { names = names; more = more; ds = ds; read = e; is = ap (λ t. fault_in t ds) (sym is) ∙ sym f }
-checked_has bytes names later ds (Some x) e (more, is, few) f = faulty (record { names = names; more = more; ds = ds; read = e; is = ap (λ t. fault_in t ds) (sym is) ∙ sym f })
+pub checked_has : (bytes : List ℕ) (names later : Table) (ds : List Datum) (found : Option code.Fault) → read_text as_kept bytes ≡ data_are (map (written names) ds) → Extends 3 names later → NamesPrefixes later → option_map fault_of found ≡ fault_in later ds → FirstFault bytes found
+checked_has bytes names later ds None e (more, is, few) named f = record { names = names; more = more; ds = ds; read = e; prefixes = subst NamesPrefixes is named; is = ap (λ t. fault_in t ds) (sym is) ∙ sym f }
+checked_has bytes names later ds (Some x) e (more, is, few) named f = faulty (record { names = names; more = more; ds = ds; read = e; prefixes = subst NamesPrefixes is named; is = ap (λ t. fault_in t ds) (sym is) ∙ sym f })
 
 -- what is no fault is none
 pub unfaulty : (bytes : List ℕ) (found : Option code.Fault) → ((x : code.Fault) → found ≡ Some x → ⊥) → FirstFault bytes found → HasFault bytes None

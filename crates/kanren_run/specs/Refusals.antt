@@ -6,6 +6,7 @@ use Rattle.kan_model.specs.TextFaults.{fault_of_text}
 use Rattle.kan_model.specs.Output.{error_line}
 use Rattle.sexpr.specs.Seen.{Table, written, as_kept}
 use Rattle.sexpr.specs.declared.data.Datum.{Datum}
+use Rattle.goal_syntax.specs.Checks.{NamesPrefixes}
 use Rattle.kanren_run.specs.Texts.{text_output}
 
 -- the refusals of data, by their numbers
@@ -44,12 +45,13 @@ AreData bytes names ds = read_text as_kept bytes ≡ data_are (map (written name
 abbrev pub fault_in : Table → List Datum → Option Fault
 fault_in names ds = fault_of_text names [] (map (written names) ds)
 
--- the data of a text have this fault, or none, under a table that names their symbols and maybe other words
+-- the data of a text have this fault, or none, under a table that names their symbols, those of prefixes and maybe other words
 pub record HasFault (bytes : List ℕ) (found : Option Fault) : Type 0 where
   pub names : Table
   pub more : Table
   pub ds : List Datum
   pub read : AreData bytes names ds
+  pub prefixes : NamesPrefixes (names ++ more)
   pub is : fault_in (names ++ more) ds ≡ found
 
 -- The answer of a text: a fault of the reading of its data comes first, then one of the data; a text without one is run, or isn't run yet.

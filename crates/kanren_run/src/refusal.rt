@@ -2,6 +2,7 @@
 
 ghost use Rattle.std.specs.Prelude.{◌≡◌, ◌≤◌, ◌<◌, ◌+◌, ◌^◌, ◌++◌, length, IfOk, OnOk, option_map, string_bytes};
 ghost use Rattle.sexpr.specs.Reads.{Extends};
+ghost use Rattle.goal_syntax.specs.Checks.{NamesPrefixes};
 ghost use Rattle.kanren_run.specs.Refusals as refusals;
 ghost use Rattle.kanren_run.specs.Replies.{FirstFault, fault_of};
 
@@ -24,6 +25,7 @@ pub(crate) struct Fault {
 fn fault_of_data(alloc: Global, forms: &[Datum], names: &mut Names) -> Result<Option<Fault>, Memory>
     requires { length names.old + 3 < 2 ^ 32 }
     ensures fault { IfOk result (λ found. option_map fault_of found ≡ refusals.fault_in names.new forms.now) }
+    ensures named { OnOk result (NamesPrefixes names.new) }
     ensures names { Extends 3 names.old names.new }
 {
     if u32::try_from(forms.len()).is_err() {

@@ -5,7 +5,7 @@ use Rattle.kanren_run.proofs.refusal.first_fault.Goals as goal
 
 pub returns-in-Ok : goal.returns-in-Ok
 returns-in-Ok c =
-    checked_has _ c.read.new.names c.fault_of_data.new.names _ _ c.in-Ok.ensures.reads c.in_ok-fault_of_data-in-Ok.ensures.names
+    checked_has _ c.read.new.names c.fault_of_data.new.names _ _ c.in-Ok.ensures.reads c.in_ok-fault_of_data-in-Ok.ensures.names c.in_ok-fault_of_data-in-Ok.ensures.named
     (c.in_ok-fault_of_data-in-Ok.ensures.fault ∙ ap (fault_in c.fault_of_data.new.names) c.as_slice.ensures)
 
 pub returns-in-Err-Fault : goal.returns-in-Err-Fault
