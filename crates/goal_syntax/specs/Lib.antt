@@ -14,3 +14,6 @@ pub mod Firsts
 pub mod Turning
 pub mod TurnWorks
 pub mod Checks
+pub mod Drafting
+pub mod Equational
+pub mod Compiles

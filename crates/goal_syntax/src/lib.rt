@@ -2,7 +2,11 @@
 #![tactic(auto)]
 
 mod binder;
+mod build_goal;
+mod build_term;
 mod check;
+mod compiling;
+mod drafting;
 mod fault;
 mod form;
 mod goal;
@@ -19,3 +23,4 @@ mod turn;
 mod word;
 
 pub use check::{SyntaxError, check_text};
+pub use compiling::{Compiled, Queries, compile};

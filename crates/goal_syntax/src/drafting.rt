@@ -1,0 +1,35 @@
+//! Drafts that keep room for more.
+
+ghost use Rattle.std.specs.Prelude.{◌≡◌, ◌&&◌, length, true, IfOk, OnOk};
+ghost use Rattle.kan_model.specs.Tables.{is_term_grown, is_goal_grown, template_of, goal_of};
+ghost use Rattle.kan_model.specs.Nodes.{term_entry, goal_entry};
+ghost use Rattle.kan_model.specs.Drafts.{tables, templates, goals};
+ghost use Rattle.goal_syntax.specs.Drafting.{HasTemplate, HasGoal, Grows, HasRoom};
+ghost use Rattle.goal_syntax.specs.Equational.{is_equational_entry, are_equational_entries};
+
+use kan_model::{Draft, GoalNode, TermNode};
+use kan_terms::Memory;
+
+/// Adds a template, and gives its place. A full table has no memory left.
+pub(crate) fn add_term(draft: &mut Draft, node: TermNode) -> Result<u32, Memory>
+    requires there { is_term_grown (length (tables draft.old).terms) (term_entry node) ≡ true }
+    requires room { HasRoom (tables draft.old) }
+    ensures made { IfOk result (λ at. HasTemplate (tables draft.new) at (template_of (templates draft.old) (term_entry node))) }
+    ensures grows { OnOk result (Grows (tables draft.old) (tables draft.new)) }
+    ensures room { OnOk result (HasRoom (tables draft.new)) }
+    ensures same { OnOk result ((tables draft.new).goals ≡ (tables draft.old).goals) }
+{
+    Err(Memory)
+}
+
+/// Adds a goal, and gives its place. A full table has no memory left.
+pub(crate) fn add_goal(draft: &mut Draft, node: GoalNode) -> Result<u32, Memory>
+    requires there { is_goal_grown (tables draft.old) (length (tables draft.old).goals) (goal_entry node) ≡ true }
+    requires room { HasRoom (tables draft.old) }
+    ensures made { IfOk result (λ at. HasGoal (tables draft.new) at (goal_of (templates draft.old) (tables draft.old).arguments (goals draft.old) (goal_entry node))) }
+    ensures grows { OnOk result (Grows (tables draft.old) (tables draft.new)) }
+    ensures room { OnOk result (HasRoom (tables draft.new)) }
+    ensures equational { OnOk result (are_equational_entries (tables draft.new).goals ≡ (are_equational_entries (tables draft.old).goals && is_equational_entry (goal_entry node))) }
+{
+    Err(Memory)
+}
