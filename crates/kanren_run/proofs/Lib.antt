@@ -2,6 +2,10 @@ pub mod WalkingLaws
 pub mod NamingLaws
 pub mod PrintingLaws
 pub mod AnswerLaws
-pub mod ReadLaws
-pub mod EngineLaws
+pub mod RunLaws
 pub mod RefusalLaws
+pub mod CommandLaws
+pub mod TextLaws
+pub mod WritingLaws
+pub mod Declared
+pub mod TopLaws

@@ -1,12 +1,10 @@
 pub mod Walking
 pub mod Naming
 pub mod Printing
-pub mod Endings
-pub mod Lexemes
-pub mod FirstTexts
-pub mod Texts
+pub mod Commands
 pub mod Refusals
+pub mod Answers
+pub mod Writing
+pub mod Equations
 pub mod Replies
 pub mod Outcomes
-pub mod Read
-pub mod Sides

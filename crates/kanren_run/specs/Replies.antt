@@ -1,21 +1,35 @@
--- What the answers of the code stand for.
-use Rattle.std.specs.Prelude.{◌≡◌, ℕ, List, Option, Some, None, string_bytes}
-use Rattle.kan_model.specs.Faults as model
-use Rattle.kanren_run.specs.Refusals.{output, refusal, Answered, HasFault, refusal_line}
-use Rattle.kanren_run.specs.declared.refusal.Fault.{Fault}
-use Rattle.kanren_run.specs.declared.reply.Reply.{Reply}
-use Rattle.kanren_run.specs.declared.reply.Reply.TheVariants.{Output, Refused}
+-- What a text comes to: its program and runs, or a refusal.
+use Rattle.std.specs.Prelude.{◌≡◌, ℕ, true, false, List, [], None, Result, Ok, Err}
+use Rattle.kan_model.specs.Programs as programs
+use Rattle.kan_model.specs.declared.program.Program.{Program}
+use Rattle.kan_model.specs.declared.nodes.Query.{Query}
+use Rattle.sexpr.specs.Seen.{Table}
+use Rattle.goal_syntax.specs.Compiles.{IsCompiled}
+use Rattle.goal_syntax.specs.Equational.{are_equational_entries}
+use Rattle.goal_syntax.specs.declared.compiling.Compiled.{Compiled}
+use Rattle.kanren_run.specs.Answers.{HasFault, Answered, refusal, names_of, has_equations_alone}
+use Rattle.kanren_run.specs.declared.text.NotRun.{NotRun}
+use Rattle.kanren_run.specs.declared.text.NotRun.TheVariants.{Fault, Memory}
 
--- a fault is an offset and a number
-abbrev pub fault_of : Fault → model.Fault
-fault_of f = model.fault f.at f.number
+-- a program and its runs are those of a text without a fault, which has equations alone, under the names of its symbols
+pub record HasRuns (bytes : List ℕ) (names : Table) (program : Program) (queries : List Query) : Type 0 where
+  pub text : HasFault bytes None
+  pub names_are : names_of text ≡ names
+  pub compiled : IsCompiled (names_of text) [] text.ds program queries
+  pub alone : has_equations_alone text ≡ true
 
--- a text is refused for a fault, or its data have none
-abbrev pub FirstFault : List ℕ → Option Fault → Type 0
-FirstFault bytes (Some f) = Answered bytes (refusal f.at f.number)
-FirstFault bytes None = HasFault bytes None
+-- a text is answered with a refusal at each fuel
+abbrev pub IsRefused : List ℕ → ℕ → ℕ → Type 0
+IsRefused bytes at number = (fuel : ℕ) → Answered fuel bytes (refusal at number)
 
--- the answer of a text, with the line of its refusal
-abbrev pub Replies : List ℕ → Reply → Type 0
-Replies text (Output out) = Answered text (output (string_bytes out))
-Replies text (Refused f line) = Answered text (refusal f.at f.number) × (string_bytes line ≡ refusal_line f.at f.number)
+-- a text has a program and runs under these names, or is refused; want of memory says nothing
+abbrev pub ComesTo : List ℕ → Table → Result Compiled NotRun → Type 0
+ComesTo bytes names (Ok c) = HasRuns bytes names c.program c.queries
+ComesTo bytes names (Err (Fault f)) = IsRefused bytes f.at f.number
+ComesTo bytes names (Err Memory) = Unit {0}
+
+-- a program comes back where its table of goals has equations alone, and is refused as not built exactly where it hasn't
+abbrev pub EquationsAlone : Compiled → Result Compiled NotRun → Type 0
+EquationsAlone c (Ok back) = (back ≡ c) × (are_equational_entries (programs.tables c.program).goals ≡ true)
+EquationsAlone c (Err (Fault f)) = (f.at ≡ 0) × (f.number ≡ 0) × (are_equational_entries (programs.tables c.program).goals ≡ false)
+EquationsAlone c (Err Memory) = ⊥

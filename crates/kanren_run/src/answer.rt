@@ -7,25 +7,15 @@ ghost use Rattle.kan_model.specs.Solve.{image};
 ghost use Rattle.kan_model.specs.Answers.{in_names, named_variables as variables_named};
 ghost use Rattle.kan_model.specs.Output as output;
 ghost use Rattle.kan_model.specs.StoreCalls.{answer, is_equation};
-ghost use Rattle.kanren_run.specs.Endings.{ending_of};
+ghost use Rattle.kan_search.specs.Batches.{ending_of};
 
 use crate::naming::{named_variables, rename_all};
 use crate::printing::print_term;
 use crate::walking::spell_in;
 use kan_model::{Store, build};
+use kan_search::Ended;
 use kan_terms::{Memory, Names, Term};
 use std::alloc::Global;
-
-/// How a run ends.
-#[derive(Clone, Copy)]
-pub(crate) enum Ended {
-    /// The stream has no more answers.
-    End,
-    /// The limit of answers was reached.
-    Limit,
-    /// The fuel was spent.
-    Fuel,
-}
 
 // What the query variable stands for in a store, with its variables named.
 fn answer_term<St: Store>(alloc: Global, store: &St) -> Result<Term, Memory>

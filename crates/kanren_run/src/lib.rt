@@ -2,14 +2,13 @@
 #![tactic(auto)]
 
 mod answer;
-mod engine;
-mod lexer;
+mod command;
 mod naming;
 mod printing;
-mod reader;
 mod refusal;
-mod reply;
+mod text;
 mod top;
 mod walking;
+mod writing;
 
 pub use top::kanren_alone;

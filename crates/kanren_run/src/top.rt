@@ -1,17 +1,29 @@
 //! The top call: from a source of bytes to a sink.
 
-ghost use Rattle.std.specs.Prelude.{◌≡◌, ◌≤◌, true, false, not, length};
+ghost use Rattle.std.specs.Prelude.{◌≡◌, ◌≤◌, [], true, false, not, length, string_bytes, IfOk, List, ℕ};
 ghost use Rattle.kan_base.specs.Spots.{Spot};
-ghost use Rattle.kanren_run.specs.Outcomes.{Answers, CountsAt, IsComplete, Outcome, is_command, is_usage};
+ghost use Rattle.kanren_run.specs.Commands.{fuel_of, is_command, texts};
+ghost use Rattle.kanren_run.specs.Outcomes.{Answers, CountsAt, IsComplete, Outcome, is_usage};
+ghost use Rattle.kanren_run.specs.Replies.{HasRuns, IsRefused};
+ghost use Rattle.kanren_run.specs.Refusals.{refusal_line};
+ghost use Rattle.kanren_run.specs.Writing.{CanRun};
 
-use crate::reply::{Reply, reply_to};
+use crate::command::fuel_named;
+use crate::refusal::{Fault, print_refusal};
+use crate::text::{NotRun, compile_text};
+use crate::writing::{Stop, write_runs};
+use goal_syntax::Compiled;
 use kan_base::{Place, Sink, Source, Status, TextStop, put_all, take_text};
+use kan_model::PlainStore;
+use kan_terms::{Memory, Names};
 use std::alloc::Global;
 
 /// Reads standard input to its end, runs the text, and writes its output.
 ///
-/// The words are those after the program's name; a line of the command has none so far. The answers of a run come in the order of its
-/// stream; each is one line, and behind them comes the run's summary line. A text that is refused, or that isn't run yet, gives one line that says so.
+/// The words are those after the program's name: none, or `--fuel` and a number from 1 to 1,000,000, which is how many
+/// pulls each run makes at most; it is 100,000 where nothing is said. The answers of a run come in the order of its stream,
+/// each a line, and behind them the run's summary line; they are written as they are found. A text that is refused gives one
+/// line that says so.
 pub fn kanren_alone<S: Source, K: Sink>(
     alloc: Global,
     words: &[&str],
@@ -19,7 +31,7 @@ pub fn kanren_alone<S: Source, K: Sink>(
     sink: &mut K,
 ) -> Status
     // What each status says of the call.
-    ensures outcome { Outcome (record {
+    ensures outcome { Outcome (fuel_of (texts words.now)) (record {
       held = S.holds source.old Spot.input;
       left = S.left source.new;
       read_faults = S.faults source.old;
@@ -30,7 +42,7 @@ pub fn kanren_alone<S: Source, K: Sink>(
       write_faults_after = K.faults sink.new;
     }) result }
     // Usage comes exactly where the words are no line of the command, and then the source isn't opened.
-    ensures usage { is_usage result ≡ not (is_command words.now) }
+    ensures usage { is_usage result ≡ not (is_command (texts words.now)) }
     ensures unopened { is_usage result ≡ true → source.new ≡ source.old }
     // A count of faults rose only where the status says so.
     ensures counts { CountsAt (record {
@@ -44,7 +56,7 @@ pub fn kanren_alone<S: Source, K: Sink>(
       write_faults_after = K.faults sink.new;
     }) result }
     // Where nothing fails, a text that isn't too long has its answer.
-    ensures complete { is_command words.now ≡ true → IsComplete (record {
+    ensures complete { is_command (texts words.now) ≡ true → IsComplete (fuel_of (texts words.now)) (record {
       held = S.holds source.old Spot.input;
       left = S.left source.new;
       read_faults = S.faults source.old;
@@ -55,15 +67,21 @@ pub fn kanren_alone<S: Source, K: Sink>(
       write_faults_after = K.faults sink.new;
     }) result }
 {
-    if !words.is_empty() {
-        return Status::Usage;
+    match fuel_named(words) {
+        Some(fuel) => answer_input(alloc, fuel, source, sink),
+        None => Status::Usage,
     }
-    answer_input(alloc, source, sink)
 }
 
 // Answers the text on standard input.
-fn answer_input<S: Source, K: Sink>(alloc: Global, source: &mut S, sink: &mut K) -> Status
-    ensures outcome { Outcome (record {
+fn answer_input<S: Source, K: Sink>(
+    alloc: Global,
+    fuel: u64,
+    source: &mut S,
+    sink: &mut K,
+) -> Status
+    requires { 1 ≤ fuel × (fuel ≤ 1000000) }
+    ensures outcome { Outcome fuel (record {
       held = S.holds source.old Spot.input;
       left = S.left source.new;
       read_faults = S.faults source.old;
@@ -84,7 +102,7 @@ fn answer_input<S: Source, K: Sink>(alloc: Global, source: &mut S, sink: &mut K)
       write_faults = K.faults sink.old;
       write_faults_after = K.faults sink.new;
     }) result }
-    ensures complete { IsComplete (record {
+    ensures complete { IsComplete fuel (record {
       held = S.holds source.old Spot.input;
       left = S.left source.new;
       read_faults = S.faults source.old;
@@ -96,27 +114,66 @@ fn answer_input<S: Source, K: Sink>(alloc: Global, source: &mut S, sink: &mut K)
     }) result }
 {
     match take_text(alloc, source, Place::Input) {
-        Ok(text) => answer_text(alloc, &text, sink),
+        Ok(text) => answer_text(alloc, fuel, &text, sink),
         Err(TextStop::Fault) => Status::ReadFault,
         Err(TextStop::TooLong) => Status::TooLong,
         Err(TextStop::Memory) => Status::Memory,
     }
 }
 
-// Writes the output of a text that was read whole.
-fn answer_text<K: Sink>(alloc: Global, text: &[u8], sink: &mut K) -> Status
-    requires { length text.now ≤ 1048576 }
-    ensures { Answers text.now (K.put sink.old) (K.put sink.new) (K.faults sink.old) (K.faults sink.new) result }
+// Writes what a text that was read whole is answered with.
+fn answer_text<K: Sink>(alloc: Global, fuel: u64, text: &[u8], sink: &mut K) -> Status
+    requires short { length text.now ≤ 1048576 }
+    requires fuel { 1 ≤ fuel × (fuel ≤ 1000000) }
+    ensures { Answers fuel text.now (K.put sink.old) (K.put sink.new) (K.faults sink.old) (K.faults sink.new) result }
 {
-    match reply_to(alloc, text) {
-        Err(_) => Status::Memory,
-        Ok(Reply::Refused(fault, line)) => match put_all(sink, line.as_bytes()) {
-            Ok(()) => Status::Text(fault.at, fault.number),
-            Err(_) => Status::WriteFault,
-        },
-        Ok(Reply::Output(output)) => match put_all(sink, output.as_bytes()) {
-            Ok(()) => Status::Done,
-            Err(_) => Status::WriteFault,
-        },
+    let mut names = Names::new(alloc);
+    match compile_text(alloc, text, &mut names) {
+        Ok(compiled) => answer_runs(alloc, fuel, &compiled, &names, sink),
+        Err(NotRun::Fault(fault)) => refuse(alloc, fault, sink),
+        Err(NotRun::Memory) => Status::Memory,
+    }
+}
+
+// Writes the runs of a text.
+fn answer_runs<K: Sink>(
+    alloc: Global,
+    fuel: u64,
+    compiled: &Compiled,
+    names: &Names,
+    sink: &mut K,
+) -> Status
+    requires fuel { 1 ≤ fuel × (fuel ≤ 1000000) }
+    requires can_run { CanRun compiled.now.program compiled.now.queries }
+    ensures { (text : List ℕ) → HasRuns text names.now compiled.now.program compiled.now.queries → Answers fuel text (K.put sink.old) (K.put sink.new) (K.faults sink.old) (K.faults sink.new) result }
+{
+    let Compiled { program, queries } = compiled;
+    match write_runs::<K, PlainStore>(alloc, program, queries.items(), fuel, names, sink) {
+        Ok(false) => Status::Done,
+        Ok(true) => Status::Fuel,
+        Err(Stop::Fault) => Status::WriteFault,
+        Err(Stop::Memory) => Status::Memory,
+    }
+}
+
+// The line of a fault.
+fn line_of(alloc: Global, fault: Fault) -> Result<String, Memory>
+    ensures { IfOk result (λ line. string_bytes line ≡ refusal_line fault.at fault.number) }
+{
+    let mut line = String::new(alloc);
+    print_refusal(fault, &mut line)?;
+    Ok(line)
+}
+
+// Writes the line of a fault.
+fn refuse<K: Sink>(alloc: Global, fault: Fault, sink: &mut K) -> Status
+    ensures { (fuel : ℕ) (text : List ℕ) → IsRefused text fault.at fault.number → Answers fuel text (K.put sink.old) (K.put sink.new) (K.faults sink.old) (K.faults sink.new) result }
+{
+    let Ok(line) = line_of(alloc, fault) else {
+        return Status::Memory;
+    };
+    match put_all(sink, line.as_bytes()) {
+        Ok(()) => Status::Text(fault.at, fault.number),
+        Err(_) => Status::WriteFault,
     }
 }

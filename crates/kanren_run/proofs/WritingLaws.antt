@@ -1,0 +1,302 @@
+-- What is written of runs, piece after piece.
+use Rattle.std.proofs.Common.{◌≡◌, ℕ, zero, suc, ◌+◌, ◌<◌, ◌≤◌, true, Option, Some, None, Ok, Err, ap₂, subst, length-append, List, [], ◌∷◌, ◌++◌, map, take, drop, Bool, false, length, refl, sym, ◌∙◌, ap, arith, append-nil, append_assoc}
+use Rattle.std.proofs.Math.ListN.{get_or}
+use Rattle.std.specs.Prelude.{◌⊎◌, Result, ◌||◌, nat_lt, ◌&&◌}
+use Rattle.std.proofs.lemmas.Bool.{and_parts}
+use Rattle.std.specs.Result.{IsErrAnd}
+use Rattle.std.proofs.lemmas.List.{length-map}
+use Rattle.std.proofs.Common.{inl, inr}
+use Rattle.std.specs.List.{list_all}
+use Rattle.std.specs.Io.KnownBytes.{Appends}
+use Rattle.std.proofs.KnownBytes.{Appends-nil, Appends-trans}
+use Rattle.std.proofs.lemmas.Grind.{flat_map-append}
+use Rattle.kan_base.specs.Faults.{Rose}
+use Rattle.kan_base.specs.Writes.{PutsFront}
+use Rattle.kan_model.specs.Goals.{Program, Query, Goal}
+use Rattle.kan_model.specs.Nodes.{goal_place}
+use Rattle.kan_model.specs.Programs as programs
+use Rattle.kan_model.specs.Scope.{is_closed, is_low, calls_there, body_in_scope, in_scope}
+use Rattle.kan_model.specs.Tables.{nothing_open, templates_of, program_of, goal_at, goals_of}
+use Rattle.kanren_run.proofs.Declared as declared
+use Rattle.kan_model.specs.Stores.{Store}
+use Rattle.kan_model.specs.Text.{Table}
+use Rattle.kan_model.specs.Taking.{Taken, taken}
+use Rattle.kan_model.specs.Output.{answer_line, summary_line, taken_text, runs_output}
+use Rattle.kan_search.specs.Batches.{Advances, joined, ending_of, query_of}
+use Rattle.kan_search.specs.declared.batch.Ended.{Ended}
+use Rattle.kanren_run.specs.Writing.{Puts, Stops, Written, WritesNext, Continues, CanRun, answer_lines, end_text, rest_text}
+use Rattle.kanren_run.specs.declared.writing.Stop.{Stop}
+use Rattle.kanren_run.specs.declared.writing.Stop.TheVariants.{Fault, Memory}
+use Rattle.goal_syntax.specs.Equational.{is_equational_query}
+use Rattle.kanren_run.specs.Answers.{is_fuel, spends}
+use Rattle.kanren_run.specs.Equations.{HasEquations, Each}
+
+-- the lines of the answers so far, and of one more
+pub lines_more : {X : Type 0} (table : Table) (means : X → Store) (xs : List X) (i : ℕ) (d : X) → i < length xs →
+    answer_lines table (map means (take (suc i) xs)) ≡ answer_lines table (map means (take i xs)) ++ answer_line table (means (get_or xs i d))
+lines_more table means [] i d within = absurd (omega (arith, within))
+lines_more table means (x ∷ xs) zero d within = append-nil (answer_line table (means x))
+lines_more table means (x ∷ xs) (suc i) d within =
+    ap (λ l. answer_line table (means x) ++ l) (lines_more table means xs i d (omega (arith, within)))
+    ∙ sym (append_assoc (answer_line table (means x)) (answer_lines table (map means (take i xs))) (answer_line table (means (get_or xs i d))))
+
+-- a text with the lines of one more
+pub text_more : {X : Type 0} (table : Table) (means : X → Store) (xs : List X) (i : ℕ) (x : X) (before text new : List ℕ) → i < length xs → x ≡ get_or xs i x →
+    text ≡ before ++ answer_lines table (map means (take i xs)) → new ≡ text ++ answer_line table (means x) → new ≡ before ++ answer_lines table (map means (take (i + 1) xs))
+text_more table means xs i x before text new within is so_far added =
+    let next : i + 1 ≡ suc i = omega arith in
+    added ∙ ap (λ t. t ++ answer_line table (means x)) so_far
+    ∙ append_assoc before (answer_lines table (map means (take i xs))) (answer_line table (means x))
+    ∙ ap (λ l. before ++ l) (ap (λ y. answer_lines table (map means (take i xs)) ++ answer_line table (means y)) is ∙ sym (lines_more table means xs i x within)
+    ∙ ap (λ k. answer_lines table (map means (take k xs))) (sym next))
+
+-- a fact of each is one of that at a place
+pub each-at : {X : Type 0} (means : X → Store) (xs : List X) (i : ℕ) (d : X) → i < length xs → Each HasEquations (map means xs) → HasEquations (means (get_or xs i d))
+each-at means [] i d within each = absurd (omega (arith, within))
+each-at means (x ∷ xs) zero d within (first, rest) = first
+each-at means (x ∷ xs) (suc i) d within (first, rest) = each-at means xs i d (omega (arith, within)) rest
+
+-- what is written of a batch and of what is left after it
+rest-joined : (table : Table) (n p : ℕ) (sts : List Store) (k : ℕ) (t : Taken) → rest_text table n p (joined sts k t) ≡ answer_lines table sts ++ rest_text table (n + length sts) (p + k) t
+rest-joined table n p sts k t =
+    let counts : n + length (sts ++ t.stores) ≡ n + length sts + length t.stores = let l = length-append sts t.stores in omega (arith, l) in
+    let pulled : p + (k + t.pulls) ≡ p + k + t.pulls = omega arith in
+    ap₂ (λ a b. answer_lines table (sts ++ t.stores) ++ summary_line a b t.ending) counts pulled
+    ∙ ap (λ l. l ++ summary_line (n + length sts + length t.stores) (p + k + t.pulls) t.ending) (flat_map-append (answer_line table) sts t.stores)
+    ∙ append_assoc (answer_lines table sts) (answer_lines table t.stores) (summary_line (n + length sts + length t.stores) (p + k + t.pulls) t.ending)
+
+-- pieces of a text, put one after the other
+pub begun : (text : List ℕ) (put : Option (List ℕ)) (faults : ℕ) → Written text put put faults faults text
+begun text put faults = record { front = []; parts = refl; put_front = Appends-nil put; still = refl }
+
+pub written_more : (text rest last piece : List ℕ) (a b c : Option (List ℕ)) (f g h : ℕ) → Written text a b f g rest → rest ≡ piece ++ last → Appends b c piece → h ≡ g → Written text a c f h last
+written_more text rest last piece a b c f g h w parts put still = record {
+  front = w.front ++ piece;
+  parts = w.parts ∙ ap (λ l. w.front ++ l) parts ∙ sym (append_assoc w.front piece last);
+  put_front = Appends-trans a b c w.front piece w.put_front put;
+  still = still ∙ w.still;
+}
+
+pub written_on : (text rest last : List ℕ) (a b c : Option (List ℕ)) (f g h : ℕ) → Written text a b f g rest → Written rest b c g h last → Written text a c f h last
+written_on text rest last a b c f g h w v = written_more text rest last v.front a b c f g h w v.parts v.put_front v.still
+
+pub all_written : {A : Type 0} (text : List ℕ) (x : A) (a b : Option (List ℕ)) (f g : ℕ) → Written text a b f g [] → Puts text a b f g (Ok x)
+all_written text x a b f g w = (subst (Appends a b) (sym (w.parts ∙ append-nil w.front)) w.put_front, w.still)
+
+-- a front of what is left is one of the whole text
+front_on : (text rest : List ℕ) (a b c : Option (List ℕ)) (front : List ℕ) → text ≡ front ++ rest → Appends a b front → PutsFront b c rest → PutsFront a c text
+front_on text rest a b c front parts put next = record {
+  front = front ++ next.front;
+  rest = next.rest;
+  parts = parts ∙ ap (λ l. front ++ l) next.parts ∙ sym (append_assoc front next.front next.rest);
+  put = Appends-trans a b c front next.front put next.put;
+}
+
+pub stops_on : (text rest : List ℕ) (s : Stop) (a b c : Option (List ℕ)) (f g h : ℕ) → Written text a b f g rest → Stops rest b c g h s → Stops text a c f h s
+stops_on text rest Fault a b c f g h w (front, rose, more) =
+    (front_on text rest a b c w.front w.parts w.put_front front, subst (λ n. Rose n h) w.still rose, subst (λ n. n ≤ h) w.still more)
+stops_on text rest Memory a b c f g h w (front, still) = (front_on text rest a b c w.front w.parts w.put_front front, still ∙ w.still)
+
+pub ends_on : {A B : Type 0} (text rest : List ℕ) (x : A) (y : B) (a b c : Option (List ℕ)) (f g h : ℕ) → Written text a b f g rest → Puts {A = A} rest b c g h (Ok x) → Puts {A = B} text a c f h (Ok y)
+ends_on text rest x y a b c f g h w (put, still) = (subst (Appends a c) (sym w.parts) (Appends-trans a b c w.front rest w.put_front put), still ∙ w.still)
+
+-- want of memory before anything was put
+pub nothing_put : (text : List ℕ) (a : Option (List ℕ)) (f : ℕ) → Stops text a a f f Memory
+nothing_put text a f = (record { front = []; rest = text; parts = refl; put = Appends-nil a }, refl)
+
+-- what was put of a front is put of the whole
+pub front_stops : (text front rest : List ℕ) (s : Stop) (a b : Option (List ℕ)) (f g : ℕ) → text ≡ front ++ rest → Stops front a b f g s → Stops text a b f g s
+front_stops text front rest Fault a b f g parts (w, rose, more) =
+    (record { front = w.front; rest = w.rest ++ rest; parts = parts ∙ ap (λ l. l ++ rest) w.parts ∙ append_assoc w.front w.rest rest; put = w.put }, rose, more)
+front_stops text front rest Memory a b f g parts (w, still) =
+    (record { front = w.front; rest = w.rest ++ rest; parts = parts ∙ ap (λ l. l ++ rest) w.parts ∙ append_assoc w.front w.rest rest; put = w.put }, still)
+
+-- the lines of a batch, and those that are left after it
+batch_parts : (table : Table) (round : ℕ) (before : Taken) (n p : ℕ) (sts : List Store) (ended : Option Ended) (after : Taken) (m q : ℕ) → Advances round before p sts ended after q → m ≡ n + length sts →
+    rest_text table n p before ≡ answer_lines table sts ++ rest_text table m q after
+batch_parts table round before n p sts ended after m q adv counted =
+    ap (rest_text table n p) adv.joins ∙ rest-joined table n p sts adv.made after
+    ∙ ap₂ (λ a b. answer_lines table sts ++ rest_text table a b after) (sym counted) (sym adv.counted)
+
+-- a batch that doesn't end a run takes something of what is left
+batch_less : (round : ℕ) (before : Taken) (p : ℕ) (sts : List Store) (after : Taken) (q : ℕ) → 1 ≤ round → Advances round before p sts None after q → length after.stores + after.pulls < length before.stores + before.pulls
+batch_less round before p sts after q some adv =
+    let stores : length before.stores ≡ length sts + length after.stores = ap (λ (t : Taken). length t.stores) adv.joins ∙ length-append sts after.stores in
+    let pulls : before.pulls ≡ adv.made + after.pulls = ap (λ (t : Taken). t.pulls) adv.joins in
+    from adv.ends stores pulls
+  where
+    from : (length sts ≡ 1024) ⊎ (adv.made ≡ round) → length before.stores ≡ length sts + length after.stores → before.pulls ≡ adv.made + after.pulls → length after.stores + after.pulls < length before.stores + before.pulls
+    from (inl full) stores pulls = omega (arith, full, stores, pulls)
+    from (inr whole) stores pulls = omega (arith, whole, stores, pulls, some)
+
+-- the stores that are left after a batch are among those that were left before it
+each-after : (xs ys : List Store) → Each HasEquations (xs ++ ys) → Each HasEquations ys
+each-after [] ys each = each
+each-after (x ∷ xs) ys (first, rest) = each-after xs ys rest
+
+pub each-front : (xs ys : List Store) → Each HasEquations (xs ++ ys) → Each HasEquations xs
+each-front [] ys each = tt
+each-front (x ∷ xs) ys (first, rest) = (first, each-front xs ys rest)
+
+pub batch_equations : (round : ℕ) (before : Taken) (p : ℕ) (sts : List Store) (ended : Option Ended) (after : Taken) (q : ℕ) → Advances round before p sts ended after q → Each HasEquations before.stores → Each HasEquations sts
+batch_equations round before p sts ended after q adv each = each-front sts after.stores (subst (λ (t : Taken). Each HasEquations t.stores) adv.joins each)
+
+-- how many answers there are after a batch
+pub batch_counted : {X : Type 0} (means : X → Store) (xs : List X) (m n k : ℕ) → m ≡ n + k → k ≡ length xs → m ≡ n + length (map means xs)
+batch_counted means xs m n k sum counted = sum ∙ ap (λ l. n + l) (counted ∙ sym (length-map xs means))
+
+-- what is written of a run that ends by a batch
+last_lines : (table : Table) (round : ℕ) (before : Taken) (n p : ℕ) (sts : List Store) (e : Ended) (after : Taken) (m q : ℕ) → Advances round before p sts (Some e) after q → m ≡ n + length sts →
+    rest_text table n p before ≡ answer_lines table sts ++ end_text m q (Some e)
+last_lines table round before n p sts e after m q adv counted =
+    batch_parts table round before n p sts (Some e) after m q adv counted ∙ ap (λ t. answer_lines table sts ++ rest_text table m q t) adv.ends
+    ∙ ap₂ (λ x y. answer_lines table sts ++ summary_line x y (ending_of e)) (omega arith) (omega arith)
+
+-- what is written by a batch, and what is left
+next_lines : (table : Table) (round : ℕ) (before : Taken) (n p : ℕ) (sts : List Store) (ended : Option Ended) (after : Taken) (m q : ℕ) → Advances round before p sts ended after q → m ≡ n + length sts →
+    (rest : List ℕ) × (rest_text table n p before ≡ (answer_lines table sts ++ end_text m q ended) ++ rest)
+next_lines table round before n p sts None after m q adv counted =
+    (rest_text table m q after, batch_parts table round before n p sts None after m q adv counted ∙ ap (λ l. l ++ rest_text table m q after) (sym (append-nil (answer_lines table sts))))
+next_lines table round before n p sts (Some e) after m q adv counted = ([], last_lines table round before n p sts e after m q adv counted ∙ sym (append-nil (answer_lines table sts ++ end_text m q (Some e))))
+
+-- what the writing of a batch makes of the writing of a run, where the count of pulls is read after it
+pub next_written : (table : Table) (round : ℕ) (before : Taken) (n p : ℕ) (sts : List Store) (ended : Option Ended) (after : Taken) (m q r : ℕ) (a b : Option (List ℕ)) (f g : ℕ) →
+    1 ≤ round → Each HasEquations before.stores → Advances round before p sts ended after q → m ≡ n + length sts → r ≡ q →
+    Appends a b (answer_lines table sts ++ end_text m r ended) × (g ≡ f) → WritesNext table before n p after m q a b f g (Ok ended)
+next_written table round before n p sts None after m q r a b f g some each adv counted read (put, still) = record {
+  written = record { front = answer_lines table sts; parts = batch_parts table round before n p sts None after m q adv counted; put_front = subst (Appends a b) (append-nil (answer_lines table sts)) put; still = still };
+  equations = each-after sts after.stores (subst (λ (t : Taken). Each HasEquations t.stores) adv.joins each);
+  ending = sym (ap (λ (t : Taken). t.ending) adv.joins);
+  less = batch_less round before p sts after q some adv;
+}
+next_written table round before n p sts (Some e) after m q r a b f g some each adv counted read (put, still) = (
+  subst (Appends a b) (ap (λ k. answer_lines table sts ++ end_text m k (Some e)) read ∙ sym (last_lines table round before n p sts e after m q adv counted)) put,
+  still,
+  sym (ap (λ (t : Taken). t.ending) adv.joins ∙ ap (λ (t : Taken). t.ending) adv.ends),
+)
+
+pub next_stopped : (table : Table) (round : ℕ) (before : Taken) (n p : ℕ) (sts : List Store) (ended : Option Ended) (after : Taken) (m q r : ℕ) (a b : Option (List ℕ)) (f g : ℕ) (s : Stop) →
+    Advances round before p sts ended after q → m ≡ n + length sts → r ≡ q → Stops (answer_lines table sts ++ end_text m r ended) a b f g s → Stops (rest_text table n p before) a b f g s
+next_stopped table round before n p sts ended after m q r a b f g s adv counted read stopped =
+    let (rest, parts) = next_lines table round before n p sts ended after m q adv counted in
+    front_stops (rest_text table n p before) (answer_lines table sts ++ end_text m r ended) rest s a b f g
+    (parts ∙ ap (λ k. (answer_lines table sts ++ end_text m k ended) ++ rest) (sym read)) stopped
+
+-- a failure as a result
+pub err_puts : {A : Type 0} (text : List ℕ) (a b : Option (List ℕ)) (f g : ℕ) (s : Stop) (r : Result A Stop) → IsErrAnd r (λ e. e ≡ s) → Stops text a b f g s → Puts text a b f g r
+err_puts text a b f g s (Ok x) is stops = absurd is
+err_puts text a b f g s (Err e) is stops = subst (Stops text a b f g) (sym is) stops
+
+-- want of memory before the next lines were put
+pub next_wanted : (table : Table) (before after : Taken) (n p m q f : ℕ) (a : Option (List ℕ)) (r : Result (Option Ended) Stop) → IsErrAnd r (λ s. s ≡ Memory) → WritesNext table before n p after m q a a f f r
+next_wanted table before after n p m q f a (Ok x) wanted = absurd wanted
+next_wanted table before after n p m q f a (Err s) wanted = subst (λ t. Stops (rest_text table n p before) a a f f t) (sym wanted) (nothing_put (rest_text table n p before) a f)
+
+-- the last lines, after others, and lines after which more come
+pub run_ended : (total : List ℕ) (table : Table) (before : Taken) (n p : ℕ) (after : Taken) (m q : ℕ) (a b c : Option (List ℕ)) (f g h : ℕ) (o : Option Ended) (e : Ended) → o ≡ Some e →
+    Written total a b f g (rest_text table n p before) → WritesNext table before n p after m q b c g h (Ok o) → Appends a c total × (h ≡ f)
+run_ended total table before n p after m q a b c f g h o e is w next =
+    let (put, still, ending) = subst (λ x. WritesNext table before n p after m q b c g h (Ok x)) is next in
+    (subst (Appends a c) (sym w.parts) (Appends-trans a b c w.front (rest_text table n p before) w.put_front put), still ∙ w.still)
+
+pub run_ending : (table : Table) (before : Taken) (n p : ℕ) (after : Taken) (m q : ℕ) (b c : Option (List ℕ)) (g h : ℕ) (o : Option Ended) (e : Ended) → o ≡ Some e → WritesNext table before n p after m q b c g h (Ok o) → ending_of e ≡ before.ending
+run_ending table before n p after m q b c g h o e is next = (subst (λ x. WritesNext table before n p after m q b c g h (Ok x)) is next).2
+
+pub run_goes_on : (table : Table) (before : Taken) (n p : ℕ) (after : Taken) (m q : ℕ) (b c : Option (List ℕ)) (g h : ℕ) (o : Option Ended) → ((e : Ended) → o ≡ Some e → ⊥) → WritesNext table before n p after m q b c g h (Ok o) →
+    Continues table before n p after m q b c g h
+run_goes_on table before n p after m q b c g h None isnt next = next
+run_goes_on table before n p after m q b c g h (Some e) isnt next = elim (isnt e refl) [ ]
+
+-- what is to be written of a run at its start
+pub start_text : (table : Table) (p : ℕ) (t u : Taken) → p ≡ 0 → t ≡ u → rest_text table 0 p t ≡ taken_text table u
+start_text table p t u none same =
+    ap₂ (λ k x. rest_text table 0 k x) none same ∙ ap₂ (λ n k. answer_lines table u.stores ++ summary_line n k u.ending) (omega arith) (omega arith)
+
+-- the items from a place on
+pub drop_at : {X : Type 0} (xs : List X) (i : ℕ) (x : X) → i < length xs → x ≡ get_or xs i x → drop i xs ≡ x ∷ drop (i + 1) xs
+drop_at xs i x within is = let next : suc i ≡ i + 1 = omega arith in from xs i x within is ∙ ap (λ k. x ∷ drop k xs) next
+  where
+    from : {X : Type 0} (xs : List X) (i : ℕ) (x : X) → i < length xs → x ≡ get_or xs i x → drop i xs ≡ x ∷ drop (suc i) xs
+    from [] i x within is = absurd (omega (arith, within))
+    from (y ∷ xs) zero x within is = ap (λ z. z ∷ xs) (sym is)
+    from (y ∷ xs) (suc i) x within is = from xs i x (omega (arith, within)) is
+
+-- the lines of a run, and then those of the later ones
+pub runs_more : (table : Table) (program : Program) (fuel : ℕ) (means : declared.Query → Query) (qs : List declared.Query) (i : ℕ) (q : declared.Query) → i < length qs → q ≡ get_or qs i q →
+    runs_output table program fuel (map means (drop i qs)) ≡ taken_text table (taken program fuel (means q)) ++ runs_output table program fuel (map means (drop (i + 1) qs))
+runs_more table program fuel means qs i q within is = ap (λ l. runs_output table program fuel (map means l)) (drop_at qs i q within is)
+
+-- whether a run spent its fuel, among those so far and this one and the later ones
+pub spends_more : (program : Program) (fuel : ℕ) (means : declared.Query → Query) (qs : List declared.Query) (i : ℕ) (q : declared.Query) (spent now all : Bool) → i < length qs → q ≡ get_or qs i q →
+    now ≡ is_fuel (taken program fuel (means q)).ending → (spent || spends program fuel (map means (drop i qs))) ≡ all → ((spent || now) || spends program fuel (map means (drop (i + 1) qs))) ≡ all
+spends_more program fuel means qs i q spent now all within is told so_far =
+    or_assoc spent now (spends program fuel (map means (drop (i + 1) qs)))
+    ∙ ap (λ b. spent || (b || spends program fuel (map means (drop (i + 1) qs)))) told
+    ∙ sym (ap (λ l. spent || spends program fuel (map means l)) (drop_at qs i q within is)) ∙ so_far
+  where
+    or_assoc : (a b c : Bool) → ((a || b) || c) ≡ (a || (b || c))
+    or_assoc true b c = refl
+    or_assoc false b c = refl
+
+-- each of some queries may be run
+one_of : {X Y : Type 0} (test : Y → Bool) (means : X → Y) (xs : List X) (i : ℕ) (x : X) → i < length xs → x ≡ get_or xs i x → list_all test (map means xs) ≡ true → list_all test (means x ∷ []) ≡ true
+one_of test means [] i x within is all = absurd (omega (arith, within))
+one_of test means (y ∷ xs) zero x within is all = rw is (rw (and_parts (test (means y)) (list_all test (map means xs)) all).0 refl)
+one_of test means (y ∷ xs) (suc i) x within is all = one_of test means xs i x (omega (arith, within)) is (and_parts (test (means y)) (list_all test (map means xs)) all).1
+
+one_scoped : (gs : List Goal) (qs : List declared.Query) (i : ℕ) (q : declared.Query) → i < length qs → q ≡ get_or qs i q → list_all (in_scope 1) (map (goal_at gs) (map goal_place qs)) ≡ true → list_all (in_scope 1) (goal_at gs q.goal ∷ []) ≡ true
+one_scoped gs [] i q within is all = absurd (omega (arith, within))
+one_scoped gs (y ∷ qs) zero q within is all =
+    subst (λ x. list_all (in_scope 1) (goal_at gs x.goal ∷ []) ≡ true) (sym is) (rw (and_parts (in_scope 1 (goal_at gs y.goal)) (list_all (in_scope 1) (map (goal_at gs) (map goal_place qs))) all).0 refl)
+one_scoped gs (y ∷ qs) (suc i) q within is all = one_scoped gs qs i q (omega (arith, within)) is (and_parts (in_scope 1 (goal_at gs y.goal)) (list_all (in_scope 1) (map (goal_at gs) (map goal_place qs))) all).1
+
+both_hold : (a b : Bool) → a ≡ true → b ≡ true → (a && b) ≡ true
+both_hold a b ea eb = rw (ea, eb) refl
+
+one_closed : (program : declared.Program) (qs : List declared.Query) (i : ℕ) (q : declared.Query) → i < length qs → q ≡ get_or qs i q → nothing_open (programs.tables program) (map goal_place qs) ≡ true → nothing_open (programs.tables program) (q.goal ∷ []) ≡ true
+one_closed program qs i q within is all =
+    let ts = programs.tables program in
+    let low = list_all is_low (templates_of ts.terms) in
+    let calls = list_all (calls_there (program_of ts).relations) (program_of ts).goals in
+    let bodies = list_all body_in_scope (program_of ts).relations in
+    let parts = and_parts (list_all (λ g. nat_lt g (length ts.goals)) (map goal_place qs)) (is_closed (templates_of ts.terms) (program_of ts) (map (goal_at (goals_of ts)) (map goal_place qs))) all in
+    let scopes = and_parts (low && calls && bodies) (list_all (in_scope 1) (map (goal_at (goals_of ts)) (map goal_place qs))) parts.1 in
+    both_hold (list_all (λ g. nat_lt g (length ts.goals)) (q.goal ∷ [])) (is_closed (templates_of ts.terms) (program_of ts) (goal_at (goals_of ts) q.goal ∷ []))
+    (one_of (λ g. nat_lt g (length ts.goals)) goal_place qs i q within is parts.0)
+    (both_hold (low && calls && bodies) (list_all (in_scope 1) (goal_at (goals_of ts) q.goal ∷ [])) scopes.0 (one_scoped (goals_of ts) qs i q within is scopes.1))
+
+pub can-one : (program : declared.Program) (qs : List declared.Query) (i : ℕ) (q : declared.Query) → i < length qs → q ≡ get_or qs i q → CanRun program qs → CanRun program (q ∷ [])
+can-one program qs i q within is can = record {
+  closed = one_closed program qs i q within is can.closed;
+  small = can.small;
+  built = can.built;
+  bodies = can.bodies;
+  goals = one_of is_equational_query (query_of program) qs i q within is can.goals;
+}
+
+-- the same of the item at a place, whatever stands for one past the end
+at_place : {X : Type 0} (xs : List X) (i : ℕ) (d e : X) → i < length xs → get_or xs i d ≡ get_or xs i e
+at_place [] i d e within = absurd (omega (arith, within))
+at_place (x ∷ xs) zero d e within = refl
+at_place (x ∷ xs) (suc i) d e within = at_place xs i d e (omega (arith, within))
+
+pub can-at : (program : declared.Program) (qs : List declared.Query) (i : ℕ) (d : declared.Query) → i < length qs → CanRun program qs → CanRun program (get_or qs i d ∷ [])
+can-at program qs i d within can = can-one program qs i (get_or qs i d) within (at_place qs i d (get_or qs i d) within) can
+
+pub runs-written : (table : Table) (program : Program) (fuel : ℕ) (means : declared.Query → Query) (qs : List declared.Query) (i : ℕ) (d : declared.Query) (total : List ℕ) (a b c : Option (List ℕ)) (f g h : ℕ) → i < length qs →
+    Written total a b f g (runs_output table program fuel (map means (drop i qs))) → Appends b c (taken_text table (taken program fuel (means (get_or qs i d)))) × (h ≡ g) →
+    Written total a c f h (runs_output table program fuel (map means (drop (i + 1) qs)))
+runs-written table program fuel means qs i d total a b c f g h within w (put, still) =
+    written_more total _ (runs_output table program fuel (map means (drop (i + 1) qs))) (taken_text table (taken program fuel (means (get_or qs i d)))) a b c f g h w
+    (runs_more table program fuel means qs i (get_or qs i d) within (at_place qs i d (get_or qs i d) within)) put still
+
+pub runs-stopped : (table : Table) (program : Program) (fuel : ℕ) (means : declared.Query → Query) (qs : List declared.Query) (i : ℕ) (d : declared.Query) (total : List ℕ) (s : Stop) (a b c : Option (List ℕ)) (f g h : ℕ) → i < length qs →
+    Written total a b f g (runs_output table program fuel (map means (drop i qs))) → Stops (taken_text table (taken program fuel (means (get_or qs i d)))) b c g h s → Stops total a c f h s
+runs-stopped table program fuel means qs i d total s a b c f g h within w stopped =
+    stops_on total (runs_output table program fuel (map means (drop i qs))) s a b c f g h w
+    (front_stops (runs_output table program fuel (map means (drop i qs))) (taken_text table (taken program fuel (means (get_or qs i d)))) (runs_output table program fuel (map means (drop (i + 1) qs))) s b c g h
+    (runs_more table program fuel means qs i (get_or qs i d) within (at_place qs i d (get_or qs i d) within)) stopped)
+
+pub spends-at : (program : Program) (fuel : ℕ) (means : declared.Query → Query) (qs : List declared.Query) (i : ℕ) (d : declared.Query) (spent now all : Bool) → i < length qs →
+    now ≡ is_fuel (taken program fuel (means (get_or qs i d))).ending → (spent || spends program fuel (map means (drop i qs))) ≡ all → ((spent || now) || spends program fuel (map means (drop (i + 1) qs))) ≡ all
+spends-at program fuel means qs i d spent now all within told so_far = spends_more program fuel means qs i (get_or qs i d) spent now all within (at_place qs i d (get_or qs i d) within) told so_far

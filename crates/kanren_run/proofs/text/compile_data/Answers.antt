@@ -1,0 +1,8 @@
+use Rattle.kanren_run.proofs.TextLaws.{data_come, data_refused}
+use Rattle.kanren_run.proofs.text.compile_data.Goals as goal
+
+pub returns-in-Ok : goal.returns-in-Ok
+returns-in-Ok c bytes read = data_come bytes _ _ _ _ c.equations_alone.result read c.in-Ok.ensures.names c.in-Ok.ensures.compiled.0 c.in-Ok.ensures.compiled.1 c.equations_alone.ensures
+
+pub returns-in-Err-Fault : goal.returns-in-Err-Fault
+returns-in-Err-Fault c bytes read = data_refused bytes _ _ _ _ _ _ c.in-Err-Fault.field-0-is read c.in-Err-Fault.ensures.names c.in-Err-Fault.ensures.compiled

@@ -1,0 +1,5 @@
+use Rattle.kanren_run.proofs.TopLaws.{refused_as}
+use Rattle.kanren_run.proofs.top.answer_text.Goals as goal
+
+pub returns-in-Err-Fault : goal.returns-in-Err-Fault
+returns-in-Err-Fault g c = c.refuse.ensures c.args.fuel c.args.text.now (refused_as _ c.compile_text.new.names _ _ c.in-Err-Fault.field-0-is c.in-Err-Fault.ensures)

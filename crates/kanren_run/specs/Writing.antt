@@ -1,0 +1,80 @@
+-- What is written of runs, piece after piece.
+use Rattle.std.specs.Prelude.{◌≡◌, ℕ, ◌+◌, ◌≤◌, ◌<◌, true, List, [], ◌++◌, map, length, Option, Some, None, Result, Ok, Err}
+use Rattle.std.specs.List.{flat_map, list_all}
+use Rattle.std.specs.Io.KnownBytes.{Appends}
+use Rattle.kan_base.specs.Faults.{Rose}
+use Rattle.kan_base.specs.Writes.{PutsFront}
+use Rattle.kan_model.specs.Stores.{Store}
+use Rattle.kan_model.specs.Taking.{Taken}
+use Rattle.kan_model.specs.Scope.{is_small}
+use Rattle.kan_model.specs.Tables.{nothing_open}
+use Rattle.kan_model.specs.Nodes.{goal_place}
+use Rattle.kan_model.specs.Programs as programs
+use Rattle.kan_model.specs.declared.program.Program.{Program}
+use Rattle.kan_model.specs.declared.nodes.Query.{Query}
+use Rattle.kan_model.specs.Text.{Table}
+use Rattle.kan_model.specs.Output.{answer_line, summary_line}
+use Rattle.stream_core.specs.Tasks.{is_built}
+use Rattle.goal_syntax.specs.Equational.{is_equational_body, is_equational_query}
+use Rattle.kan_search.specs.Batches.{ending_of, query_of}
+use Rattle.kan_search.specs.declared.batch.Ended.{Ended}
+use Rattle.kanren_run.specs.Equations.{HasEquations, Each}
+use Rattle.kanren_run.specs.declared.writing.Stop.{Stop}
+use Rattle.kanren_run.specs.declared.writing.Stop.TheVariants.{Fault, Memory}
+
+abbrev pub memory_wanted : Stop
+memory_wanted = Memory
+
+abbrev pub sink_failed : Stop
+sink_failed = Fault
+
+-- the lines of answers
+abbrev pub answer_lines : Table → List Store → List ℕ
+answer_lines table = flat_map (answer_line table)
+
+-- the summary line of a run that has ended
+abbrev pub end_text : ℕ → ℕ → Option Ended → List ℕ
+end_text answers pulls None = []
+end_text answers pulls (Some ended) = summary_line answers pulls (ending_of ended)
+
+-- what is still to be written of a run that gave so many answers with so many pulls
+abbrev pub rest_text : Table → ℕ → ℕ → Taken → List ℕ
+rest_text table answers pulls t = answer_lines table t.stores ++ summary_line (answers + length t.stores) (pulls + t.pulls) t.ending
+
+-- a front of a text is put, where the sink fails or memory is wanting; what was put before and after, and the counts of faults
+abbrev pub Stops : List ℕ → Option (List ℕ) → Option (List ℕ) → ℕ → ℕ → Stop → Type 0
+Stops text put after faults more Fault = PutsFront put after text × Rose faults more × (faults ≤ more)
+Stops text put after faults more Memory = PutsFront put after text × (more ≡ faults)
+
+-- a text is put whole, or a front of it
+abbrev pub Puts : {A : Type 0} → List ℕ → Option (List ℕ) → Option (List ℕ) → ℕ → ℕ → Result A Stop → Type 0
+Puts text put after faults more (Ok x) = Appends put after text × (more ≡ faults)
+Puts text put after faults more (Err stop) = Stops text put after faults more stop
+
+-- a front of a text was put, and this is what is left of it
+pub record Written (text : List ℕ) (put after : Option (List ℕ)) (faults more : ℕ) (rest : List ℕ) : Type 0 where
+  pub front : List ℕ
+  pub parts : text ≡ front ++ rest
+  pub put_front : Appends put after front
+  pub still : more ≡ faults
+
+-- what is left of a run after some of its lines were put: the lines that are still to come, less of them than before, and the same end
+pub record Continues (table : Table) (before : Taken) (answers pulls : ℕ) (after : Taken) (answers_after pulls_after : ℕ) (put put_after : Option (List ℕ)) (faults faults_after : ℕ) : Type 0 where
+  pub written : Written (rest_text table answers pulls before) put put_after faults faults_after (rest_text table answers_after pulls_after after)
+  pub equations : Each HasEquations after.stores
+  pub ending : after.ending ≡ before.ending
+  pub less : length after.stores + after.pulls < length before.stores + before.pulls
+
+-- the next lines of a run were put, and more are to come or they were the last ones; or a front of all that were to come was put
+abbrev pub WritesNext : Table → Taken → ℕ → ℕ → Taken → ℕ → ℕ → Option (List ℕ) → Option (List ℕ) → ℕ → ℕ → Result (Option Ended) Stop → Type 0
+WritesNext t before n p after m q put put_after f g (Ok None) = Continues t before n p after m q put put_after f g
+WritesNext t before n p after m q put put_after f g (Ok (Some ended)) = Appends put put_after (rest_text t n p before) × (g ≡ f) × (ending_of ended ≡ before.ending)
+WritesNext t before n p after m q put put_after f g (Err stop) = Stops (rest_text t n p before) put put_after f g stop
+
+-- a program may be run for some queries: nothing is open, it is small, and it has equations alone
+pub record CanRun (program : Program) (queries : List Query) : Type 0 where
+  pub closed : nothing_open (programs.tables program) (map goal_place queries) ≡ true
+  pub small : is_small (programs.meaning program) ≡ true
+  pub built : list_all is_built (programs.tables program).goals ≡ true
+  pub bodies : list_all is_equational_body (programs.meaning program).relations ≡ true
+  pub goals : list_all is_equational_query (map (query_of program) queries) ≡ true

@@ -1,0 +1,198 @@
+//! Runs, whose answers are written as they come.
+
+ghost use Rattle.std.specs.Prelude.{◌≡◌, ◌+◌, ◌++◌, ◌≤◌, [], ◌∷◌, map, true, false, IfOk, OnOk, string_bytes};
+ghost use Rattle.std.specs.List.{list_all};
+ghost use Rattle.kan_model.specs.Programs as programs;
+ghost use Rattle.kan_model.specs.Taking.{taken};
+ghost use Rattle.kan_model.specs.Output.{taken_text, runs_output};
+ghost use Rattle.kan_search.specs.Batches.{ending_of, query_of};
+ghost use Rattle.kan_search.specs.Searches.{left};
+ghost use Rattle.kanren_run.specs.Answers.{is_fuel, spends};
+ghost use Rattle.kanren_run.specs.Equations.{HasEquations, Each};
+ghost use Rattle.kanren_run.specs.Writing.{CanRun, Puts, WritesNext, answer_lines, end_text, rest_text, memory_wanted, sink_failed};
+
+use crate::answer::{print_answer, print_summary};
+use kan_base::{Failed, Sink, put_all};
+use kan_model::{Program, Query, Store};
+use kan_search::{Batch, Ended, Search};
+use kan_terms::{Memory, Names};
+use std::alloc::Global;
+
+/// Why a run wasn't written whole.
+#[derive(Clone, Copy, Debug, PartialEq, Eq)]
+pub(crate) enum Stop {
+    /// The sink failed.
+    Fault,
+    /// Want of memory.
+    Memory,
+}
+
+impl From<Memory> for Stop {
+    ghost from_gives = { λ _ e. e ≡ memory_wanted };
+
+    fn from(_refused: Memory) -> Stop {
+        Stop::Memory
+    }
+}
+
+impl From<Failed> for Stop {
+    ghost from_gives = { λ _ e. e ≡ sink_failed };
+
+    fn from(_failed: Failed) -> Stop {
+        Stop::Fault
+    }
+}
+
+// Adds the lines of answers.
+fn print_answers<St: Store>(
+    alloc: Global,
+    answers: &[St],
+    names: &Names,
+    text: &mut String,
+) -> Result<(), Memory>
+    requires { Each HasEquations (map St.meaning answers.now) }
+    ensures { OnOk result (string_bytes text.new ≡ string_bytes text.old ++ answer_lines names.now (map St.meaning answers.now)) }
+{
+    for store in answers {
+        print_answer(alloc, store, names, text)?;
+    }
+    Ok(())
+}
+
+// The lines of a batch: those of its answers and, where the run has ended with it, the run's summary line.
+fn batch_text<St: Store>(
+    alloc: Global,
+    batch: &Batch<St>,
+    answers: u64,
+    pulls: u64,
+    names: &Names,
+) -> Result<String, Memory>
+    requires { Each HasEquations (map St.meaning batch.now.answers) }
+    ensures { IfOk result (λ text. string_bytes text ≡ answer_lines names.now (map St.meaning batch.now.answers) ++ end_text answers pulls batch.now.ended) }
+{
+    let mut text = String::new(alloc);
+    print_answers(alloc, batch.answers.items(), names, &mut text)?;
+    if let Some(ended) = batch.ended {
+        print_summary(answers, pulls, ended, &mut text)?;
+    }
+    Ok(text)
+}
+
+// Writes the lines of a batch, after which the run has given so many answers with so many pulls.
+fn write_batch<K: Sink, St: Store>(
+    alloc: Global,
+    batch: &Batch<St>,
+    answers: u64,
+    pulls: u64,
+    names: &Names,
+    sink: &mut K,
+) -> Result<(), Stop>
+    requires { Each HasEquations (map St.meaning batch.now.answers) }
+    ensures { Puts (answer_lines names.now (map St.meaning batch.now.answers) ++ end_text answers pulls batch.now.ended) (K.put sink.old) (K.put sink.new) (K.faults sink.old) (K.faults sink.new) result }
+{
+    let text = batch_text(alloc, batch, answers, pulls, names)?;
+    put_all(sink, text.as_bytes())?;
+    Ok(())
+}
+
+// The sum of two counts, as far as a u64 goes.
+fn sum(count: u64, more: usize) -> Result<u64, Memory>
+    ensures { IfOk result (λ sum. sum ≡ count + more) }
+{
+    match count.checked_add(more as u64) {
+        Some(sum) => Ok(sum),
+        None => Err(Memory),
+    }
+}
+
+// Writes the next lines of a run, which has given so many answers so far; says how it ended where these are its last ones.
+fn write_next<K: Sink, St: Store>(
+    alloc: Global,
+    search: &mut Search<'_, St>,
+    answers: &mut u64,
+    names: &Names,
+    sink: &mut K,
+) -> Result<Option<Ended>, Stop>
+    requires round { 1 ≤ search.old.round }
+    requires equations { Each HasEquations (left St.meaning search.old).stores }
+    ensures next { WritesNext names.now (left St.meaning search.old) answers.old search.old.pulls (left St.meaning search.new) answers.new search.new.pulls (K.put sink.old) (K.put sink.new) (K.faults sink.old) (K.faults sink.new) result }
+    ensures round { search.new.round ≡ search.old.round }
+{
+    let batch = search.advance_alone(alloc)?;
+    *answers = sum(*answers, batch.answers.len())?;
+    match write_batch(alloc, &batch, *answers, search.pulls(), names, sink) {
+        Ok(()) => Ok(batch.ended),
+        Err(stop) => Err(stop),
+    }
+}
+
+// Writes the lines of a run, from its first answer on, and says how it ended.
+fn write_search<K: Sink, St: Store>(
+    alloc: Global,
+    search: &mut Search<'_, St>,
+    names: &Names,
+    sink: &mut K,
+) -> Result<Ended, Stop>
+    requires round { 1 ≤ search.old.round }
+    requires equations { Each HasEquations (left St.meaning search.old).stores }
+    ensures puts { Puts (rest_text names.now 0 search.old.pulls (left St.meaning search.old)) (K.put sink.old) (K.put sink.new) (K.faults sink.old) (K.faults sink.new) result }
+    ensures ended { IfOk result (λ ended. ending_of ended ≡ (left St.meaning search.old).ending) }
+{
+    let mut answers = 0;
+    loop {
+        if let Some(ended) = write_next(alloc, search, &mut answers, names, sink)? {
+            return Ok(ended);
+        }
+    }
+}
+
+// How many pulls a batch makes at most.
+const ROUND: u32 = 8192;
+
+// Writes the lines of a run, and says how it ended.
+fn write_query<K: Sink, St: Store>(
+    alloc: Global,
+    program: &Program,
+    query: &Query,
+    fuel: u64,
+    names: &Names,
+    sink: &mut K,
+) -> Result<Ended, Stop>
+    requires can_run { CanRun program.now (query.now ∷ []) }
+    requires fuel { 1 ≤ fuel × (fuel ≤ 1000000) }
+    ensures puts { Puts (taken_text names.now (taken (programs.meaning program.now) fuel (query_of program.now query.now))) (K.put sink.old) (K.put sink.new) (K.faults sink.old) (K.faults sink.new) result }
+    ensures ended { IfOk result (λ ended. ending_of ended ≡ (taken (programs.meaning program.now) fuel (query_of program.now query.now)).ending) }
+{
+    let mut search: Search<St> = Search::open(alloc, program, query, fuel, ROUND)?;
+    let ended = write_search(alloc, &mut search, names, sink)?;
+    Ok(ended)
+}
+
+// Whether a run ended by its fuel.
+fn is_spent(ended: Ended) -> bool
+    ensures { result ≡ is_fuel (ending_of ended) }
+{
+    matches!(ended, Ended::Fuel)
+}
+
+/// Writes the runs of a text, one after the other, and says whether one of them ended by its fuel.
+pub(crate) fn write_runs<K: Sink, St: Store>(
+    alloc: Global,
+    program: &Program,
+    queries: &[Query],
+    fuel: u64,
+    names: &Names,
+    sink: &mut K,
+) -> Result<bool, Stop>
+    requires can_run { CanRun program.now queries.now }
+    requires fuel { 1 ≤ fuel × (fuel ≤ 1000000) }
+    ensures puts { Puts (runs_output names.now (programs.meaning program.now) fuel (map (query_of program.now) queries.now)) (K.put sink.old) (K.put sink.new) (K.faults sink.old) (K.faults sink.new) result }
+    ensures spent { IfOk result (λ spent. spent ≡ spends (programs.meaning program.now) fuel (map (query_of program.now) queries.now)) }
+{
+    let mut spent = false;
+    for query in queries {
+        let ended = write_query::<K, St>(alloc, program, query, fuel, names, sink)?;
+        spent |= is_spent(ended);
+    }
+    Ok(spent)
+}
