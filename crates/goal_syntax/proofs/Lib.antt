@@ -10,3 +10,4 @@ pub mod FormLaws
 pub mod TurnLaws
 pub mod TurnWorkLaws
 pub mod CheckLaws
+pub mod DraftLaws

@@ -10,6 +10,9 @@ ghost use Rattle.goal_syntax.specs.Equational.{is_equational_entry, are_equation
 use kan_model::{Draft, GoalNode, TermNode};
 use kan_terms::Memory;
 
+/// How many entries a table has at most.
+pub(crate) const MOST_ENTRIES: u32 = 0xff_ffff;
+
 /// Adds a template, and gives its place. A full table has no memory left.
 pub(crate) fn add_term(draft: &mut Draft, node: TermNode) -> Result<u32, Memory>
     requires there { is_term_grown (length (tables draft.old).terms) (term_entry node) ≡ true }
@@ -19,7 +22,12 @@ pub(crate) fn add_term(draft: &mut Draft, node: TermNode) -> Result<u32, Memory>
     ensures room { OnOk result (HasRoom (tables draft.new)) }
     ensures same { OnOk result ((tables draft.new).goals ≡ (tables draft.old).goals) }
 {
-    Err(Memory)
+    let at = draft.term(node)?;
+    if at < MOST_ENTRIES {
+        Ok(at)
+    } else {
+        Err(Memory)
+    }
 }
 
 /// Adds a goal, and gives its place. A full table has no memory left.
@@ -31,5 +39,10 @@ pub(crate) fn add_goal(draft: &mut Draft, node: GoalNode) -> Result<u32, Memory>
     ensures room { OnOk result (HasRoom (tables draft.new)) }
     ensures equational { OnOk result (are_equational_entries (tables draft.new).goals ≡ (are_equational_entries (tables draft.old).goals && is_equational_entry (goal_entry node))) }
 {
-    Err(Memory)
+    let at = draft.goal(node)?;
+    if at < MOST_ENTRIES {
+        Ok(at)
+    } else {
+        Err(Memory)
+    }
 }
