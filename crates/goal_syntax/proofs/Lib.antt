@@ -11,3 +11,4 @@ pub mod TurnLaws
 pub mod TurnWorkLaws
 pub mod CheckLaws
 pub mod DraftLaws
+pub mod BuildLaws
