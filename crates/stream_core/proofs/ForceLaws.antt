@@ -12,9 +12,10 @@ use Rattle.kan_model.specs.Running.{run, force, enter}
 use Rattle.kan_model.specs.Scope.{width, is_narrow, is_small}
 use Rattle.kan_model.specs.Tables.{Tables, RelationEntry, goal_at, goals_of, program_of}
 use Rattle.kan_model.specs.Bounds.{top, floor, stream_top, stream_floor, highest, lowest}
+use Rattle.stream_core.specs.Fitting.{Between}
 use Rattle.stream_core.specs.Machine.{Each, HasRoom}
 use Rattle.stream_core.specs.Forcing.{MayForce, inner_of}
-use Rattle.stream_core.proofs.MachineLaws.{Between, Each-like, heads-append, heads-bind, run-between, env-more}
+use Rattle.stream_core.proofs.MachineLaws.{Each-like, heads-append, heads-bind, run-between, env-more}
 
 -- heads lie between the least and the greatest of their counters
 all-between : (hs : List Store) (m n : ℕ) → Each (Between (lowest hs m) (highest hs n)) hs
@@ -26,15 +27,15 @@ all-between (st ∷ hs) m n =
       Each-like (Between (lowest hs m) (highest hs n)) (Between (lowest (st ∷ hs) m) (highest (st ∷ hs) n)) (λ a (l, h). (omega (arith, low, l), omega (arith, high, h))) hs (all-between hs m n),
     )
 
-lowest-below : (hs : List Store) (m : ℕ) → lowest hs m ≤ m
+pub lowest-below : (hs : List Store) (m : ℕ) → lowest hs m ≤ m
 lowest-below [] m = omega arith
 lowest-below (st ∷ hs) m = let rest = lowest-below hs m in omega (arith, rest)
 
-highest-above : (hs : List Store) (n : ℕ) → n ≤ highest hs n
+pub highest-above : (hs : List Store) (n : ℕ) → n ≤ highest hs n
 highest-above [] n = omega arith
 highest-above (st ∷ hs) n = let rest = highest-above hs n in omega (arith, rest)
 
-stream-between : (t : Stream) (m n : ℕ) → Each (Between (stream_floor t m) (stream_top t n)) (heads t)
+pub stream-between : (t : Stream) (m n : ℕ) → Each (Between (stream_floor t m) (stream_top t n)) (heads t)
 stream-between (Stream.ends hs) m n = all-between hs m n
 stream-between (Stream.goes_on hs i) m n = all-between hs (min (floor i) m) (max (top i) n)
 

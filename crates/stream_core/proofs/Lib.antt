@@ -6,3 +6,5 @@ pub mod RunningLaws
 pub mod GrowingLaws
 pub mod ForceLaws
 pub mod WayLaws
+pub mod ClosedLaws
+pub mod FitLaws

@@ -10,13 +10,14 @@ use Rattle.kan_model.specs.Kept.{is_kept}
 use Rattle.kan_model.specs.Streams.{Stream, Thunk, heads, append, append_each, bind_all, empty, one}
 use Rattle.kan_model.specs.Running.{run, variables, instance}
 use Rattle.kan_model.specs.Scope.{width, all_below}
+use Rattle.stream_core.specs.Fitting.{Between}
 use Rattle.stream_core.specs.Machine.{Task, done, Each, HasRoom, AreReady, for_each, count, left, Becomes, run_each, bound_last}
 
 pub Each-like : {X : Type 0} (P Q : X → Type 0) → ((x : X) → P x → Q x) → (xs : List X) → Each P xs → Each Q xs
 Each-like P Q f [] h = tt
 Each-like P Q f (x ∷ xs) (h, hs) = (f x h, Each-like P Q f xs hs)
 
-Each-append : {X : Type 0} (P : X → Type 0) (xs ys : List X) → Each P xs → Each P ys → Each P (xs ++ ys)
+pub Each-append : {X : Type 0} (P : X → Type 0) (xs ys : List X) → Each P xs → Each P ys → Each P (xs ++ ys)
 Each-append P [] ys h k = k
 Each-append P (x ∷ xs) ys (h, hs) k = (h, Each-append P xs ys hs k)
 
@@ -33,10 +34,6 @@ heads-each P f (st ∷ hs) last (h, rest) k = heads-append P (f st) (append_each
 pub heads-bind : (P : Store → Type 0) (f : Store → Stream) (g : Goal) (env : List Tm) (s : Stream) → Each (λ st. Each P (heads (f st))) (heads s) → Each P (heads (bind_all f g env s))
 heads-bind P f g env (Stream.ends hs) h = heads-each P f hs empty h tt
 heads-bind P f g env (Stream.goes_on hs i) h = heads-each P f hs (Stream.goes_on [] (Thunk.bind g env i)) h tt
-
--- a counter between two numbers
-abbrev pub Between : ℕ → ℕ → Store → Type 0
-Between low high st = (low ≤ st.counter) × (st.counter ≤ high)
 
 assert-between : (st : Store) (b : Bool) (p : Primitive Tm) (high : ℕ) → st.counter ≤ high → Each (Between st.counter high) (heads (elim b [ true ↦ one (with_prim st p) | false ↦ empty ]))
 assert-between st true p high h = ((omega arith, h), tt)
@@ -76,7 +73,7 @@ env-more n m more [] h = refl
 env-more n m more (t ∷ ts) h =
     let (one, two) = and_parts (all_below n t) (list_all (all_below n) ts) h in and_from _ _ (below-more n m more t one) (env-more n m more ts two)
 
-variables-below : (first k : ℕ) → list_all (all_below (first + k)) (variables first k) ≡ true
+pub variables-below : (first k : ℕ) → list_all (all_below (first + k)) (variables first k) ≡ true
 variables-below first zero = refl
 variables-below first (suc k) =
     let moved : suc first + k ≡ first + suc k = omega arith in
