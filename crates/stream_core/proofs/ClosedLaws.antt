@@ -9,6 +9,8 @@ use Rattle.std.proofs.lemmas.Option.{slice_get-map}
 use Rattle.kan_model.specs.Goals.{Goal, Relation, Program, Template}
 use Rattle.kan_model.specs.Scope.{width, is_narrow, is_small, is_low, calls_there, body_in_scope, in_scope}
 use Rattle.kan_model.specs.Tables.{GoalEntry, RelationEntry, Tables, goal_at, goal_of, goals_after, goals_of, templates_of, program_of, is_grown, is_goal_grown, goals_grown, nothing_open}
+use Rattle.kan_model.specs.Programs as programs
+use Rattle.kan_model.specs.declared.program.Program as code
 use Rattle.kan_model.proofs.TableLaws.{grown-parts, goals-length}
 use Rattle.stream_core.specs.Machine.{Each}
 use Rattle.stream_core.proofs.MachineLaws.{Each-like, Each-append}
@@ -88,7 +90,8 @@ pub record ProgramIsClosed (program : Program) : Type 0 where
   pub bodies : (r : ℕ) (rel : Relation) → slice_get program.relations r ≡ Some rel → BodyIsClosed program rel
   pub narrow : (g : Goal) → Contains program.goals g → width g < 2 ^ 21
 
-all-at : {X : Type 0} (p : X → Bool) (xs : List X) (i : ℕ) (x : X) → list_all p xs ≡ true → slice_get xs i ≡ Some x → p x ≡ true
+-- a test of all entries holds of the one that was found
+pub all-at : {X : Type 0} (p : X → Bool) (xs : List X) (i : ℕ) (x : X) → list_all p xs ≡ true → slice_get xs i ≡ Some x → p x ≡ true
 all-at p [] i x h is = cc
 all-at p (y ∷ xs) zero x h is = let same : y ≡ x = cc in ap p (sym same) ∙ (and_parts (p y) (list_all p xs) h).0
 all-at p (y ∷ xs) (suc i) x h is = all-at p xs i x (and_parts (p y) (list_all p xs) h).1 is
@@ -100,6 +103,11 @@ body-there gs entries n r rel (Some e) long grown found is =
     let low = ltb-true e.body n (all-at (λ e. nat_lt e.body n) entries r e grown found) in
     let same : record { params = e.params; body = goal_at gs e.body } ≡ rel = cc in
     subst (λ q. Contains gs q.body) same (goal-there gs e.body (omega (arith, low, long)))
+
+body-found : (gs : List Goal) (entries : List RelationEntry) (n r : ℕ) (rel : Relation) → n ≡ length gs → list_all (λ e. nat_lt e.body n) entries ≡ true →
+    slice_get (map (λ e. record { params = e.params; body = goal_at gs e.body }) entries) r ≡ Some rel → Contains gs rel.body
+body-found gs entries n r rel long grown found =
+    body-there gs entries n r rel (slice_get entries r) long grown refl (sym (slice_get-map (λ e. record { params = e.params; body = goal_at gs e.body }) entries r) ∙ found)
 
 pub program-is-closed : (tables : Tables) → is_grown tables ≡ true → nothing_open tables [] ≡ true → is_small (program_of tables) ≡ true → ProgramIsClosed (program_of tables)
 program-is-closed tables grown closed small =
@@ -115,9 +123,12 @@ program-is-closed tables grown closed small =
       parts = λ g there. each-has (PartsIn gs) gs g (parts-after tables (templates_of tables.terms) [] tables.goals facts.goals tt) there;
       calls = λ g there. all-has (calls_there rs) gs g calls_fit there;
       bodies = λ r rel found. record {
-        there = body-there gs tables.relations (length tables.goals) r rel (slice_get tables.relations r) (omega (arith, long)) facts.relations refl
-            (sym (slice_get-map (λ e. record { params = e.params; body = goal_at gs e.body }) tables.relations r) ∙ found);
+        there = body-found gs tables.relations (length tables.goals) r rel (omega (arith, long)) facts.relations found;
         slots = all-at body_in_scope rs r rel bodies_fit found;
       };
       narrow = λ g there. ltb-true (width g) (2 ^ 21) (all-has is_narrow gs g small there);
     }
+
+-- the same of a program of the code
+pub program-closed : (p : code.Program) → is_small (programs.meaning p) ≡ true → ProgramIsClosed (programs.meaning p)
+program-closed p small = program-is-closed (programs.tables p) p.draft.grown p.closed small

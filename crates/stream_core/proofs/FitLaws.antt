@@ -16,9 +16,10 @@ use Rattle.kan_model.specs.Scope.{width, all_below, in_scope, takes}
 use Rattle.kan_model.specs.Bounds.{Fits, StreamFits, top, floor, stream_top, stream_floor, highest, lowest}
 use Rattle.stream_core.specs.Fitting.{Between, RestFits, TailFits}
 use Rattle.stream_core.specs.Machine.{Each}
+use Rattle.stream_core.specs.Naming.{NamesFirst}
 use Rattle.stream_core.proofs.MachineLaws.{Each-like, Each-append, below-more, env-more, variables-below}
-use Rattle.stream_core.proofs.GivingLaws.{instance-below, names-itself}
-use Rattle.stream_core.proofs.ForceLaws.{stream-floor-below, stream-top-above, stream-between, lowest-below, highest-above}
+use Rattle.stream_core.proofs.GivingLaws.{instance-below, names-itself, names-all}
+use Rattle.stream_core.proofs.BoundLaws.{stream-floor-below, stream-top-above, stream-between, lowest-below, highest-above}
 use Rattle.stream_core.proofs.ClosedLaws.{ProgramIsClosed}
 
 rest-wider : (program : Program) (l h low high : ℕ) (s : Stream) → low ≤ l → h ≤ high → RestFits program l h s → RestFits program low high s
@@ -128,9 +129,24 @@ names-fit st (Tree.num n ∷ ts) h = flat-fits st (Tree.num n) ts refl refl (nam
 names-fit st (Tree.truth b ∷ ts) h = flat-fits st (Tree.truth b) ts refl refl (names-fit st ts h)
 names-fit st (Tree.nil ∷ ts) h = flat-fits st Tree.nil ts refl refl (names-fit st ts h)
 
+-- a call with its arguments named
+pub call-fits : (program : Program) (r : ℕ) (before after : Store) (env : List Tm) (args : List Template) (values given : List Tm) → NamesFirst before (instances env args) values after → given ≡ values →
+    list_all (all_below before.counter) env ≡ true → takes (slice_get program.relations r) (length args) ≡ true → Fits program (Thunk.call r given after)
+call-fits program r before after env args values given names same below there =
+    let fit = subst (NamesFit before (instances env args)) (names-all before after (instances env args) values names) (names-fit before (instances env args) (instances-below before.counter env args below)) in
+    rw same (ap (takes (slice_get program.relations r)) (fit.count ∙ instances-length env args) ∙ there, fit.below)
+
 assert-fits : (program : Program) (st : Store) (b : Bool) (p : Primitive Tm) → TailFits program st.counter (st.counter + 0) (elim b [ true ↦ one (with_prim st p) | false ↦ empty ])
 assert-fits program st true p = record { heads = ((omega arith, omega arith), tt); tail = tt }
 assert-fits program st false p = record { heads = tt; tail = tt }
+
+variables-length : (first n : ℕ) → length (variables first n) ≡ n
+variables-length first zero = refl
+variables-length first (suc n) = ap suc (variables-length (suc first) n)
+
+-- a goal finds its slots among those in scope and the fresh ones
+pub wider-slots : (env : List Tm) (first k : ℕ) (g : Goal) → in_scope (length env + k) g ≡ true → in_scope (length (env ++ variables first k)) g ≡ true
+wider-slots env first k g slots = ap (λ n. in_scope n g) (length-append env (variables first k) ∙ ap (λ n. length env + n) (variables-length first k)) ∙ slots
 
 -- the stream of a goal of the program
 pub run-fits : (program : Program) (g : Goal) (env : List Tm) (st : Store) → ProgramIsClosed program → Contains program.goals g → in_scope (length env) g ≡ true →
@@ -152,15 +168,10 @@ run-fits program (Goal.either g h) env st closed there slots below =
     (fits-wider program st.counter (st.counter + width h) st.counter (st.counter + (width g + width h)) (run h env st) (omega arith) (omega arith) (run-fits program h env st closed second two_fits below))
 run-fits program (Goal.fresh k g) env st closed there slots below =
     let wider = env ++ variables st.counter k in
-    let long : length wider ≡ length env + k = length-append env (variables st.counter k) ∙ ap (λ n. length env + n) (variables-length st.counter k) in
     fits-wider program (st.counter + k) (st.counter + k + width g) st.counter (st.counter + (k + width g)) (run g wider (with_fresh st k)) (omega arith) (omega arith)
-    (run-fits program g wider (with_fresh st k) closed (closed.parts (Goal.fresh k g) there) (ap (λ n. in_scope n g) long ∙ slots)
+    (run-fits program g wider (with_fresh st k) closed (closed.parts (Goal.fresh k g) there) (wider-slots env st.counter k g slots)
     (list_all-append (all_below (st.counter + k)) env (variables st.counter k)
     ∙ and_from _ _ (env-more st.counter (st.counter + k) (omega arith) env below) (variables-below st.counter k)))
-  where
-    variables-length : (first n : ℕ) → length (variables first n) ≡ n
-    variables-length first zero = refl
-    variables-length first (suc n) = ap suc (variables-length (suc first) n)
 run-fits program (Goal.call r args) env st closed there slots below =
     let ts = instances env args in
     let names = names-fit st ts (instances-below st.counter env args below) in
@@ -176,7 +187,7 @@ run-fits program (Goal.call r args) env st closed there slots below =
       );
     }
 
-takes-params : (rel : Relation) (o : Option Relation) (n : ℕ) → o ≡ Some rel → takes o n ≡ true → rel.params ≡ n
+pub takes-params : (rel : Relation) (o : Option Relation) (n : ℕ) → o ≡ Some rel → takes o n ≡ true → rel.params ≡ n
 takes-params rel o n found takes_them = eqb-true rel.params n (ap (λ p. takes p n) (sym found) ∙ takes_them)
 
 enter-fits : (program : Program) (r : ℕ) (o : Option Relation) (args : List Tm) (st : Store) → ProgramIsClosed program → slice_get program.relations r ≡ o → takes o (length args) ≡ true →
@@ -213,3 +224,7 @@ pub bind-fits : (program : Program) (low high : ℕ) (g : Goal) (env : List Tm) 
     list_all (all_below low) env ≡ true → TailFits program low high s → TailFits program low (high + width g) (bind_all (run g env) g env s)
 bind-fits program low high g env s closed there slots below fits =
     bound-fits program low high g env s there slots below (λ a least. run-fits program g env a closed there slots (env-more low a.counter least env below)) fits
+
+-- the same of an equal stream and program
+pub fits-moved : (program after : Program) (low high : ℕ) (s t : Stream) → after ≡ program → t ≡ s → TailFits program low high s → TailFits after low high t
+fits-moved program after low high s t same is fits = rw (same, is) fits

@@ -6,3 +6,4 @@ pub mod Growing
 pub mod Forcing
 pub mod Ways
 pub mod Fitting
+pub mod Keeping
