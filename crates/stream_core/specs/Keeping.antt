@@ -33,7 +33,7 @@ module _ {St : Type 0} (means : St → facts.Store) (program : Program) where
   abbrev pub RowIsSound : (PlainId → Type 0) → (PlainId → model.Thunk) → model.Thunk → Row St → Type 0
   RowIsSound belongs tree t row = ThunkBelongs belongs row.thunk × IfSome row.kept (IsForce belongs tree means program t)
 
-  -- an id is placed and its tree fits, and the same holds of all that is reached from it in so many steps, on which rows are sound
+  -- an id is placed and its tree fits, and so is all that is reached from it in so many steps, by the ids in suspensions and in kept streams
   abbrev pub IsSound : ℕ → List (Row St) → PlainId → Type 0
   IsSound zero rows id = is_placed (thunks rows) id × Fits program (row_tree rows id)
   IsSound (suc n) rows id =

@@ -71,6 +71,7 @@ impl<'a, St: Store> Nodes<St> for PlainNodes<'a, St> {
 
     ghost serves = { λ nodes. programs.meaning nodes.program.now };
 
+    // An id belongs where all that is reached from it is sound: each suspension fits, and what is kept for it is its force.
     ghost belongs = { λ nodes. BelongsTo St.meaning (programs.meaning nodes.program.now) nodes.rows.items };
 
     ghost tree = { λ nodes. row_tree St.meaning (programs.meaning nodes.program.now) nodes.rows.items };
