@@ -10,3 +10,5 @@ pub mod FormLaws
 pub mod TurnLaws
 pub mod TurnWorkLaws
 pub mod CheckLaws
+pub mod BuildLaws
+pub mod GoalWorkLaws

@@ -1,8 +1,7 @@
 -- Goals whose only constraints are equations.
-use Rattle.std.specs.Prelude.{ℕ, Bool, true, false, ◌&&◌, List, map}
+use Rattle.std.specs.Prelude.{Bool, true, false, ◌&&◌, List}
 use Rattle.std.specs.List.{list_all}
 use Rattle.kan_model.specs.Goals.{Primitive, Goal, Relation, Query}
-use Rattle.kan_model.specs.ProgramText.{Meant}
 use Rattle.kan_model.specs.Tables.{GoalEntry}
 
 -- a primitive is an equation

@@ -17,3 +17,5 @@ pub mod Checks
 pub mod Drafting
 pub mod Equational
 pub mod Compiles
+pub mod Built
+pub mod GoalWorks

@@ -3,6 +3,7 @@
 
 mod binder;
 mod build_goal;
+mod build_node;
 mod build_term;
 mod check;
 mod compiling;
@@ -10,6 +11,7 @@ mod drafting;
 mod fault;
 mod form;
 mod goal;
+mod join_goal;
 mod judge_form;
 mod judge_goal;
 mod judge_term;
