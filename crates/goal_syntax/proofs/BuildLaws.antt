@@ -1,151 +1,224 @@
--- What stands in tables while goals are built.
-use Rattle.std.proofs.Common.{◌≡◌, ℕ, ◌<◌, List, [], ◌∷◌, ◌++◌, length, map, reverse, refl, sym, ◌∙◌, ap, ap₂, Option, Some, None}
-use Rattle.std.specs.Prelude.{Bool, true, false, ◌&&◌}
-use Rattle.std.proofs.lemmas.Bool.{and_from, and_parts, ltb-true, lt-ltb}
-use Rattle.std.proofs.lemmas.List.{reverse-append}
-use Rattle.kan_model.specs.Goals.{Goal}
-use Rattle.kan_model.specs.Nodes.{goal_entry}
-use Rattle.kan_model.specs.declared.nodes.GoalNode.{GoalNode}
-use Rattle.kan_model.specs.Tables.{Tables, GoalEntry, goal_at, goals_of, is_goal_grown}
-use Rattle.goal_syntax.specs.Drafting.{HasGoal, Grows}
-use Rattle.goal_syntax.specs.Equational.{is_equational, is_equational_entry, are_equational_entries}
-use Rattle.goal_syntax.specs.Built.{Built, built, entry_goal, with_entry, with_goal, with_maybe, Stands, StandsFor}
-use Rattle.goal_syntax.specs.GoalWorks.{both_of, empty_entry, freshened, join_entry, joined, row_goal}
-use Rattle.goal_syntax.specs.declared.join_goal.Row.{Row}
-use Rattle.goal_syntax.specs.declared.join_goal.Row.TheVariants as rows
+-- How building templates goes on from one piece of work to the next.
+use Rattle.std.proofs.Common.{◌≡◌, ℕ, suc, zero, ◌+◌, ◌<◌, ◌≤◌, List, [], ◌∷◌, ◌++◌, ◌-◌, length, map, reverse, take, drop, get_or, refl, sym, ◌∙◌, ap, ap₂, arith, append_assoc, length-append, drop-cons}
+use Rattle.std.specs.Prelude.{true, nat_lt, Some, unwrap_or}
+use Rattle.std.proofs.lemmas.Bool.{ltb-true, lt-ltb, and_parts, and_from}
+use Rattle.std.proofs.lemmas.List.{reverse-append, map-append, length-map, take_more}
+use Rattle.std.proofs.Math.Seq.{drop-append_seam, take-length}
+use Rattle.kan_terms.specs.Tree.{Tree}
+use Rattle.kan_model.specs.Text.{Table}
+use Rattle.kan_model.specs.Goals.{Template}
+use Rattle.kan_model.specs.Sited.{Sited}
+use Rattle.kan_model.specs.Tables.{TermEntry, Tables, template_at, template_of, templates_of, is_term_grown, with_argument}
+use Rattle.kan_model.specs.TermForms.{term_form}
+use Rattle.kan_model.specs.GoalForms.{term_forms}
+use Rattle.kan_model.specs.ProgramText.{slot_list}
+use Rattle.kan_model.specs.Resolved.{Names, template_in}
+use Rattle.goal_syntax.specs.Building.{AddsTerms, with_arguments, built, paired, finish, work_size, works_size}
+use Rattle.goal_syntax.specs.Drafting.{HasTemplate, HasArguments, Grows, HasRoom}
+use Rattle.goal_syntax.specs.Shapes.{parts}
 use Rattle.goal_syntax.specs.Turning.{are_below}
+use Rattle.goal_syntax.specs.TermSteps.{task_size}
+use Rattle.goal_syntax.specs.declared.build_term.Work.{Work}
+use Rattle.goal_syntax.specs.declared.build_term.Work.TheVariants.{Term, Pair}
+use Rattle.goal_syntax.specs.declared.term.Task.{Task}
+use Rattle.goal_syntax.proofs.DraftLaws.{grows_self, grows_on}
 use Rattle.goal_syntax.proofs.TurnLaws.{below-push, below-split}
 
-pub grows_self : (ts : Tables) → Grows ts ts
-grows_self ts = record { templates = λ p t h. h; goals = λ p g h. h; relations = refl }
+-- what came to tables by several steps
+pub adds_none : (ts : Tables) → HasRoom ts → AddsTerms ts ts
+adds_none ts room = record { grows = grows_self ts; room = room; same = refl }
 
-pub grows_on : (ts us vs : Tables) → Grows ts us → Grows us vs → Grows ts vs
-grows_on ts us vs first later = record {
-  templates = λ p t h. later.templates p t (first.templates p t h);
-  goals = λ p g h. later.goals p g (first.goals p g h);
-  relations = later.relations ∙ first.relations;
-}
+pub adds_on : (ts us vs : Tables) → AddsTerms ts us → AddsTerms us vs → AddsTerms ts vs
+adds_on ts us vs first next = record { grows = grows_on ts us vs first.grows next.grows; room = next.room; same = next.same ∙ first.same }
 
--- a goal is among those of a table that grew
-goal_kept : (ts us : Tables) (p : ℕ) → Grows ts us → p < length ts.goals → HasGoal us p (goal_at (goals_of ts) p)
-goal_kept ts us p grows there = grows.goals p (goal_at (goals_of ts) p) (record { there = there; is = refl })
+-- the top of the stack comes first
+built-push : (ts : List Template) (ps : List ℕ) (p : ℕ) → built ts (ps ++ p ∷ []) ≡ template_at ts p ∷ built ts ps
+built-push ts [] p = refl
+built-push ts (q ∷ ps) p = ap (λ l. l ++ template_at ts q ∷ []) (built-push ts ps p)
 
--- places are there in tables that grew
-pub below_grown : (ts us : Tables) (ps : List ℕ) → Grows ts us → are_below (length ts.goals) ps ≡ true → are_below (length us.goals) ps ≡ true
+-- a template that is there is still there
+stays : (ts us : Tables) (p : ℕ) → Grows ts us → nat_lt p (length ts.terms) ≡ true → HasTemplate us p (template_at (templates_of ts.terms) p)
+stays ts us p grows below = grows.templates p _ (record { there = ltb-true p (length ts.terms) below; is = refl })
+
+pub built_grown : (ts us : Tables) (ps : List ℕ) → Grows ts us → are_below (length ts.terms) ps ≡ true → built (templates_of us.terms) ps ≡ built (templates_of ts.terms) ps
+built_grown ts us [] grows below = refl
+built_grown ts us (p ∷ ps) grows below =
+    let both = and_parts _ _ below in
+    ap₂ (λ l t. l ++ t ∷ []) (built_grown ts us ps grows both.1) (stays ts us p grows both.0).is
+
+pub below_grown : (ts us : Tables) (ps : List ℕ) → Grows ts us → are_below (length ts.terms) ps ≡ true → are_below (length us.terms) ps ≡ true
 below_grown ts us [] grows below = refl
 below_grown ts us (p ∷ ps) grows below =
     let both = and_parts _ _ below in
-    and_from _ _ (lt-ltb p (length us.goals) (goal_kept ts us p grows (ltb-true p (length ts.goals) both.0)).there) (below_grown ts us ps grows both.1)
+    and_from _ _ (lt-ltb p (length us.terms) (stays ts us p grows both.0).there) (below_grown ts us ps grows both.1)
 
-goals_kept : (ts us : Tables) (ps : List ℕ) → Grows ts us → are_below (length ts.goals) ps ≡ true → map (goal_at (goals_of us)) ps ≡ map (goal_at (goals_of ts)) ps
-goals_kept ts us [] grows below = refl
-goals_kept ts us (p ∷ ps) grows below =
-    let both = and_parts _ _ below in
-    ap₂ (λ g gs. g ∷ gs) (goal_kept ts us p grows (ltb-true p (length ts.goals) both.0)).is (goals_kept ts us ps grows both.1)
+-- a template that is put is the one built last
+pub put_built : (ts us : Tables) (ps qs : List ℕ) (p : ℕ) (t : Template) → qs ≡ ps ++ p ∷ [] → HasTemplate us p t → Grows ts us → are_below (length ts.terms) ps ≡ true →
+    built (templates_of us.terms) qs ≡ t ∷ built (templates_of ts.terms) ps
+put_built ts us ps qs p t pushed new grows below =
+    ap (built (templates_of us.terms)) pushed ∙ built-push (templates_of us.terms) ps p ∙ ap₂ (λ x l. x ∷ l) new.is (built_grown ts us ps grows below)
 
--- the stack from its top has the same places
-below_top : (n : ℕ) (ps : List ℕ) → are_below n ps ≡ true → are_below n (reverse ps) ≡ true
-below_top n [] below = refl
-below_top n (p ∷ ps) below =
-    let both = and_parts _ _ below in
-    ap (are_below n) (reverse-append (p ∷ []) ps) ∙ below-push n (reverse ps) p (below_top n ps both.1) (ltb-true p n both.0)
+pub put_below : (ts us : Tables) (ps qs : List ℕ) (p : ℕ) (t : Template) → qs ≡ ps ++ p ∷ [] → HasTemplate us p t → Grows ts us → are_below (length ts.terms) ps ≡ true →
+    are_below (length us.terms) qs ≡ true
+put_below ts us ps qs p t pushed new grows below =
+    ap (are_below (length us.terms)) pushed ∙ below-push (length us.terms) ps p (below_grown ts us ps grows below) new.there
 
-abbrev pub built_from : List Goal → Bool → Built
-built_from gs e = record { made = gs; equational = e }
-
--- what was built stays as it is in tables that grew
-pub built_kept : (ts us : Tables) (ps : List ℕ) → Grows ts us → us.goals ≡ ts.goals → are_below (length ts.goals) ps ≡ true → built us ps ≡ built ts ps
-built_kept ts us ps grows same below = ap₂ built_from (goals_kept ts us (reverse ps) grows (below_top (length ts.goals) ps below)) (ap are_equational_entries same)
-
--- the goal of an entry that is added comes on top
-pub made_top : (ts us : Tables) (ps qs : List ℕ) (at : ℕ) (e : GoalEntry) → are_below (length ts.goals) ps ≡ true → Grows ts us →
-    HasGoal us at (entry_goal ts e) → are_equational_entries us.goals ≡ (are_equational_entries ts.goals && is_equational_entry e) → qs ≡ ps ++ at ∷ [] → built us qs ≡ with_entry ts e (built ts ps)
-made_top ts us ps qs at e below grows added equational pushed =
-    let top : reverse qs ≡ at ∷ reverse ps = ap reverse pushed ∙ reverse-append ps (at ∷ []) in
-    ap₂ built_from (ap (map (goal_at (goals_of us))) top ∙ ap₂ (λ x xs. x ∷ xs) added.is (goals_kept ts us (reverse ps) grows (below_top (length ts.goals) ps below))) equational
-
-pub made_below : (ts us : Tables) (ps qs : List ℕ) (at : ℕ) (g : Goal) → are_below (length ts.goals) ps ≡ true → Grows ts us → HasGoal us at g → qs ≡ ps ++ at ∷ [] → are_below (length us.goals) qs ≡ true
-made_below ts us ps qs at g below grows added pushed = ap (are_below (length us.goals)) pushed ∙ below-push (length us.goals) ps at (below_grown ts us ps grows below) added.there
-
--- an entry that stands for a goal adds it
-pub stands_added : (ts : Tables) (e : GoalEntry) (g : Goal) (b : Built) → Stands ts e g → with_entry ts e b ≡ with_goal g b
-stands_added ts e g b stands = ap₂ built_from (ap (λ x. x ∷ b.made) stands.is) (ap (λ x. b.equational && x) stands.equational)
-
--- a goal's own node was added, where it has one
-pub own_some : (us : Tables) (node : GoalNode) (r : Option GoalNode) (g : Option Goal) (b : Built) → r ≡ Some node → StandsFor us r g → with_entry us (goal_entry node) b ≡ with_maybe g b
-own_some us node None g b e stands = cc
-own_some us node (Some n) None b e stands = absurd stands
-own_some us node (Some n) (Some x) b e stands = stands_added us (goal_entry node) x b (rw (ap (node_or n) e) at stands)
-  where
-    node_or : GoalNode → Option GoalNode → GoalNode
-    node_or z None = z
-    node_or z (Some m) = m
-
-pub own_none : (us : Tables) (r : Option GoalNode) (g : Option Goal) (b : Built) → r ≡ None → StandsFor us r g → b ≡ with_maybe g b
-own_none us None None b e stands = refl
-own_none us None (Some x) b e stands = absurd stands
-own_none us (Some n) g b e stands = cc
-
--- the places below the top two, and these two
-pub top_two : (n : ℕ) (p0 p1 p2 : List ℕ) (g h : ℕ) → p0 ≡ p1 ++ h ∷ [] → p1 ≡ p2 ++ g ∷ [] → are_below n p0 ≡ true → (are_below n p2 ≡ true) × (g < n) × (h < n)
-top_two n p0 p1 p2 g h top next below =
-    let outer = below-split n p1 h (sym (ap (are_below n) top) ∙ below) in
-    let inner = below-split n p2 g (sym (ap (are_below n) next) ∙ outer.0) in
+-- what is below the top two, and they themselves
+two_below : (n : ℕ) (p0 p1 p2 : List ℕ) (a d : ℕ) → p0 ≡ p1 ++ d ∷ [] → p1 ≡ p2 ++ a ∷ [] → are_below n p0 ≡ true → (are_below n p2 ≡ true) × (a < n) × (d < n)
+two_below n p0 p1 p2 a d top next below =
+    let outer = below-split n p1 d (sym (ap (are_below n) top) ∙ below) in
+    let inner = below-split n p2 a (sym (ap (are_below n) next) ∙ outer.0) in
     (inner.0, inner.1, outer.1)
 
-and_true : (x : Bool) → (x && true) ≡ x
-and_true true = refl
-and_true false = refl
+pub rest_below : (n : ℕ) (p0 p1 p2 : List ℕ) (a d : ℕ) → p0 ≡ p1 ++ d ∷ [] → p1 ≡ p2 ++ a ∷ [] → are_below n p0 ≡ true → are_below n p2 ≡ true
+rest_below n p0 p1 p2 a d top next below = (two_below n p0 p1 p2 a d top next below).0
 
--- goals that are joined as those of a row may be added where both are there
-pub join_grown : (ts : Tables) (row : Row) (g h : ℕ) (e : GoalEntry) → e ≡ join_entry row g h → g < length ts.goals → h < length ts.goals → is_goal_grown ts (length ts.goals) e ≡ true
-join_grown ts rows.All g h e is first second = ap (is_goal_grown ts (length ts.goals)) is ∙ and_from _ _ (lt-ltb g (length ts.goals) first) (lt-ltb h (length ts.goals) second)
-join_grown ts rows.One g h e is first second = ap (is_goal_grown ts (length ts.goals)) is ∙ and_from _ _ (lt-ltb g (length ts.goals) first) (lt-ltb h (length ts.goals) second)
-join_grown ts rows.Clauses g h e is first second = ap (is_goal_grown ts (length ts.goals)) is ∙ and_from _ _ (lt-ltb g (length ts.goals) first) (lt-ltb h (length ts.goals) second)
+-- the two templates on top are there
+pub pair_there : (n : ℕ) (p0 p1 p2 : List ℕ) (a d : ℕ) → p0 ≡ p1 ++ d ∷ [] → p1 ≡ p2 ++ a ∷ [] → are_below n p0 ≡ true → is_term_grown n (TermEntry.pair a d) ≡ true
+pair_there n p0 p1 p2 a d top next below =
+    let all = two_below n p0 p1 p2 a d top next below in
+    and_from _ _ (lt-ltb a n all.1) (lt-ltb d n all.2)
 
-join_entry_added : (ts : Tables) (row : Row) (g h : ℕ) (b : Built) → with_entry ts (join_entry row g h) b ≡ built_from (both_of row (goal_at (goals_of ts) g) (goal_at (goals_of ts) h) ∷ b.made) b.equational
-join_entry_added ts rows.All g h b = ap (built_from (both_of rows.All (goal_at (goals_of ts) g) (goal_at (goals_of ts) h) ∷ b.made)) (and_true b.equational)
-join_entry_added ts rows.One g h b = ap (built_from (both_of rows.One (goal_at (goals_of ts) g) (goal_at (goals_of ts) h) ∷ b.made)) (and_true b.equational)
-join_entry_added ts rows.Clauses g h b = ap (built_from (both_of rows.Clauses (goal_at (goals_of ts) g) (goal_at (goals_of ts) h) ∷ b.made)) (and_true b.equational)
+-- the pair of the two templates built last
+pub join_made : (ts : List Template) (p0 p1 p2 : List ℕ) (a d : ℕ) (made : List Template) → p0 ≡ p1 ++ d ∷ [] → p1 ≡ p2 ++ a ∷ [] →
+    made ≡ template_of ts (TermEntry.pair a d) ∷ built ts p2 → made ≡ paired (built ts p0)
+join_made ts p0 p1 p2 a d made top next put =
+    let tops : built ts p0 ≡ template_at ts d ∷ template_at ts a ∷ built ts p2 =
+    ap (built ts) top ∙ built-push ts p1 d ∙ ap (λ l. template_at ts d ∷ l) (ap (built ts) next ∙ built-push ts p2 a) in
+    put ∙ sym (ap paired tops)
 
--- the two goals on top are joined
-pub two_joined : (ts : Tables) (row : Row) (p0 p1 p2 : List ℕ) (g h : ℕ) (e : GoalEntry) (after : Built) → p0 ≡ p1 ++ h ∷ [] → p1 ≡ p2 ++ g ∷ [] → e ≡ join_entry row g h →
-    after ≡ with_entry ts e (built ts p2) → after ≡ joined row (built ts p0)
-two_joined ts row p0 p1 p2 g h e after top next is added =
-    let all : reverse p0 ≡ h ∷ g ∷ reverse p2 = ap reverse top ∙ reverse-append p1 (h ∷ []) ∙ ap (λ l. h ∷ l) (ap reverse next ∙ reverse-append p2 (g ∷ [])) in
-    added ∙ ap (λ x. with_entry ts x (built ts p2)) is ∙ join_entry_added ts row g h (built ts p2)
-    ∙ sym (ap (λ l. joined row (built_from (map (goal_at (goals_of ts)) l) (are_equational_entries ts.goals))) all)
+works_size-push : (ds : List Sited) (ws : List Work) (w : Work) → works_size ds (ws ++ w ∷ []) ≡ work_size ds w + works_size ds ws
+works_size-push ds [] w = refl
+works_size-push ds (x ∷ ws) w = omega (arith, works_size-push ds ws w)
 
--- nothing is joined where there is one goal or none
-pub none_joined : (ts : Tables) (row : Row) (p0 : List ℕ) → p0 ≡ [] → built ts p0 ≡ joined row (built ts p0)
-none_joined ts row p0 e = rw e refl
+pushed_size : (ds : List Sited) (old new : List Work) (w : Work) → new ≡ old ++ w ∷ [] → works_size ds new ≡ work_size ds w + works_size ds old
+pushed_size ds old new w e = ap (works_size ds) e ∙ works_size-push ds old w
 
--- the goal on top gets slots of its own
-pub slots_added : (ts : Tables) (k : ℕ) (p0 p1 : List ℕ) (g : ℕ) (after : Built) → p0 ≡ p1 ++ g ∷ [] → after ≡ with_entry ts (GoalEntry.fresh k g) (built ts p1) → after ≡ freshened k (built ts p0)
-slots_added ts k p0 p1 g after top added =
-    let all : reverse p0 ≡ g ∷ reverse p1 = ap reverse top ∙ reverse-append p1 (g ∷ []) in
-    added ∙ ap (built_from (Goal.fresh k (goal_at (goals_of ts) g) ∷ map (goal_at (goals_of ts)) (reverse p1))) (and_true (are_equational_entries ts.goals))
-    ∙ sym (ap (λ l. freshened k (built_from (map (goal_at (goals_of ts)) l) (are_equational_entries ts.goals))) all)
+-- the parts of a pair are less work than it was
+pub pair_falls : (ds : List Sited) (ws w1 w2 w3 : List Work) (a d : Task) → w1 ≡ ws ++ Pair ∷ [] → w2 ≡ w1 ++ Term d ∷ [] → w3 ≡ w2 ++ Term a ∷ [] →
+    works_size ds w3 ≤ 1 + (task_size ds a + task_size ds d) + (task_size ds a + task_size ds d) + works_size ds ws
+pair_falls ds ws w1 w2 w3 a d e1 e2 e3 =
+    omega (arith, pushed_size ds w2 w3 (Term a) e3, pushed_size ds w1 w2 (Term d) e2, pushed_size ds ws w1 Pair e1)
 
--- the goal of an empty row
-pub empty_stands : (ts : Tables) (row : Row) → Stands ts (empty_entry row) (row_goal row [])
-empty_stands ts rows.All = record { grown = refl; is = refl; equational = refl }
-empty_stands ts rows.One = record { grown = refl; is = refl; equational = refl }
-empty_stands ts rows.Clauses = record { grown = refl; is = refl; equational = refl }
+pub same_falls : (ds : List Sited) (ws w1 : List Work) (a : Task) → w1 ≡ ws ++ Term a ∷ [] → works_size ds w1 ≤ 1 + task_size ds a + task_size ds a + works_size ds ws
+same_falls ds ws w1 a e = omega (arith, pushed_size ds ws w1 (Term a) e)
 
--- the one goal that is left is that of all
-pub goal_made : (ts us : Tables) (ps popped : List ℕ) (at : ℕ) (g : Goal) → ps ≡ popped ++ at ∷ [] → are_below (length us.goals) ps ≡ true → built us ps ≡ with_goal g (built ts []) → HasGoal us at g
-goal_made ts us ps popped at g split below made =
-    let top : reverse ps ≡ at ∷ reverse popped = ap reverse split ∙ reverse-append popped (at ∷ []) in
-    let all : map (goal_at (goals_of us)) (reverse ps) ≡ g ∷ [] = ap (λ (b : Built). b.made) made in
-    record {
-      there = (below-split (length us.goals) popped at (sym (ap (are_below (length us.goals)) split) ∙ below)).1;
-      is = ap (first_of g) (sym (ap (map (goal_at (goals_of us))) top) ∙ all);
-    }
-  where
-    first_of : Goal → List Goal → Goal
-    first_of z [] = z
-    first_of z (x ∷ xs) = x
+-- the work on top is done
+pub work_done : (ds : List Sited) (t : Table) (ns : Names) (old popped new : List Work) (w : Work) (before after whole : List Template) → old ≡ popped ++ w ∷ [] →
+    finish ds t ns (reverse new) after ≡ finish ds t ns (w ∷ reverse popped) before → finish ds t ns (reverse old) before ≡ whole → finish ds t ns (reverse new) after ≡ whole
+work_done ds t ns old popped new w before after whole split done kept =
+    let top : reverse old ≡ w ∷ reverse popped = ap reverse split ∙ reverse-append popped (w ∷ []) in
+    done ∙ sym (ap (λ l. finish ds t ns l before) top) ∙ kept
 
-pub goal_equational : (ts us : Tables) (ps : List ℕ) (g : Goal) → built us ps ≡ with_goal g (built ts []) → are_equational_entries us.goals ≡ (are_equational_entries ts.goals && is_equational g)
-goal_equational ts us ps g made = ap (λ (b : Built). b.equational) made
+pub work_falls : (ds : List Sited) (old popped new : List Work) (w : Work) → old ≡ popped ++ w ∷ [] → works_size ds new < work_size ds w + works_size ds popped → works_size ds new < works_size ds old
+work_falls ds old popped new w split falls = omega (arith, pushed_size ds popped old w split)
+
+-- the one template that was built
+pub last_built : (ts : Tables) (old popped : List ℕ) (p : ℕ) (t : Template) → old ≡ popped ++ p ∷ [] → are_below (length ts.terms) old ≡ true → built (templates_of ts.terms) old ≡ t ∷ [] → HasTemplate ts p t
+last_built ts old popped p t split below is =
+    let us = templates_of ts.terms in
+    let top : template_at us p ∷ built us popped ≡ t ∷ [] = sym (built-push us popped p) ∙ sym (ap (built us) split) ∙ is in
+    record { there = (below-split (length ts.terms) popped p (sym (ap (are_below (length ts.terms)) split) ∙ below)).1; is = cc }
+
+-- the templates at places stay as they are
+map_grown : (ts us : Tables) (ps : List ℕ) → Grows ts us → are_below (length ts.terms) ps ≡ true → map (template_at (templates_of us.terms)) ps ≡ map (template_at (templates_of ts.terms)) ps
+map_grown ts us [] grows below = refl
+map_grown ts us (p ∷ ps) grows below =
+    let both = and_parts _ _ below in
+    ap₂ (λ t l. t ∷ l) (stays ts us p grows both.0).is (map_grown ts us ps grows both.1)
+
+-- one term more is built, and those that are left come behind it
+pub terms_next : (ts us : Tables) (ps qs : List ℕ) (p : ℕ) (t : Template) (left later whole : List Template) → qs ≡ ps ++ p ∷ [] → HasTemplate us p t → Grows ts us → are_below (length ts.terms) ps ≡ true →
+    left ≡ t ∷ later → map (template_at (templates_of ts.terms)) ps ++ left ≡ whole → map (template_at (templates_of us.terms)) qs ++ later ≡ whole
+terms_next ts us ps qs p t left later whole pushed new grows below split kept =
+    let old = map (template_at (templates_of ts.terms)) ps in
+    ap (λ l. map (template_at (templates_of us.terms)) l ++ later) pushed
+    ∙ ap (λ l. l ++ later) (map-append (template_at (templates_of us.terms)) ps (p ∷ []))
+    ∙ ap₂ (λ l x. (l ++ x ∷ []) ++ later) (map_grown ts us ps grows below) new.is
+    ∙ append_assoc old (t ∷ []) later ∙ ap (λ l. old ++ l) (sym split) ∙ kept
+
+-- the terms of a list, from its first
+pub terms_of_pair : (ns : Names) (t : Table) (s a d : Sited) → Some (a, d) ≡ parts s →
+    map (template_in ns) (term_forms t s) ≡ template_in ns (term_form t a) ∷ map (template_in ns) (term_forms t d)
+terms_of_pair ns t (Sited.pair at x y) a d e =
+    let both : (a, d) ≡ (x, y) = ap (λ o. unwrap_or o (a, d)) e in
+    ap₂ (λ b ds. template_in ns (term_form t b) ∷ map (template_in ns) (term_forms t ds)) (sym (ap (λ p. p.0) both)) (sym (ap (λ p. p.1) both))
+terms_of_pair ns t (Sited.name at s) a d e = cc
+terms_of_pair ns t (Sited.num at s) a d e = cc
+terms_of_pair ns t (Sited.bool at s) a d e = cc
+terms_of_pair ns t (Sited.nil at) a d e = cc
+
+-- a place in a list of places that are below a number
+pub below_at : (n : ℕ) (ps : List ℕ) (i : ℕ) → are_below n ps ≡ true → i < length ps → get_or ps i 0 < n
+below_at n [] i below within = absurd (omega arith)
+below_at n (p ∷ ps) zero below within = ltb-true p n (and_parts _ _ below).0
+below_at n (p ∷ ps) (suc i) below within = below_at n ps i (and_parts _ _ below).1 (omega arith)
+
+-- the same of tables with as many templates
+pub below_within : (ts us : Tables) (ps qs : List ℕ) (i : ℕ) → us ≡ with_arguments ts qs → are_below (length ts.terms) ps ≡ true → i < length ps → get_or ps i 0 < length us.terms
+below_within ts us ps qs i is below within = rw is (below_at (length ts.terms) ps i below within)
+
+-- one argument more
+pub put_next : (ts us vs : Tables) (ps : List ℕ) (i : ℕ) → us ≡ with_arguments ts (take i ps) → vs ≡ with_argument us (get_or ps i 0) → i < length ps → vs ≡ with_arguments ts (take (i + 1) ps)
+put_next ts us vs ps i before put within =
+    put ∙ ap (λ u. with_argument u (get_or ps i 0)) before
+    ∙ ap (λ l. record ts { arguments = l }) (append_assoc ts.arguments (take i ps) (get_or ps i 0 ∷ []))
+    ∙ ap (with_arguments ts) (sym (take_more ps i 0 within))
+
+-- arguments leave the goals as they are
+pub adds_argument : (ts us : Tables) (p : ℕ) → us ≡ with_argument ts p → Grows ts us → HasRoom us → AddsTerms ts us
+adds_argument ts us p is grows room = record { grows = grows; room = room; same = ap (λ u. u.goals) is }
+
+-- what is put behind the arguments is there
+arguments_there : (ts us : Tables) (ps : List ℕ) → us ≡ with_arguments ts ps → HasArguments us (length ts.arguments) (length ps) (map (template_at (templates_of ts.terms)) ps)
+arguments_there ts us ps is =
+    let pick = map (template_at (templates_of ts.terms)) in
+    let size = length-append ts.arguments ps in
+    rw is (record {
+      there = omega (arith, size);
+      are = ap (λ l. pick (take (length ps) l)) (drop-append_seam ts.arguments ps) ∙ ap pick (take-length ps);
+      counted = sym (length-map ps (template_at (templates_of ts.terms)));
+    })
+
+pub arguments_put : (ts us vs : Tables) (ps rest : List ℕ) (p at : ℕ) → ps ≡ p ∷ rest → us ≡ with_argument ts p → at ≡ length ts.arguments → vs ≡ with_arguments us rest →
+    HasArguments vs at (length ps) (map (template_at (templates_of ts.terms)) ps)
+arguments_put ts us vs ps rest p at split first place later =
+    let whole : vs ≡ with_arguments ts ps =
+    later ∙ ap (λ u. with_arguments u rest) first ∙ ap (λ l. record ts { arguments = l }) (append_assoc ts.arguments (p ∷ []) rest) ∙ ap (with_arguments ts) (sym split) in
+    rw place (arguments_there ts vs ps whole)
+
+pub no_arguments : (ts : Tables) (ps : List ℕ) → length ps ≡ 0 → HasArguments ts 0 (length ps) (map (template_at (templates_of ts.terms)) ps)
+no_arguments ts [] none = record { there = omega arith; are = refl; counted = refl }
+no_arguments ts (p ∷ ps) none = absurd (omega arith)
+
+-- the places behind the first one
+pub later_below : (ts us : Tables) (ps rest : List ℕ) (p : ℕ) → ps ≡ p ∷ rest → us ≡ with_argument ts p → are_below (length ts.terms) ps ≡ true → are_below (length us.terms) rest ≡ true
+later_below ts us ps rest p split put below = rw put (and_parts _ _ (sym (ap (are_below (length ts.terms)) split) ∙ below)).1
+
+pub first_below : (n : ℕ) (ps rest : List ℕ) (p : ℕ) → ps ≡ p ∷ rest → are_below n ps ≡ true → p < n
+first_below n ps rest p split below = ltb-true p n (and_parts _ _ (sym (ap (are_below n) split) ∙ below)).0
+
+-- the list of slots from one on
+pub slots_next : (ts us vs : Tables) (bound : List ℕ) (n first rest made : ℕ) → 0 < n → n ≤ length bound → HasTemplate ts rest (slot_list (n + 1) (drop n bound)) →
+    HasTemplate us first (Tree.leaf n) → Grows ts us → HasTemplate vs made (template_of (templates_of us.terms) (TermEntry.pair first rest)) → HasTemplate vs made (slot_list ((n - 1) + 1) (drop (n - 1) bound))
+slots_next ts us vs bound zero first rest made some within later head grows new = absurd (omega arith)
+slots_next ts us vs bound (suc n) first rest made some within later head grows new =
+    let tail = grows.templates rest _ later in
+    let index : suc n - 1 ≡ n = omega arith in
+    let next : suc n + 1 ≡ suc (n + 1) = omega arith in
+    let number : suc n ≡ n + 1 = omega arith in
+    rw index (record {
+      there = new.there;
+      is = new.is ∙ ap₂ Tree.pair (head.is ∙ ap Tree.leaf number) (tail.is ∙ ap (λ k. slot_list k (drop (suc n) bound)) next) ∙ ap (slot_list (n + 1)) (sym (drop-cons bound n 0 (omega arith)));
+    })
+
+-- once no work is left, what is built is the whole
+pub all_done : (ds : List Sited) (t : Table) (ns : Names) (ws : List Work) (made whole : List Template) → length ws ≡ 0 → finish ds t ns (reverse ws) made ≡ whole → made ≡ whole
+all_done ds t ns [] made whole none kept = kept
+all_done ds t ns (w ∷ ws) made whole none kept = absurd (omega arith)
+
+-- an entry may name two templates that are there
+pub both_there : (ts us : Tables) (a d : ℕ) (t u : Template) → HasTemplate us a t → HasTemplate ts d u → Grows ts us → is_term_grown (length us.terms) (TermEntry.pair a d) ≡ true
+both_there ts us a d t u first rest grows =
+    let later = grows.templates d u rest in
+    and_from _ _ (lt-ltb a (length us.terms) first.there) (lt-ltb d (length us.terms) later.there)

@@ -19,7 +19,7 @@ use Rattle.goal_syntax.specs.Shapes.{parts}
 use Rattle.goal_syntax.specs.Equational.{is_equational}
 use Rattle.goal_syntax.specs.GoalWorks.{both_of, finish, first_form, first_work, inner_works, joined, other_works, row_forms, row_goal, row_size, work_size, works_size}
 use Rattle.goal_syntax.proofs.GoalLaws.{clauses-none, fewer_parts, goals-none, parts-is}
-use Rattle.goal_syntax.proofs.BuildLaws.{built_from}
+use Rattle.goal_syntax.proofs.BuiltLaws.{built_from}
 use Rattle.goal_syntax.specs.declared.goal.Goal as opened
 use Rattle.goal_syntax.specs.declared.goal.Goal.TheVariants.{Succeed, Fail, Same, Differ, Symbol, Number, Absent, Fresh, AllOf, OneOf, Clauses, Call, Misshapen}
 use Rattle.goal_syntax.specs.declared.join_goal.Row.{Row}

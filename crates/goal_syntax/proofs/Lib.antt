@@ -10,5 +10,7 @@ pub mod FormLaws
 pub mod TurnLaws
 pub mod TurnWorkLaws
 pub mod CheckLaws
+pub mod DraftLaws
 pub mod BuildLaws
+pub mod BuiltLaws
 pub mod GoalWorkLaws

@@ -15,6 +15,7 @@ pub mod Turning
 pub mod TurnWorks
 pub mod Checks
 pub mod Drafting
+pub mod Building
 pub mod Equational
 pub mod Compiles
 pub mod Built

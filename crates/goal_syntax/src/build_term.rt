@@ -1,18 +1,143 @@
 //! Building templates of terms.
 
-ghost use Rattle.std.specs.Prelude.{◌≡◌, map, IfOk, OnOk, List, ℕ};
+ghost use Rattle.std.specs.Prelude.{◌≡◌, ◌∷◌, ◌+◌, ◌<◌, ◌≤◌, map, length, reverse, unwrap_or, true, IfOk, OnOk, List, ℕ};
 ghost use Rattle.kan_model.specs.GoalForms.{term_forms};
 ghost use Rattle.kan_model.specs.ProgramText.{slot_list};
-ghost use Rattle.kan_model.specs.Resolved.{template_in};
-ghost use Rattle.kan_model.specs.Drafts.{tables};
+ghost use Rattle.kan_model.specs.Resolved.{template_in, slot_of};
+ghost use Rattle.kan_model.specs.Tables.{is_term_grown, template_at, template_of};
+ghost use Rattle.kan_model.specs.Nodes.{term_entry};
+ghost use Rattle.kan_model.specs.Drafts.{tables, templates};
+ghost use Rattle.goal_syntax.specs.Building.{AddsTerms, HasTemplates, with_arguments, built, paired, finish, work_size, works_size};
 ghost use Rattle.goal_syntax.specs.Drafting.{HasTemplate, HasArguments, Grows, HasRoom};
 ghost use Rattle.goal_syntax.specs.Parts.{sites, site_at};
-ghost use Rattle.goal_syntax.specs.TermSteps.{task_form};
+ghost use Rattle.goal_syntax.specs.TermSteps.{task_form, step_form, step_size};
+ghost use Rattle.goal_syntax.specs.Turning.{are_below};
 
+use crate::drafting::{add_argument, add_term};
 use crate::judge_goal::Text;
-use crate::term::Task;
-use kan_model::Draft;
+use crate::scope::slot_of;
+use crate::shape::pair_parts;
+use crate::term::{Step, Task, open};
+use kan_model::{Draft, TermNode};
 use kan_terms::Memory;
+
+/// What is left to be built.
+#[derive(Clone, Copy, Debug, PartialEq, Eq)]
+pub(crate) enum Work {
+    /// The template of a task's term.
+    Term(Task),
+    /// The pair of the two templates that were built last.
+    Pair,
+}
+
+// Adds a template as the one built last.
+fn put(node: TermNode, draft: &mut Draft, places: &mut Vec<u32>) -> Result<(), Memory>
+    requires there { is_term_grown (length (tables draft.old).terms) (term_entry node) ≡ true }
+    requires room { HasRoom (tables draft.old) }
+    requires below { are_below (length (tables draft.old).terms) places.old.items ≡ true }
+    ensures made { OnOk result (built (templates draft.new) places.new.items ≡ template_of (templates draft.old) (term_entry node) ∷ built (templates draft.old) places.old.items) }
+    ensures below { OnOk result (are_below (length (tables draft.new).terms) places.new.items ≡ true) }
+    ensures adds { OnOk result (AddsTerms (tables draft.old) (tables draft.new)) }
+{
+    let place = add_term(draft, node)?;
+    places.push(place)?;
+    Ok(())
+}
+
+// Builds the pair of the two templates that were built last.
+fn join(draft: &mut Draft, places: &mut Vec<u32>) -> Result<(), Memory>
+    requires room { HasRoom (tables draft.old) }
+    requires below { are_below (length (tables draft.old).terms) places.old.items ≡ true }
+    ensures made { OnOk result (built (templates draft.new) places.new.items ≡ paired (built (templates draft.old) places.old.items)) }
+    ensures below { OnOk result (are_below (length (tables draft.new).terms) places.new.items ≡ true) }
+    ensures adds { OnOk result (AddsTerms (tables draft.old) (tables draft.new)) }
+{
+    let Some(rest) = places.pop() else {
+        return Ok(());
+    };
+    let Some(first) = places.pop() else {
+        return Ok(());
+    };
+    put(TermNode::Pair(first, rest), draft, places)?;
+    Ok(())
+}
+
+// The slot of a variable. One whose number is too large for a template has no memory.
+fn slot_number(scope: &[Option<u32>], symbol: u32) -> Result<u32, Memory>
+    ensures { IfOk result (λ slot. slot ≡ unwrap_or (slot_of scope.now symbol) 0) }
+{
+    let slot = slot_of(scope, symbol).unwrap_or(0);
+    match u32::try_from(slot) {
+        Ok(slot) => Ok(slot),
+        Err(_) => Err(Memory),
+    }
+}
+
+// Builds the template that begins with a step, as far as its parts.
+fn build_step(
+    text: &Text,
+    scope: &[Option<u32>],
+    step: Step,
+    draft: &mut Draft,
+    places: &mut Vec<u32>,
+    works: &mut Vec<Work>,
+) -> Result<(), Memory>
+    requires room { HasRoom (tables draft.old) }
+    requires below { are_below (length (tables draft.old).terms) places.old.items ≡ true }
+    ensures made { OnOk result (finish (sites text.now.nodes.now) text.now.names.now scope.now (reverse works.new.items) (built (templates draft.new) places.new.items)
+        ≡ finish (sites text.now.nodes.now) text.now.names.now scope.now (reverse works.old.items)
+        (template_in scope.now (step_form (sites text.now.nodes.now) text.now.names.now step) ∷ built (templates draft.old) places.old.items)) }
+    ensures below { OnOk result (are_below (length (tables draft.new).terms) places.new.items ≡ true) }
+    ensures adds { OnOk result (AddsTerms (tables draft.old) (tables draft.new)) }
+    ensures falls { OnOk result (works_size (sites text.now.nodes.now) works.new.items
+        ≤ 1 + step_size (sites text.now.nodes.now) step + step_size (sites text.now.nodes.now) step + works_size (sites text.now.nodes.now) works.old.items) }
+{
+    match step {
+        Step::Variable(_, symbol) => {
+            put(TermNode::Slot(slot_number(scope, symbol)?), draft, places)?
+        }
+        Step::Misshapen(_) => put(TermNode::Nil, draft, places)?,
+        Step::Symbol(symbol) => put(TermNode::Sym(symbol), draft, places)?,
+        Step::Number(number) => put(TermNode::Num(number), draft, places)?,
+        Step::Truth(truth) => put(TermNode::Truth(truth), draft, places)?,
+        Step::Nil => put(TermNode::Nil, draft, places)?,
+        Step::Pair(first, rest) => {
+            works.push(Work::Pair)?;
+            works.push(Work::Term(rest))?;
+            works.push(Work::Term(first))?;
+        }
+        Step::Same(task) => works.push(Work::Term(task))?,
+    }
+    Ok(())
+}
+
+// Does a piece of work, as far as its parts.
+fn build_work(
+    text: &Text,
+    scope: &[Option<u32>],
+    work: Work,
+    draft: &mut Draft,
+    places: &mut Vec<u32>,
+    works: &mut Vec<Work>,
+) -> Result<(), Memory>
+    requires room { HasRoom (tables draft.old) }
+    requires below { are_below (length (tables draft.old).terms) places.old.items ≡ true }
+    ensures made { OnOk result (finish (sites text.now.nodes.now) text.now.names.now scope.now (reverse works.new.items) (built (templates draft.new) places.new.items)
+        ≡ finish (sites text.now.nodes.now) text.now.names.now scope.now (work ∷ reverse works.old.items) (built (templates draft.old) places.old.items)) }
+    ensures below { OnOk result (are_below (length (tables draft.new).terms) places.new.items ≡ true) }
+    ensures adds { OnOk result (AddsTerms (tables draft.old) (tables draft.new)) }
+    ensures falls { OnOk result (works_size (sites text.now.nodes.now) works.new.items
+        < work_size (sites text.now.nodes.now) work + works_size (sites text.now.nodes.now) works.old.items) }
+{
+    match work {
+        Work::Term(task) => {
+            let step = open(text.nodes, text.names, task);
+            build_step(text, scope, step, draft, places, works)?;
+        }
+        Work::Pair => join(draft, places)?,
+    }
+    Ok(())
+}
 
 /// Builds the template of a term where these names are in scope, and gives its place.
 pub(crate) fn build_term(
@@ -27,7 +152,64 @@ pub(crate) fn build_term(
     ensures room { OnOk result (HasRoom (tables draft.new)) }
     ensures same { OnOk result ((tables draft.new).goals ≡ (tables draft.old).goals) }
 {
-    Err(Memory)
+    let mut places = Vec::new(text.alloc);
+    let mut works = Vec::new(text.alloc);
+    works.push(Work::Term(task))?;
+    while let Some(work) = works.pop() {
+        build_work(text, scope, work, draft, &mut places, &mut works)?;
+    }
+    match places.pop() {
+        Some(place) => Ok(place),
+        None => Err(Memory),
+    }
+}
+
+// Builds the templates of the terms in a list, and gives their places.
+fn build_terms(
+    text: &Text,
+    scope: &[Option<u32>],
+    mut place: u32,
+    draft: &mut Draft,
+) -> Result<Vec<u32>, Memory>
+    requires room { HasRoom (tables draft.old) }
+    ensures made { IfOk result (λ places. HasTemplates (tables draft.new) places.items (map (template_in scope.now) (term_forms text.now.names.now (site_at (sites text.now.nodes.now) place)))) }
+    ensures adds { OnOk result (AddsTerms (tables draft.old) (tables draft.new)) }
+{
+    let mut places = Vec::new(text.alloc);
+    while let Some((first, rest)) = pair_parts(text.nodes, place) {
+        let term = build_term(text, scope, Task::Term(first), draft)?;
+        places.push(term)?;
+        place = rest;
+    }
+    Ok(places)
+}
+
+// Puts templates, by their places, behind the arguments that are there.
+fn put_behind(terms: &[u32], draft: &mut Draft) -> Result<(), Memory>
+    requires room { HasRoom (tables draft.old) }
+    requires below { are_below (length (tables draft.old).terms) terms.now ≡ true }
+    ensures put { OnOk result (tables draft.new ≡ with_arguments (tables draft.old) terms.now) }
+    ensures adds { OnOk result (AddsTerms (tables draft.old) (tables draft.new)) }
+{
+    for term in terms {
+        add_argument(draft, *term)?;
+    }
+    Ok(())
+}
+
+// The same, and gives the place of the first of them.
+fn put_arguments(terms: &[u32], draft: &mut Draft) -> Result<u32, Memory>
+    requires room { HasRoom (tables draft.old) }
+    requires below { are_below (length (tables draft.old).terms) terms.now ≡ true }
+    ensures put { IfOk result (λ at. HasArguments (tables draft.new) at (length terms.now) (map (template_at (templates draft.old)) terms.now)) }
+    ensures adds { OnOk result (AddsTerms (tables draft.old) (tables draft.new)) }
+{
+    let Some((first, rest)) = terms.split_first() else {
+        return Ok(0);
+    };
+    let at = add_argument(draft, *first)?;
+    put_behind(rest, draft)?;
+    Ok(at)
 }
 
 /// Builds the templates of the terms in a list and puts them into the table of arguments, one behind the other: gives the
@@ -44,7 +226,9 @@ pub(crate) fn build_arguments(
     ensures room { OnOk result (HasRoom (tables draft.new)) }
     ensures same { OnOk result ((tables draft.new).goals ≡ (tables draft.old).goals) }
 {
-    Err(Memory)
+    let terms = build_terms(text, scope, place, draft)?;
+    let at = put_arguments(&terms, draft)?;
+    Ok((at, terms.len() as u32))
 }
 
 /// Builds the list of as many slots as there are names, from slot 1 on, and gives its place.
@@ -55,5 +239,15 @@ pub(crate) fn build_slots(bound: &[u32], draft: &mut Draft) -> Result<u32, Memor
     ensures room { OnOk result (HasRoom (tables draft.new)) }
     ensures same { OnOk result ((tables draft.new).goals ≡ (tables draft.old).goals) }
 {
-    Err(Memory)
+    let Ok(count) = u32::try_from(bound.len()) else {
+        return Err(Memory);
+    };
+    let mut list = add_term(draft, TermNode::Nil)?;
+    let mut slot = count;
+    while slot > 0 {
+        let first = add_term(draft, TermNode::Slot(slot))?;
+        list = add_term(draft, TermNode::Pair(first, list))?;
+        slot -= 1;
+    }
+    Ok(list)
 }

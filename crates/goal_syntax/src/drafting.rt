@@ -1,7 +1,7 @@
 //! Drafts that keep room for more.
 
-ghost use Rattle.std.specs.Prelude.{◌≡◌, ◌&&◌, length, true, IfOk, OnOk};
-ghost use Rattle.kan_model.specs.Tables.{is_term_grown, is_goal_grown, template_of, goal_of};
+ghost use Rattle.std.specs.Prelude.{◌≡◌, ◌&&◌, ◌<◌, length, true, IfOk, OnOk};
+ghost use Rattle.kan_model.specs.Tables.{is_term_grown, is_goal_grown, template_of, goal_of, with_argument};
 ghost use Rattle.kan_model.specs.Nodes.{term_entry, goal_entry};
 ghost use Rattle.kan_model.specs.Drafts.{tables, templates, goals};
 ghost use Rattle.goal_syntax.specs.Drafting.{HasTemplate, HasGoal, Grows, HasRoom};
@@ -9,6 +9,9 @@ ghost use Rattle.goal_syntax.specs.Equational.{is_equational_entry, are_equation
 
 use kan_model::{Draft, GoalNode, TermNode};
 use kan_terms::Memory;
+
+/// How many entries a table has at most.
+pub(crate) const MOST_ENTRIES: u32 = 0xff_ffff;
 
 /// Adds a template, and gives its place. A full table has no memory left.
 pub(crate) fn add_term(draft: &mut Draft, node: TermNode) -> Result<u32, Memory>
@@ -19,7 +22,29 @@ pub(crate) fn add_term(draft: &mut Draft, node: TermNode) -> Result<u32, Memory>
     ensures room { OnOk result (HasRoom (tables draft.new)) }
     ensures same { OnOk result ((tables draft.new).goals ≡ (tables draft.old).goals) }
 {
-    Err(Memory)
+    let at = draft.term(node)?;
+    if at < MOST_ENTRIES {
+        Ok(at)
+    } else {
+        Err(Memory)
+    }
+}
+
+/// Puts a template, by its place, behind the arguments that are there. A full table has no memory left.
+pub(crate) fn add_argument(draft: &mut Draft, term: u32) -> Result<u32, Memory>
+    requires there { term < length (tables draft.old).terms }
+    requires room { HasRoom (tables draft.old) }
+    ensures put { OnOk result (tables draft.new ≡ with_argument (tables draft.old) term) }
+    ensures place { IfOk result (λ at. at ≡ length (tables draft.old).arguments) }
+    ensures grows { OnOk result (Grows (tables draft.old) (tables draft.new)) }
+    ensures room { OnOk result (HasRoom (tables draft.new)) }
+{
+    let at = draft.argument(term)?;
+    if at < MOST_ENTRIES {
+        Ok(at)
+    } else {
+        Err(Memory)
+    }
 }
 
 /// Adds a goal, and gives its place. A full table has no memory left.
@@ -31,5 +56,10 @@ pub(crate) fn add_goal(draft: &mut Draft, node: GoalNode) -> Result<u32, Memory>
     ensures room { OnOk result (HasRoom (tables draft.new)) }
     ensures equational { OnOk result (are_equational_entries (tables draft.new).goals ≡ (are_equational_entries (tables draft.old).goals && is_equational_entry (goal_entry node))) }
 {
-    Err(Memory)
+    let at = draft.goal(node)?;
+    if at < MOST_ENTRIES {
+        Ok(at)
+    } else {
+        Err(Memory)
+    }
 }

@@ -1,6 +1,6 @@
 use Rattle.goal_syntax.specs.Parts.{sites}
 use Rattle.goal_syntax.specs.Tabled.{relations}
-use Rattle.goal_syntax.proofs.BuildLaws.{grows_on}
+use Rattle.goal_syntax.proofs.DraftLaws.{grows_on}
 use Rattle.goal_syntax.proofs.GoalWorkLaws.{work_done, work_falls}
 use Rattle.goal_syntax.proofs.build_goal.build_goals.Goals as goal
 

@@ -3,7 +3,8 @@ use Rattle.kan_model.specs.Drafts.{tables}
 use Rattle.goal_syntax.specs.Parts.{sites}
 use Rattle.goal_syntax.specs.Tabled.{relations}
 use Rattle.goal_syntax.specs.Built.{own_goal, with_maybe}
-use Rattle.goal_syntax.proofs.BuildLaws.{built_kept, grows_on, own_some, own_none}
+use Rattle.goal_syntax.proofs.BuiltLaws.{built_kept, own_some, own_none}
+use Rattle.goal_syntax.proofs.DraftLaws.{grows_on}
 use Rattle.goal_syntax.proofs.build_goal.build_own.Goals as goal
 
 pub returns-in_ok-make-clause-made : goal.returns-in_ok-make-clause-made

@@ -1,7 +1,7 @@
 use Rattle.std.proofs.Common.{length}
 use Rattle.kan_model.specs.Drafts.{tables}
 use Rattle.kan_model.specs.Nodes.{goal_entry}
-use Rattle.goal_syntax.proofs.BuildLaws.{top_two, join_grown}
+use Rattle.goal_syntax.proofs.BuiltLaws.{top_two, join_grown}
 use Rattle.goal_syntax.proofs.join_goal.join_two.Goals as goal
 
 pub make-requires-clause-there : goal.make-requires-clause-there

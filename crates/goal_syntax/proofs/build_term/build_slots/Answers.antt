@@ -1,0 +1,22 @@
+use Rattle.std.proofs.Common.{arith}
+use Rattle.kan_model.specs.Drafts.{tables}
+use Rattle.goal_syntax.specs.Building.{AddsTerms}
+use Rattle.goal_syntax.proofs.BuildLaws.{adds_on, both_there, slots_next}
+use Rattle.goal_syntax.proofs.build_term.build_slots.Goals as goal
+
+pub add_term-requires-in-loop-slot-2-clause-there : goal.add_term-requires-in-loop-slot-2-clause-there
+add_term-requires-in-loop-slot-2-clause-there c =
+    both_there (tables c.loop-slot.draft) (tables c.add_term-in-loop-slot.new.draft) _ _ _ _ c.in_ok-first.ensures.made c.loop-slot.invariant.made c.in_ok-first.ensures.grows
+
+pub loop-slot-preserved : goal.loop-slot-preserved
+loop-slot-preserved c =
+    let first : AddsTerms (tables c.loop-slot.draft) (tables c.add_term-in-loop-slot.new.draft) =
+    record { grows = c.in_ok-first.ensures.grows; room = c.in_ok-first.ensures.room; same = c.in_ok-first.ensures.same } in
+    let next : AddsTerms (tables c.add_term-in-loop-slot.new.draft) (tables c.add_term-in-loop-slot-2.new.draft) =
+    record { grows = c.in_ok-list-2.ensures.grows; room = c.in_ok-list-2.ensures.room; same = c.in_ok-list-2.ensures.same } in
+    record {
+      within = omega arith;
+      made = slots_next (tables c.loop-slot.draft) (tables c.add_term-in-loop-slot.new.draft) _ c.args.bound.now c.loop-slot.slot _ _ _ c.loop-slot-test.true c.loop-slot.invariant.within
+          c.loop-slot.invariant.made c.in_ok-first.ensures.made c.in_ok-first.ensures.grows c.in_ok-list-2.ensures.made;
+      adds = adds_on (tables c.args.draft.now) (tables c.loop-slot.draft) _ c.loop-slot.invariant.adds (adds_on (tables c.loop-slot.draft) (tables c.add_term-in-loop-slot.new.draft) _ first next);
+    }

@@ -1,0 +1,11 @@
+use Rattle.goal_syntax.specs.Parts.{sites}
+use Rattle.goal_syntax.proofs.BuildLaws.{pair_falls, same_falls}
+use Rattle.goal_syntax.proofs.build_term.build_step.Goals as goal
+
+pub returns-in_ok-push-in-Pair-3-clause-falls : goal.returns-in_ok-push-in-Pair-3-clause-falls
+returns-in_ok-push-in-Pair-3-clause-falls c =
+    rw c.in-Pair.is (pair_falls (sites c.args.text.now.nodes.now) c.args.works.now.items _ _ _ c.in-Pair.first c.in-Pair.rest c.in_ok-push-in-Pair.ensures.items c.in_ok-push-in-Pair-2.ensures.items c.in_ok-push-in-Pair-3.ensures.items)
+
+pub returns-in_ok-push-in-Same-clause-falls : goal.returns-in_ok-push-in-Same-clause-falls
+returns-in_ok-push-in-Same-clause-falls c =
+    rw c.in-Same.is (same_falls (sites c.args.text.now.nodes.now) c.args.works.now.items _ c.in-Same.task c.in_ok-push-in-Same.ensures.items)

@@ -1,0 +1,20 @@
+use Rattle.std.proofs.Common.{arith}
+use Rattle.kan_model.specs.Drafts.{tables}
+use Rattle.goal_syntax.specs.Parts.{sites}
+use Rattle.goal_syntax.proofs.BuildLaws.{adds_on, work_done, work_falls, last_built, all_done}
+use Rattle.goal_syntax.proofs.build_term.build_term.Goals as goal
+
+pub loop-work-smaller : goal.loop-work-smaller
+loop-work-smaller c = work_falls (sites c.args.text.now.nodes.now) _ _ _ c.in-Some.work c.in-Some.ensures.items c.in_ok-build_work.ensures.falls
+
+pub loop-work-preserved : goal.loop-work-preserved
+loop-work-preserved c = record {
+  made = work_done (sites c.args.text.now.nodes.now) c.args.text.now.names.now c.args.scope.now _ _ c.build_work.new.works.items c.in-Some.work _ _ _ c.in-Some.ensures.items c.in_ok-build_work.ensures.made c.loop-work.invariant.made;
+  below = c.in_ok-build_work.ensures.below;
+  adds = adds_on (tables c.args.draft.now) (tables c.loop-work.draft) _ c.loop-work.invariant.adds c.in_ok-build_work.ensures.adds;
+}
+
+pub returns-in-Some-pop-clause-made : goal.returns-in-Some-pop-clause-made
+returns-in-Some-pop-clause-made c =
+    last_built (tables c.loop-work.draft) _ _ _ _ c.in-Some-pop.ensures.items c.loop-work.invariant.below
+    (all_done (sites c.args.text.now.nodes.now) c.args.text.now.names.now c.args.scope.now c.loop-work.works.items _ _ (omega (arith, c.in_default.ensures.cases)) c.loop-work.invariant.made)

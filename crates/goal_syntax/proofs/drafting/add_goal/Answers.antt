@@ -1,0 +1,13 @@
+use Rattle.kan_model.specs.Drafts.{tables}
+use Rattle.kan_model.specs.Nodes.{goal_entry}
+use Rattle.goal_syntax.proofs.DraftLaws.{goal_made, goal_equational, grows_goal, grows_to}
+use Rattle.goal_syntax.proofs.drafting.add_goal.Goals as goal
+
+pub returns-then-at-lt-MOST_ENTRIES-clause-made : goal.returns-then-at-lt-MOST_ENTRIES-clause-made
+returns-then-at-lt-MOST_ENTRIES-clause-made c = goal_made (tables c.args.draft.now) _ (goal_entry c.args.node) _ c.in_ok-at.ensures.added c.in_ok-at.ensures.place
+
+pub returns-then-at-lt-MOST_ENTRIES-clause-grows : goal.returns-then-at-lt-MOST_ENTRIES-clause-grows
+returns-then-at-lt-MOST_ENTRIES-clause-grows c = grows_to (tables c.args.draft.now) _ _ c.in_ok-at.ensures.added (grows_goal (tables c.args.draft.now) (goal_entry c.args.node))
+
+pub returns-then-at-lt-MOST_ENTRIES-clause-equational : goal.returns-then-at-lt-MOST_ENTRIES-clause-equational
+returns-then-at-lt-MOST_ENTRIES-clause-equational c = goal_equational (tables c.args.draft.now) _ (goal_entry c.args.node) c.in_ok-at.ensures.added
