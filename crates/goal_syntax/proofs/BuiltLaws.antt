@@ -17,7 +17,7 @@ use Rattle.goal_syntax.specs.Turning.{are_below}
 use Rattle.goal_syntax.proofs.TurnLaws.{below-push, below-split}
 
 -- a goal is among those of a table that grew
-goal_kept : (ts us : Tables) (p : ℕ) → Grows ts us → p < length ts.goals → HasGoal us p (goal_at (goals_of ts) p)
+pub goal_kept : (ts us : Tables) (p : ℕ) → Grows ts us → p < length ts.goals → HasGoal us p (goal_at (goals_of ts) p)
 goal_kept ts us p grows there = grows.goals p (goal_at (goals_of ts) p) (record { there = there; is = refl })
 
 -- places are there in tables that grew

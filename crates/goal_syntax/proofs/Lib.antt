@@ -14,3 +14,5 @@ pub mod DraftLaws
 pub mod BuildLaws
 pub mod BuiltLaws
 pub mod GoalWorkLaws
+pub mod BuiltTextLaws
+pub mod CompilingLaws

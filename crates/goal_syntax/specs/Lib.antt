@@ -20,3 +20,5 @@ pub mod Equational
 pub mod Compiles
 pub mod Built
 pub mod GoalWorks
+pub mod BuiltText
+pub mod CompiledForms
