@@ -50,12 +50,20 @@ impl<'a, St: Store> PlainNodes<'a, St> {
 
     /// The empty table for a program.
     pub fn new(alloc: Global, program: &'a Program) -> PlainNodes<'a, St>
-        ensures { result.rows.items ≡ [] }
+        ensures empty { result.rows.items ≡ [] }
+        ensures program { result.program.now ≡ program.now }
     {
         PlainNodes {
             program,
             rows: Vec::new(alloc),
         }
+    }
+
+    /// The program that the suspensions are of.
+    pub fn program(&self) -> &'a Program
+        ensures { result.now ≡ self.now.program.now }
+    {
+        self.program
     }
 }
 
