@@ -1,16 +1,17 @@
 -- Answers and pulls in front of what is left.
-use Rattle.std.proofs.Common.{◌≡◌, ℕ, suc, ◌+◌, ◌<◌, ◌≤◌, List, [], ◌∷◌, ◌++◌, length, map, sym, ◌∙◌, ap, append_assoc, zero-add, arith}
+use Rattle.std.proofs.Common.{◌≡◌, ℕ, suc, ◌+◌, ◌<◌, ◌≤◌, List, [], ◌∷◌, ◌++◌, length, map, sym, ◌∙◌, ap, ap₂, append_assoc, add_assoc, arith}
 use Rattle.std.specs.Prelude.{Option, Some, None, is_some, IfSome, true}
 use Rattle.std.proofs.Math.Logic.{◌⊎◌, inl, inr, ⊎_elim}
 use Rattle.std.proofs.lemmas.List.{map-append, length-append, length-map}
 use Rattle.kan_model.specs.Stores.{Store}
 use Rattle.kan_model.specs.Taking.{Taken, with_answer, with_pull, nothing_more}
-use Rattle.kan_search.specs.Batches.{joined, ending_of, Advances}
+use Rattle.kan_search.specs.Batches.{greatest_batch, joined, ending_of, Advances}
 use Rattle.kan_search.specs.declared.batch.Ended.{Ended}
 
--- none of either changes nothing
-pub joined-none : (t : Taken) → t ≡ joined [] 0 t
-joined-none t = ap (λ n. record { stores = t.stores; pulls = n; ending = t.ending }) (sym (zero-add t.pulls))
+-- batches one after the other are one
+pub joined-twice : (answers more : List Store) (pulls others : ℕ) (t : Taken) → joined answers pulls (joined more others t) ≡ joined (answers ++ more) (pulls + others) t
+joined-twice answers more pulls others t =
+    ap₂ (λ xs n. record { stores = xs; pulls = n; ending = t.ending }) (sym (append_assoc answers more t.stores)) (sym (add_assoc pulls others t.pulls))
 
 -- one answer more goes behind those that are there
 pub joined-answer : {St : Type 0} (means : St → Store) (answers more : List St) (store : St) (before after : Taken) (pulls : ℕ) → more ≡ answers ++ store ∷ [] → before ≡ with_answer (means store) after →
@@ -33,21 +34,21 @@ longer-few xs more x most grown few =
 
 -- a batch that stops without an end, having its answers or its pulls
 pub advances-on : {St : Type 0} (means : St → Store) (round pulls made : ℕ) (before after : Taken) (answers : List St) (pulls_after : ℕ) → before ≡ joined (map means answers) made after → pulls_after ≡ pulls + made →
-    length answers ≤ 1024 → (length answers ≡ 1024) ⊎ (made ≡ round) → Advances round before pulls (map means answers) None after pulls_after
+    length answers ≤ greatest_batch → (length answers ≡ greatest_batch) ⊎ (made ≡ round) → Advances round before pulls (map means answers) None after pulls_after
 advances-on means round pulls made before after answers pulls_after joins counted few ends =
     let long : length (map means answers) ≡ length answers = length-map answers means in
     record { made = made; counted = counted; joins = joins; few = omega (arith, long, few); ends = ⊎_elim (λ e. inl (long ∙ e)) (λ e. inr e) ends }
 
 -- a batch in which the run ended
 pub advances-end : {St : Type 0} (means : St → Store) (round pulls made : ℕ) (before after : Taken) (answers : List St) (pulls_after : ℕ) (ended : Ended) → before ≡ joined (map means answers) made after → pulls_after ≡ pulls + made →
-    length answers ≤ 1024 → after ≡ nothing_more (ending_of ended) → Advances round before pulls (map means answers) (Some ended) after pulls_after
+    length answers ≤ greatest_batch → after ≡ nothing_more (ending_of ended) → Advances round before pulls (map means answers) (Some ended) after pulls_after
 advances-end means round pulls made before after answers pulls_after ended joins counted few ends =
     let long : length (map means answers) ≡ length answers = length-map answers means in
     record { made = made; counted = counted; joins = joins; few = omega (arith, long, few); ends = ends }
 
 -- a batch in which all pulls were made, or the run ended
 pub advances-so : {St : Type 0} (means : St → Store) (round pulls made : ℕ) (before after : Taken) (answers : List St) (pulls_after : ℕ) (ended : Option Ended) → before ≡ joined (map means answers) made after → pulls_after ≡ pulls + made →
-    length answers ≤ 1024 → (is_some ended ≡ true) ⊎ (made ≡ round) → IfSome ended (λ e. after ≡ nothing_more (ending_of e)) → Advances round before pulls (map means answers) ended after pulls_after
+    length answers ≤ greatest_batch → (is_some ended ≡ true) ⊎ (made ≡ round) → IfSome ended (λ e. after ≡ nothing_more (ending_of e)) → Advances round before pulls (map means answers) ended after pulls_after
 advances-so means round pulls made before after answers pulls_after None joins counted few (inl some) ends = cc
 advances-so means round pulls made before after answers pulls_after None joins counted few (inr all) ends = advances-on means round pulls made before after answers pulls_after joins counted few (inr all)
 advances-so means round pulls made before after answers pulls_after (Some e) joins counted few why ends = advances-end means round pulls made before after answers pulls_after e joins counted few ends

@@ -16,7 +16,7 @@ use kan_terms::{ListOf, Memory};
 use std::alloc::Global;
 use stream_core::{PlainId, PlainNodes, Stores};
 
-/// How many answers a batch has at most.
+// How many answers a batch has at most.
 const GREATEST_BATCH: usize = 1024;
 
 /// What is left of a run: the answers that may still be given, the pulls that may still be made, and the stream.
@@ -45,10 +45,10 @@ pub struct Search<'a, St: Store> {
 }
 
 impl<'a, St: Store> Search<'a, St> {
-    ghost use Rattle.std.specs.Prelude.{ℕ, suc, false, [], ◌∷◌, ◌<◌, length, map, Some, None, IfOk, IfNone, OnOk, OnErr, IsErr};
+    ghost use Rattle.std.specs.Prelude.{ℕ, false, [], ◌∷◌, ◌<◌, length, map, IfOk, IfNone, OnOk, OnErr, IsErr};
     ghost use Rattle.kan_model.specs.Tables.{nothing_open};
     ghost use Rattle.kan_model.specs.Taking.{taken, nothing_more, with_answer, with_pull};
-    ghost use Rattle.kan_search.specs.Batches.{Advances, query_of, ending_of, joined};
+    ghost use Rattle.kan_search.specs.Batches.{Advances, query_of, ending_of, joined, greatest_batch};
     ghost use Rattle.kan_search.specs.Searches.{left};
     ghost use Rattle.kan_search.specs.Waiting.{GivesNone, WantsPull};
 
@@ -112,10 +112,10 @@ impl<'a, St: Store> Search<'a, St> {
 
     // Gives stores until a batch has its answers or only a pull gives more.
     fn give_heads(&mut self, answers: &mut Stores<St>) -> Result<(), Memory>
-        requires { length answers.old ≤ 1024 }
+        requires { length answers.old ≤ greatest_batch }
         ensures joined { OnOk result ((pulls : ℕ) → joined (map St.meaning answers.old) pulls (left St.meaning self.old) ≡ joined (map St.meaning answers.new) pulls (left St.meaning self.new)) }
-        ensures few { OnOk result (length answers.new ≤ 1024) }
-        ensures none { OnOk result (length answers.new < 1024 → GivesNone self.new.limit self.new.heads.items) }
+        ensures few { OnOk result (length answers.new ≤ greatest_batch) }
+        ensures none { OnOk result (length answers.new < greatest_batch → GivesNone self.new.limit self.new.heads.items) }
         ensures pulls { self.new.pulls ≡ self.old.pulls }
         ensures round { self.new.round ≡ self.old.round }
         ensures spent { self.new.spent ≡ self.old.spent }
@@ -171,7 +171,7 @@ impl<'a, St: Store> Search<'a, St> {
         }
     }
 
-    // The next answers, where memory was never wanting.
+    // The next answers, where no memory was wanting before.
     fn next_batch(&mut self, alloc: Global) -> Result<Batch<St>, Memory>
         ensures batch { IfOk result (λ batch. Advances self.old.round (left St.meaning self.old) self.old.pulls (map St.meaning batch.answers) batch.ended (left St.meaning self.new) self.new.pulls) }
         ensures round { self.new.round ≡ self.old.round }

@@ -1,5 +1,6 @@
 use Rattle.std.proofs.Common.{◌∙◌, sym, ap, map, arith}
-use Rattle.kan_search.specs.Batches.{joined}
+use Rattle.kan_search.specs.Batches.{greatest_batch, joined}
+use Rattle.kan_search.specs.Searches.{left}
 use Rattle.kan_search.proofs.JoinLaws.{joined-answer, longer-few}
 use Rattle.kan_search.proofs.searching.Search.give_heads.Goals as goal
 
@@ -11,8 +12,8 @@ loop-self-preserved g c =
     let kept = c.next_head.ensures in
     let inv = c.loop-self.invariant in
     record {
-      joined = λ pulls. inv.joined pulls ∙ joined-answer g.St.Store.meaning _ _ c.in-Some.store _ _ pulls c.in_ok-put_last-in-Some.ensures c.in-Some.ensures.some;
-      few = longer-few c.loop-self.answers _ c.in-Some.store 1024 c.in_ok-put_last-in-Some.ensures (omega arith);
+      joined = λ pulls. inv.joined pulls ∙ joined-answer g.St.Store.meaning c.loop-self.answers c.put_last.new.stores c.in-Some.store (left g.St.Store.meaning c.loop-self.self) (left g.St.Store.meaning c.next_head.new.self) pulls c.in_ok-put_last-in-Some.ensures c.in-Some.ensures.some;
+      few = longer-few c.loop-self.answers c.put_last.new.stores c.in-Some.store greatest_batch c.in_ok-put_last-in-Some.ensures (omega arith);
       pulls = kept.pulls ∙ inv.pulls;
       round = kept.round ∙ inv.round;
       spent = kept.spent ∙ inv.spent;
