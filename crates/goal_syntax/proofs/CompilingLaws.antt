@@ -55,17 +55,6 @@ and_three : (x y z : Bool) → ((x && y) && z) ≡ (x && (y && z))
 and_three false y z = refl
 and_three true y z = refl
 
-pub and_none : (x : Bool) → x ≡ (x && true)
-and_none true = refl
-and_none false = refl
-
--- nothing is added before the first form
-pub means_none : (ts : Tables) (qs : List Query) (rs : List model.Relation) (asked : List model.Query) → Means ts qs rs asked → Means ts qs (rs ++ []) asked
-means_none ts qs rs asked means = rw (append-nil rs) means
-
-pub means_nothing : (ts : Tables) (qs : List Query) (rs : List model.Relation) (asked : List model.Query) → Means ts qs rs asked → Means ts qs (rs ++ []) (asked ++ [])
-means_nothing ts qs rs asked means = rw (append-nil rs, append-nil asked) means
-
 -- a form of a library adds its relation
 pub library_means : (t : Table) (rules : List Defined) (ds : List Sited) (forms : List ℕ) (i : ℕ) (ts us vs : Tables) → i < length forms →
     ((qs : List Query) → (rs : List model.Relation) → (asked : List model.Query) → Means ts qs rs asked → Means us qs (rs ++ relations_of t rules (map (site_at ds) (take i forms))) asked) →

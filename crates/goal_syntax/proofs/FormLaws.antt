@@ -115,12 +115,6 @@ few_rows t ds forms old new added =
 pub before_text : (rs library text : List Defined) (n : ℕ) → rs ≡ library ++ text → n ≡ length library → take n rs ≡ library
 before_text rs library text n split size = ap (take n) split ∙ ap (λ k. take k (library ++ text)) size ∙ take-append_seam library text
 
-pub before_within : (rs library text : List Defined) (n : ℕ) → rs ≡ library ++ text → n ≡ length library → n ≤ length rs
-before_within rs library text n split size = let all : length rs ≡ length library + length text = ap length split ∙ length-append library text in omega arith
-
-pub text_later : (rs library text : List Defined) (n : ℕ) → rs ≡ library ++ text → n ≡ length library → rs ≡ take n rs ++ text
-text_later rs library text n split size = split ∙ ap (λ l. l ++ text) (sym (before_text rs library text n split size))
-
 -- the first fault of the forms of a text is that of the text behind its library
 pub first_is : (t : Table) (library text : List Sited) (rs : List Defined) (n : ℕ) (r : Option Fault) → rs ≡ defined t library ++ defined t text → n ≡ length (defined t library) →
     r ≡ least (forms_faults t rs (take n rs) text) → r ≡ least (faults_of t library text)

@@ -1,10 +1,10 @@
 -- What the relations of tables and the queries that are built of a text mean.
-use Rattle.std.specs.Prelude.{◌≡◌, ℕ, true, nat_lt, List, [], ◌∷◌, Option, None, map, length}
+use Rattle.std.specs.Prelude.{◌≡◌, ℕ, true, nat_lt, List, [], ◌∷◌, Option, Some, None, map, length}
 use Rattle.std.specs.List.{list_all}
 use Rattle.kan_terms.specs.Tree.{leaf}
 use Rattle.kan_model.specs.Goals as model
 use Rattle.kan_model.specs.GoalForms.{GoalForms}
-use Rattle.kan_model.specs.TopForms.{Defined}
+use Rattle.kan_model.specs.TopForms.{Defined, NameAt, name_at}
 use Rattle.kan_model.specs.ProgramText.{slot_list}
 use Rattle.kan_model.specs.Resolved.{conjunction, goals_in, within}
 use Rattle.kan_model.specs.Tables.{Tables, RelationEntry, goal_at, goals_of}
@@ -38,3 +38,8 @@ relation_meant rs params gs = record { params = length params; body = conjunctio
 
 abbrev pub query_asked : ℕ → Option ℕ → Query
 query_asked goal limit = record { goal = goal; limit = limit }
+
+-- the symbol of a relation's name; where it has none, the first one
+abbrev pub name_symbol : Option NameAt → ℕ
+name_symbol None = 0
+name_symbol (Some (name_at at s)) = s

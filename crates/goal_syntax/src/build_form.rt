@@ -2,7 +2,7 @@
 
 ghost use Rattle.std.specs.Prelude.{◌≡◌, ◌&&◌, ◌<◌, ◌∷◌, ◌++◌, [], List, length, IfOk, OnOk};
 ghost use Rattle.kan_model.specs.Goals as model;
-ghost use Rattle.kan_model.specs.TopForms.{head as head_of};
+ghost use Rattle.kan_model.specs.TopForms.{head as head_of, head_name};
 ghost use Rattle.kan_model.specs.GoalForms.{goal_forms};
 ghost use Rattle.kan_model.specs.ProgramText.{relations_in, queries_in};
 ghost use Rattle.kan_model.specs.Resolved.{conjunction, goals_in, within};
@@ -10,7 +10,7 @@ ghost use Rattle.kan_model.specs.Drafts.{tables};
 ghost use Rattle.kan_model.specs.Nodes.{relation_entry};
 ghost use Rattle.kan_model.specs.Tables.{with_relation};
 ghost use Rattle.kan_model.specs.declared.nodes.Query.{Query as AskedOf};
-ghost use Rattle.goal_syntax.specs.BuiltText.{Means, query_asked, relation_meant};
+ghost use Rattle.goal_syntax.specs.BuiltText.{Means, name_symbol, query_asked, relation_meant};
 ghost use Rattle.goal_syntax.specs.Drafting.{HasGoal, Grows, HasRoom};
 ghost use Rattle.goal_syntax.specs.Equational.{is_equational, is_equational_body, are_equational, are_equational_entries};
 ghost use Rattle.goal_syntax.specs.FormSteps.{limit_at, step_top};
@@ -45,7 +45,9 @@ fn add_relation(draft: &mut Draft, relation: Relation) -> Result<(), Memory>
 }
 
 // The symbol of a relation's name; one that is none stands for the first symbol.
-fn relation_name(nodes: &Nodes, head: u32) -> u32 {
+fn relation_name(nodes: &Nodes, head: u32) -> u32
+    ensures { result ≡ name_symbol (head_name (site_at (sites nodes.now) head)) }
+{
     match head_name(nodes, head) {
         Some((_, symbol)) => symbol,
         None => 0,

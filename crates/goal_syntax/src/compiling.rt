@@ -29,7 +29,7 @@ use crate::form::{Form, open};
 use crate::judge_goal::Text;
 use crate::judge_text::{define, first_of_forms};
 use crate::node::Nodes;
-use crate::turn::{Prefixes, turn};
+use crate::turn::{Prefixes, turn_both};
 use kan_model::{Draft, Program, Query};
 use kan_terms::{ListOf, Memory, Names};
 use sexpr::Datum;
@@ -185,9 +185,7 @@ fn compile_data(
     ensures { CompilesForms names.now (map (sited names.now) (map (written names.now) library.now)) (map (sited names.now) (map (written names.now) text.now)) result }
 {
     let mut table = Nodes::new(alloc);
-    let mut places = Vec::new(alloc);
-    turn(alloc, library, names, prefixes, &mut table, &mut places)?;
-    turn(alloc, text, names, prefixes, &mut table, &mut places)?;
+    let places = turn_both(alloc, library, text, names, prefixes, &mut table)?;
     let (first, later) = places.as_slice().split_at(library.len());
     compile_forms(alloc, &table, names, first, later)
 }
