@@ -123,14 +123,14 @@ parts-is (Sited.pair at b c) a d e = (at, ap (λ p. Sited.pair at (left p) (righ
     right None = d
     right (Some p) = p.1
 
-goals-none : (t : Table) (s : Sited) → None ≡ parts s → goal_forms t s ≡ none
+pub goals-none : (t : Table) (s : Sited) → None ≡ parts s → goal_forms t s ≡ none
 goals-none t (Sited.name at s) e = refl
 goals-none t (Sited.num at n) e = refl
 goals-none t (Sited.bool at b) e = refl
 goals-none t (Sited.nil at) e = refl
 goals-none t (Sited.pair at b c) e = cc
 
-clauses-none : (t : Table) (s : Sited) → None ≡ parts s → clause_forms t s ≡ none
+pub clauses-none : (t : Table) (s : Sited) → None ≡ parts s → clause_forms t s ≡ none
 clauses-none t (Sited.name at s) e = refl
 clauses-none t (Sited.num at n) e = refl
 clauses-none t (Sited.bool at b) e = refl

@@ -12,3 +12,7 @@ pub mod TurnWorkLaws
 pub mod CheckLaws
 pub mod DraftLaws
 pub mod BuildLaws
+pub mod BuiltLaws
+pub mod GoalWorkLaws
+pub mod BuiltTextLaws
+pub mod CompilingLaws

@@ -18,3 +18,7 @@ pub mod Drafting
 pub mod Building
 pub mod Equational
 pub mod Compiles
+pub mod Built
+pub mod GoalWorks
+pub mod BuiltText
+pub mod CompiledForms

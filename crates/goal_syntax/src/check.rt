@@ -33,8 +33,8 @@ impl From<Memory> for SyntaxError {
     }
 }
 
-// The numbers of the symbols that prefixes stand for; those that have none get one.
-fn number_prefixes(names: &mut Names) -> Result<Prefixes, Memory>
+/// The numbers of the symbols that prefixes stand for; those that have none get one.
+pub(crate) fn number_prefixes(names: &mut Names) -> Result<Prefixes, Memory>
     requires { length names.old + 3 < 2 ^ 32 }
     ensures numbered { IfOk result (λ prefixes. AreNumbered names.new prefixes) }
     ensures named { OnOk result (NamesPrefixes names.new) }

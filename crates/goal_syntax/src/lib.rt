@@ -2,7 +2,10 @@
 #![tactic(auto)]
 
 mod binder;
+mod build_form;
 mod build_goal;
+mod build_node;
+mod build_run;
 mod build_term;
 mod check;
 mod compiling;
@@ -10,6 +13,7 @@ mod drafting;
 mod fault;
 mod form;
 mod goal;
+mod join_goal;
 mod judge_form;
 mod judge_goal;
 mod judge_term;

@@ -1,2 +1,4 @@
 pub mod Batches
 pub mod Searches
+pub mod Suspensions
+pub mod Waiting

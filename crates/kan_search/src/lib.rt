@@ -2,6 +2,8 @@
 #![tactic(auto)]
 
 mod batch;
+mod heads;
+mod pulling;
 mod searching;
 
 pub use batch::{Batch, Ended};

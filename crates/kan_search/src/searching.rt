@@ -1,15 +1,27 @@
 //! Searches, which take the answers of a run's stream.
 
-use crate::batch::Batch;
+ghost use Rattle.std.specs.Prelude.{◌≡◌, ◌+◌, ◌≤◌, true, IfSome};
+ghost use Rattle.std.specs.List.{list_all};
+ghost use Rattle.std.specs.Option.{ForSome};
+ghost use Rattle.kan_model.specs.Scope.{is_small};
+ghost use Rattle.kan_model.specs.Programs as programs;
+ghost use Rattle.stream_core.specs.Tasks.{is_built};
+ghost use Rattle.kan_search.specs.Suspensions.{tree_of, IsOf, LeavesRoom};
+
+use crate::batch::{Batch, Ended};
+use crate::heads::{is_reached, less_one, put_last};
+use crate::pulling::{Pulled, pull, start};
 use kan_model::{Program, Query, Store};
-use kan_terms::Memory;
+use kan_terms::{ListOf, Memory};
 use std::alloc::Global;
-use stream_core::{PlainId, PlainNodes};
+use stream_core::{PlainId, PlainNodes, Stores};
+
+/// How many answers a batch has at most.
+const GREATEST_BATCH: usize = 1024;
 
 /// What is left of a run: the answers that may still be given, the pulls that may still be made, and the stream.
 #[derive(Drop)]
 pub struct Search<'a, St: Store> {
-    program: &'a Program,
     // How many answers may still be given, where that is limited.
     limit: Option<u64>,
     // How many pulls may still be made.
@@ -25,18 +37,20 @@ pub struct Search<'a, St: Store> {
     tail: Option<PlainId>,
     // Whether memory was wanting, so that nothing is known of what is left.
     spent: bool,
+    ghost small: { is_small (programs.meaning nodes.program.now) ≡ true },
+    ghost built: { list_all is_built (programs.tables nodes.program.now).goals ≡ true },
+    ghost belongs: { ∥ IfSome tail (IsOf St.meaning nodes) ∥₁ },
+    ghost room: { ForSome tail (λ id. LeavesRoom pulls (tree_of St.meaning nodes id)) },
+    ghost few: { pulls + fuel ≤ 1000000 },
 }
 
 impl<'a, St: Store> Search<'a, St> {
-    ghost use Rattle.std.specs.Prelude.{◌≡◌, ◌≤◌, [], ◌∷◌, true, false, map, IfOk, OnErr, IsErr};
-    ghost use Rattle.std.specs.List.{list_all};
-    ghost use Rattle.kan_model.specs.Scope.{is_small};
+    ghost use Rattle.std.specs.Prelude.{ℕ, suc, false, [], ◌∷◌, ◌<◌, length, map, Some, None, IfOk, IfNone, OnOk, OnErr, IsErr};
     ghost use Rattle.kan_model.specs.Tables.{nothing_open};
-    ghost use Rattle.kan_model.specs.Taking.{taken};
-    ghost use Rattle.kan_model.specs.Programs as programs;
-    ghost use Rattle.stream_core.specs.Tasks.{is_built};
-    ghost use Rattle.kan_search.specs.Batches.{Advances, query_of};
+    ghost use Rattle.kan_model.specs.Taking.{taken, nothing_more, with_answer, with_pull};
+    ghost use Rattle.kan_search.specs.Batches.{Advances, query_of, ending_of, joined};
     ghost use Rattle.kan_search.specs.Searches.{left};
+    ghost use Rattle.kan_search.specs.Waiting.{GivesNone, WantsPull};
 
     /// The search of a run at a fuel from 1 to 1,000,000. A batch makes at most so many pulls as a round has, from 1 to 65,536.
     pub fn open(
@@ -57,7 +71,19 @@ impl<'a, St: Store> Search<'a, St> {
         ensures round { IfOk result (λ search. search.round ≡ round) }
         ensures whole { IfOk result (λ search. search.spent ≡ false) }
     {
-        Err(Memory)
+        let mut nodes = PlainNodes::new(alloc, program);
+        let pulled = start(alloc, query.goal, &mut nodes)?;
+        let Pulled { heads, tail } = pulled;
+        Ok(Search {
+            limit: query.limit,
+            fuel,
+            round,
+            pulls: 0,
+            nodes,
+            heads,
+            tail,
+            spent: false,
+        })
     }
 
     /// How many pulls were made. It takes no memory.
@@ -65,6 +91,109 @@ impl<'a, St: Store> Search<'a, St> {
         ensures { result ≡ self.now.pulls }
     {
         self.pulls
+    }
+
+    // The next store of the stream, where it has one before a pull and more answers are wanted.
+    fn next_head(&mut self) -> Option<St>
+        ensures some { IfSome result (λ store. left St.meaning self.old ≡ with_answer (St.meaning store) (left St.meaning self.new)) }
+        ensures none { IfNone result (GivesNone self.new.limit self.new.heads.items × (left St.meaning self.new ≡ left St.meaning self.old)) }
+        ensures fewer { IfSome result (λ _. length self.new.heads.items < length self.old.heads.items) }
+        ensures pulls { self.new.pulls ≡ self.old.pulls }
+        ensures round { self.new.round ≡ self.old.round }
+        ensures spent { self.new.spent ≡ self.old.spent }
+    {
+        if is_reached(self.limit) {
+            return None;
+        }
+        let store = self.heads.pop()?;
+        self.limit = less_one(self.limit);
+        Some(store)
+    }
+
+    // Gives stores until a batch has its answers or only a pull gives more.
+    fn give_heads(&mut self, answers: &mut Stores<St>) -> Result<(), Memory>
+        requires { length answers.old ≤ 1024 }
+        ensures joined { OnOk result ((pulls : ℕ) → joined (map St.meaning answers.old) pulls (left St.meaning self.old) ≡ joined (map St.meaning answers.new) pulls (left St.meaning self.new)) }
+        ensures few { OnOk result (length answers.new ≤ 1024) }
+        ensures none { OnOk result (length answers.new < 1024 → GivesNone self.new.limit self.new.heads.items) }
+        ensures pulls { self.new.pulls ≡ self.old.pulls }
+        ensures round { self.new.round ≡ self.old.round }
+        ensures spent { self.new.spent ≡ self.old.spent }
+    {
+        while answers.len() < GREATEST_BATCH {
+            match self.next_head() {
+                Some(store) => put_last(answers, store)?,
+                None => return Ok(()),
+            }
+        }
+        Ok(())
+    }
+
+    // How the run ends where no store may be given before a pull, and None where a pull may be made.
+    fn ending(&self) -> Option<Ended>
+        requires { GivesNone self.now.limit self.now.heads.items }
+        ensures some { IfSome result (λ ended. left St.meaning self.now ≡ nothing_more (ending_of ended)) }
+        ensures none { IfNone result (WantsPull self.now.limit self.now.heads.items self.now.tail self.now.fuel) }
+    {
+        if is_reached(self.limit) {
+            return Some(Ended::Limit);
+        }
+        if self.tail.is_none() {
+            return Some(Ended::End);
+        }
+        if self.fuel == 0 {
+            return Some(Ended::Fuel);
+        }
+        None
+    }
+
+    // Makes a pull.
+    fn make_pull(&mut self, alloc: Global) -> Result<(), Memory>
+        requires { WantsPull self.old.limit self.old.heads.items self.old.tail self.old.fuel }
+        ensures pulled { OnOk result (left St.meaning self.old ≡ with_pull (left St.meaning self.new)) }
+        ensures pulls { OnOk result (self.new.pulls ≡ self.old.pulls + 1) }
+        ensures round { self.new.round ≡ self.old.round }
+        ensures spent { self.new.spent ≡ self.old.spent }
+    {
+        let Some(id) = self.tail else {
+            return Err(Memory);
+        };
+        match pull(alloc, &id, &mut self.nodes) {
+            Ok(pulled) => {
+                let Pulled { heads, tail } = pulled;
+                self.heads = heads;
+                self.tail = tail;
+                self.pulls += 1;
+                self.fuel -= 1;
+                Ok(())
+            }
+            Err(Memory) => Err(Memory),
+        }
+    }
+
+    // The next answers, where memory was never wanting.
+    fn next_batch(&mut self, alloc: Global) -> Result<Batch<St>, Memory>
+        ensures batch { IfOk result (λ batch. Advances self.old.round (left St.meaning self.old) self.old.pulls (map St.meaning batch.answers) batch.ended (left St.meaning self.new) self.new.pulls) }
+        ensures round { self.new.round ≡ self.old.round }
+        ensures spent { self.new.spent ≡ self.old.spent }
+    {
+        let mut answers = ListOf::new(alloc);
+        let mut made = 0;
+        loop {
+            self.give_heads(&mut answers)?;
+            if answers.len() == GREATEST_BATCH {
+                return Ok(Batch {
+                    answers,
+                    ended: None,
+                });
+            }
+            let ended = self.ending();
+            if ended.is_some() || made == self.round {
+                return Ok(Batch { answers, ended });
+            }
+            self.make_pull(alloc)?;
+            made += 1;
+        }
     }
 
     /// The next answers: at most 1,024, found by at most a round of pulls. A search that has ended gives no more answers
@@ -75,7 +204,12 @@ impl<'a, St: Store> Search<'a, St> {
         ensures spent { OnErr result (self.new.spent ≡ true) }
         ensures again { self.old.spent ≡ true → IsErr result }
     {
+        if self.spent {
+            return Err(Memory);
+        }
         self.spent = true;
-        Err(Memory)
+        let batch = self.next_batch(alloc)?;
+        self.spent = false;
+        Ok(batch)
     }
 }

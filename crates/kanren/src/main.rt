@@ -35,7 +35,7 @@ fn run(rt: &HostRuntime, words: &[&str]) -> Status {
 // What standard error says of a run that came to nothing.
 fn complaint(status: Status) -> Option<&'static str> {
     match status {
-        Status::Usage => Some("usage: kanren"),
+        Status::Usage => Some("usage: kanren [--fuel N]"),
         Status::ReadFault => Some("kanren: read fault"),
         Status::WriteFault => Some("kanren: write fault"),
         Status::TooLong => Some("kanren: text too long"),

@@ -101,13 +101,16 @@ names-next before middle after arguments values longer argument value first next
       flat = ap (list_all is_flat) grown ∙ list_all-append is_flat values (value ∷ []) ∙ and_from _ _ first.flat (and_from _ _ next.flat refl);
     }
 
+-- the names of all arguments
+pub names-all : (before after : Store) (arguments values : List Tm) → NamesFirst before arguments values after → named before arguments ≡ record { values = values; store = after }
+names-all before after arguments values names =
+    ap (named before) (sym (append-nil arguments)) ∙ names.goes_on [] ∙ ap (λ vs. record { values = vs; store = after }) (append-nil values)
+
 -- with all arguments named, the call waits
 pub call-waits : (r : ℕ) (before after : Store) (arguments values : List Tm) → NamesFirst before arguments values after →
     Stream.goes_on [] (Thunk.call r values after) ≡ suspended_call r (named before arguments)
 call-waits r before after arguments values names =
-    let whole : named before arguments ≡ record { values = values; store = after } =
-    ap (named before) (sym (append-nil arguments)) ∙ names.goes_on [] ∙ ap (λ vs. record { values = vs; store = after }) (append-nil values) in
-    ap (suspended_call r) (sym whole)
+    ap (suspended_call r) (sym (names-all before after arguments values names))
 
 -- the step of naming, in the words of the code
 pub names-step : (before middle after : Store) (env : List Tm) (ts : List Template) (args : List ℕ) (at o term : ℕ) (values longer : List Term) (value : Tm) (given : Term) →

@@ -1,5 +1,5 @@
 -- A list of suspensions that grows: what stood there stays.
-use Rattle.std.proofs.Common.{◌≡◌, ℕ, zero, suc, ◌+◌, ◌<◌, ◌≤◌, Bool, true, false, List, [], ◌∷◌, ◌++◌, length, refl, sym, ◌∙◌, ap, ap₂, arith, add-zero, zero-add, get_or, ltb-true, lt-ltb, map, if◌then◌else◌}
+use Rattle.std.proofs.Common.{◌≡◌, ℕ, zero, suc, ◌+◌, ◌<◌, Bool, true, false, List, [], ◌∷◌, ◌++◌, length, refl, sym, ◌∙◌, ap, ap₂, arith, add-zero, zero-add, get_or, ltb-true, lt-ltb, map, if◌then◌else◌}
 use Rattle.std.specs.Prelude.{Option, Some, None, option_map, slice_get, unwrap_or}
 use Rattle.std.proofs.lemmas.Bool.{and_from, and_parts}
 use Rattle.std.proofs.lemmas.List.{length-append}
@@ -76,32 +76,12 @@ module _ {St : Type 0} (means : St → facts.Store) (goal : ℕ → Goal) where
       standing.thunk (tree_at (trees_after means goal [] ns)) means goal n ≡ tree_at (trees_after means goal [] ns) id
   stands-for ns id n grown within is = tree-after [] ns id.at id n grown within is (sym (zero-add id.at))
 
--- ids that belong are below the length, and the other way round
+-- ids that are placed are below the length
 belong-below : {St : Type 0} (ns : List (Thunk PlainId St)) (t : Thunk PlainId St) → standing.ThunkBelongs (is_placed ns) t → names_below (length ns) t ≡ true
 belong-below ns (Call rel args store) h = refl
 belong-below ns (Swap heads None inner) (h, k) = lt-ltb inner.at (length ns) k
 belong-below ns (Swap heads (Some id) inner) (h, k) = and_from _ _ (lt-ltb id.at (length ns) h) (lt-ltb inner.at (length ns) k)
 belong-below ns (Bind g env inner) h = lt-ltb inner.at (length ns) h
-
-below-belong : {St : Type 0} (ns : List (Thunk PlainId St)) (m : ℕ) (t : Thunk PlainId St) → m ≤ length ns → names_below m t ≡ true → standing.ThunkBelongs (is_placed ns) t
-below-belong ns m (Call rel args store) more h = tt
-below-belong ns m (Swap heads None inner) more h = let low = ltb-true inner.at m h in (tt, omega (arith, low, more))
-below-belong ns m (Swap heads (Some id) inner) more h =
-    let (one, two) = and_parts (is_below m id) (is_below m inner) h in
-    let low = ltb-true id.at m one in let deep = ltb-true inner.at m two in (omega (arith, low, more), omega (arith, deep, more))
-below-belong ns m (Bind g env inner) more h = let low = ltb-true inner.at m h in omega (arith, low, more)
-
-named-at : {St : Type 0} (k : ℕ) (ns : List (Thunk PlainId St)) (i : ℕ) (n : Thunk PlainId St) → all_grown k ns ≡ true → i < length ns → n ≡ get_or ns i n → names_below (k + i) n ≡ true
-named-at k [] i n grown within is = let none : ⊥ = omega (arith, within) in absurd none
-named-at k (m ∷ ns) zero n grown within is =
-    ap (λ j. names_below j n) (add-zero k) ∙ ap (names_below k) is ∙ (and_parts (names_below k m) (all_grown (suc k) ns) grown).0
-named-at k (m ∷ ns) (suc i) n grown within is =
-    let moved : k + suc i ≡ suc k + i = omega arith in
-    ap (λ j. names_below j n) moved ∙ named-at (suc k) ns i n (and_parts (names_below k m) (all_grown (suc k) ns) grown).1 (omega (arith, within)) is
-
--- a suspension of the list names others of the list
-pub belongs-at : {St : Type 0} (ns : List (Thunk PlainId St)) (id : PlainId) (n : Thunk PlainId St) → all_grown 0 ns ≡ true → id.at < length ns → n ≡ get_or ns id.at n → standing.ThunkBelongs (is_placed ns) n
-belongs-at ns id n grown within is = below-belong ns (0 + id.at) n (omega (arith, within)) (named-at 0 ns id.at n grown within is)
 
 all_grown-last : {St : Type 0} (k : ℕ) (ns : List (Thunk PlainId St)) (n : Thunk PlainId St) → all_grown k ns ≡ true → names_below (k + length ns) n ≡ true → all_grown k (ns ++ n ∷ []) ≡ true
 all_grown-last k [] n h last = and_from _ _ (ap (λ j. names_below j n) (sym (add-zero k)) ∙ last) refl

@@ -4,5 +4,10 @@ pub mod StackLaws
 pub mod GivingLaws
 pub mod RunningLaws
 pub mod GrowingLaws
+pub mod BoundLaws
 pub mod ForceLaws
 pub mod WayLaws
+pub mod ClosedLaws
+pub mod FitLaws
+pub mod TaskLaws
+pub mod KeepingLaws

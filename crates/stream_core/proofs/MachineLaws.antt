@@ -1,8 +1,7 @@
--- One task after the other gives what the definition gives.
-use Rattle.std.proofs.Common.{◌≡◌, ℕ, zero, suc, ◌+◌, ◌≤◌, ◌<◌, Bool, true, false, List, [], ◌∷◌, ◌++◌, refl, sym, ◌∙◌, ap, arith}
+-- The stores of the streams of goals, and variables that lie below a counter.
+use Rattle.std.proofs.Common.{◌≡◌, ℕ, zero, suc, ◌+◌, ◌≤◌, Bool, true, false, List, [], ◌∷◌, ◌++◌, refl, sym, ◌∙◌, ap, arith}
 use Rattle.std.specs.List.{list_all}
 use Rattle.std.proofs.lemmas.Bool.{and_from, and_parts, ltb-true, lt-ltb}
-use Rattle.std.proofs.lemmas.List.Folds.{list_all-append}
 use Rattle.kan_terms.specs.Tree.{Tree, Tm}
 use Rattle.kan_model.specs.Goals.{Goal, Primitive, on_sides}
 use Rattle.kan_model.specs.Stores.{Store, with_prim, with_fresh}
@@ -10,13 +9,14 @@ use Rattle.kan_model.specs.Kept.{is_kept}
 use Rattle.kan_model.specs.Streams.{Stream, Thunk, heads, append, append_each, bind_all, empty, one}
 use Rattle.kan_model.specs.Running.{run, variables, instance}
 use Rattle.kan_model.specs.Scope.{width, all_below}
-use Rattle.stream_core.specs.Machine.{Task, done, Each, HasRoom, AreReady, for_each, count, left, Becomes, run_each, bound_last}
+use Rattle.stream_core.specs.Fitting.{Between}
+use Rattle.stream_core.specs.Machine.{Each}
 
 pub Each-like : {X : Type 0} (P Q : X → Type 0) → ((x : X) → P x → Q x) → (xs : List X) → Each P xs → Each Q xs
 Each-like P Q f [] h = tt
 Each-like P Q f (x ∷ xs) (h, hs) = (f x h, Each-like P Q f xs hs)
 
-Each-append : {X : Type 0} (P : X → Type 0) (xs ys : List X) → Each P xs → Each P ys → Each P (xs ++ ys)
+pub Each-append : {X : Type 0} (P : X → Type 0) (xs ys : List X) → Each P xs → Each P ys → Each P (xs ++ ys)
 Each-append P [] ys h k = k
 Each-append P (x ∷ xs) ys (h, hs) k = (h, Each-append P xs ys hs k)
 
@@ -33,10 +33,6 @@ heads-each P f (st ∷ hs) last (h, rest) k = heads-append P (f st) (append_each
 pub heads-bind : (P : Store → Type 0) (f : Store → Stream) (g : Goal) (env : List Tm) (s : Stream) → Each (λ st. Each P (heads (f st))) (heads s) → Each P (heads (bind_all f g env s))
 heads-bind P f g env (Stream.ends hs) h = heads-each P f hs empty h tt
 heads-bind P f g env (Stream.goes_on hs i) h = heads-each P f hs (Stream.goes_on [] (Thunk.bind g env i)) h tt
-
--- a counter between two numbers
-abbrev pub Between : ℕ → ℕ → Store → Type 0
-Between low high st = (low ≤ st.counter) × (st.counter ≤ high)
 
 assert-between : (st : Store) (b : Bool) (p : Primitive Tm) (high : ℕ) → st.counter ≤ high → Each (Between st.counter high) (heads (elim b [ true ↦ one (with_prim st p) | false ↦ empty ]))
 assert-between st true p high h = ((omega arith, h), tt)
@@ -76,84 +72,8 @@ env-more n m more [] h = refl
 env-more n m more (t ∷ ts) h =
     let (one, two) = and_parts (all_below n t) (list_all (all_below n) ts) h in and_from _ _ (below-more n m more t one) (env-more n m more ts two)
 
-variables-below : (first k : ℕ) → list_all (all_below (first + k)) (variables first k) ≡ true
+pub variables-below : (first k : ℕ) → list_all (all_below (first + k)) (variables first k) ≡ true
 variables-below first zero = refl
 variables-below first (suc k) =
     let moved : suc first + k ≡ first + suc k = omega arith in
     and_from _ _ (lt-ltb first (first + suc k) (omega arith)) (ap (λ n. list_all (all_below n) (variables (suc first) k)) (sym moved) ∙ variables-below (suc first) k)
-
--- both goals: the second is bound to what the first gives
-pub becomes-both : (g h : Goal) (env : List Tm) (st : Store) (ts : List Task) (vs : List Stream) →
-    Becomes (Task.run_at (Goal.both g h) env st ∷ ts) vs (Task.run_at g env st ∷ Task.bind_to h env ∷ ts) vs
-becomes-both g h env st ts vs = record {
-  same = refl;
-  ready = λ ((below, room), rest). (
-    (below, omega (arith, room)),
-    (
-      Each-like (Between st.counter (st.counter + width g)) (HasRoom h env) (λ a (low, high). (env-more st.counter a.counter low env below, omega (arith, room, high))) (heads (run g env st)) (run-between g env st),
-      rest,
-    ),
-  );
-  fewer = λ ready. omega arith;
-}
-
-pub becomes-either : (g h : Goal) (env : List Tm) (st : Store) (ts : List Task) (vs : List Stream) →
-    Becomes (Task.run_at (Goal.either g h) env st ∷ ts) vs (Task.run_at h env st ∷ Task.run_at g env st ∷ Task.append_two ∷ ts) vs
-becomes-either g h env st ts vs = record {
-  same = refl;
-  ready = λ ((below, room), rest). ((below, omega (arith, room)), ((below, omega (arith, room)), rest));
-  fewer = λ ready. omega arith;
-}
-
-pub becomes-fresh : (k : ℕ) (g : Goal) (env : List Tm) (st : Store) (ts : List Task) (vs : List Stream) →
-    Becomes (Task.run_at (Goal.fresh k g) env st ∷ ts) vs (Task.run_at g (env ++ variables st.counter k) (with_fresh st k) ∷ ts) vs
-becomes-fresh k g env st ts vs = record {
-  same = refl;
-  ready = λ ((below, room), rest). (
-    (
-      list_all-append (all_below (st.counter + k)) env (variables st.counter k)
-          ∙ and_from _ _ (env-more st.counter (st.counter + k) (omega arith) env below) (variables-below st.counter k),
-      omega (arith, room),
-    ),
-    rest,
-  );
-  fewer = λ ready. omega arith;
-}
-
--- a goal whose stream is there at once
-pub becomes-stream : (g : Goal) (env : List Tm) (st : Store) (ts : List Task) (vs : List Stream) → 0 < count g env st →
-    Becomes (Task.run_at g env st ∷ ts) vs ts (run g env st ∷ vs)
-becomes-stream g env st ts vs some = record { same = refl; ready = λ (room, rest). rest; fewer = λ ready. omega (arith, some) }
-
-pub becomes-appended : (s t : Stream) (ts : List Task) (vs : List Stream) → Becomes (Task.append_two ∷ ts) (s ∷ t ∷ vs) ts (append s t ∷ vs)
-becomes-appended s t ts vs = record { same = refl; ready = λ rest. rest; fewer = λ ready. omega arith }
-
--- a goal at each store
-done-each : (g : Goal) (env : List Tm) (hs : List Store) (last : Stream) (ts : List Task) (vs : List Stream) →
-    done (run_each g env hs ts) (last ∷ vs) ≡ done ts (append_each (run g env) hs last ∷ vs)
-done-each g env [] last ts vs = refl
-done-each g env (st ∷ hs) last ts vs = done-each g env hs last (Task.run_at g env st ∷ Task.append_two ∷ ts) vs
-
-ready-each : (g : Goal) (env : List Tm) (hs : List Store) (last : Stream) (ts : List Task) (vs : List Stream) → Each (HasRoom g env) hs →
-    AreReady ts (append_each (run g env) hs last ∷ vs) → AreReady (run_each g env hs ts) (last ∷ vs)
-ready-each g env [] last ts vs room rest = rest
-ready-each g env (st ∷ hs) last ts vs (here, room) rest = ready-each g env hs last (Task.run_at g env st ∷ Task.append_two ∷ ts) vs room (here, rest)
-
-left-each : (g : Goal) (env : List Tm) (hs : List Store) (last : Stream) (ts : List Task) (vs : List Stream) →
-    left (run_each g env hs ts) (last ∷ vs) ≡ for_each (count g env) hs + left ts (append_each (run g env) hs last ∷ vs)
-left-each g env [] last ts vs = omega arith
-left-each g env (st ∷ hs) last ts vs =
-    let rest = left-each g env hs last (Task.run_at g env st ∷ Task.append_two ∷ ts) vs in rest ∙ omega arith
-
-pub becomes-bound : (g : Goal) (env : List Tm) (s : Stream) (ts : List Task) (vs : List Stream) →
-    Becomes (Task.bind_to g env ∷ ts) (s ∷ vs) (run_each g env (heads s) ts) (bound_last g env s ∷ vs)
-becomes-bound g env (Stream.ends hs) ts vs = record {
-  same = done-each g env hs empty ts vs;
-  ready = λ (room, rest). ready-each g env hs empty ts vs room rest;
-  fewer = λ ready. let more = left-each g env hs empty ts vs in omega (arith, more);
-}
-becomes-bound g env (Stream.goes_on hs i) ts vs = record {
-  same = done-each g env hs (Stream.goes_on [] (Thunk.bind g env i)) ts vs;
-  ready = λ (room, rest). ready-each g env hs (Stream.goes_on [] (Thunk.bind g env i)) ts vs room rest;
-  fewer = λ ready. let more = left-each g env hs (Stream.goes_on [] (Thunk.bind g env i)) ts vs in omega (arith, more);
-}

@@ -2,7 +2,7 @@
 use Rattle.std.proofs.Common.{◌≡◌, ◌<◌, List, [], ◌∷◌, ◌++◌, refl, sym, ◌∙◌, ap, ap₂, subst, arith, map}
 use Rattle.std.specs.Prelude.{Option, Some, None, option_map, IfSome, Result, Ok, Err, OnOk}
 use Rattle.kan_terms.specs.Tree.{Tm}
-use Rattle.kan_model.specs.Goals.{Goal}
+use Rattle.kan_model.specs.Goals.{Goal, Program}
 use Rattle.kan_model.specs.Stores as facts
 use Rattle.kan_model.specs.Streams as model
 use Rattle.kan_model.specs.Running.{run}
@@ -11,7 +11,7 @@ use Rattle.stream_core.specs.Machine.{Becomes, Each, count, done}
 use Rattle.stream_core.specs.Standing.{Grows, StreamBelongs, stream, going_on}
 use Rattle.stream_core.specs.Tasks.{stack}
 use Rattle.stream_core.specs.declared.streams.Stream.{Stream}
-use Rattle.stream_core.proofs.MachineLaws.{becomes-stream, becomes-appended, becomes-bound}
+use Rattle.stream_core.proofs.TaskLaws.{becomes-stream, becomes-appended, becomes-bound}
 
 tail-grows : {I : Type 0} (belonged belongs : I → Type 0) (was is : I → model.Thunk) → Grows belonged was belongs is → (o : Option I) → IfSome o belonged → option_map is o ≡ option_map was o
 tail-grows belonged belongs was is grows None h = refl
@@ -55,12 +55,12 @@ pub grows-same : {I : Type 0} (b : I → Type 0) (t : I → model.Thunk) → Gro
 grows-same b t id h = (h, refl)
 
 -- steps where the tasks and streams are those that a law has
-pub becomes-moved : (ts us us' : List machine.Task) (vs ws ws' : List model.Stream) → Becomes ts vs us ws → us' ≡ us → ws' ≡ ws → Becomes ts vs us' ws'
-becomes-moved ts us us' vs ws ws' step is are = rw (is, are) step
+pub becomes-moved : (program : Program) (ts us us' : List machine.Task) (vs ws ws' : List model.Stream) → Becomes program ts vs us ws → us' ≡ us → ws' ≡ ws → Becomes program ts vs us' ws'
+becomes-moved program ts us us' vs ws ws' step is are = rw (is, are) step
 
-pub becomes-goal : (g h : Goal) (env : List Tm) (st : facts.Store) (ts us us' : List machine.Task) (vs ws ws' : List model.Stream) → g ≡ h →
-    Becomes (machine.Task.run_at h env st ∷ ts) vs us ws → us' ≡ us → ws' ≡ ws → Becomes (machine.Task.run_at g env st ∷ ts) vs us' ws'
-becomes-goal g h env st ts us us' vs ws ws' same step is are = rw (same, is, are) step
+pub becomes-goal : (program : Program) (g h : Goal) (env : List Tm) (st : facts.Store) (ts us us' : List machine.Task) (vs ws ws' : List model.Stream) → g ≡ h →
+    Becomes program (machine.Task.run_at h env st ∷ ts) vs us ws → us' ≡ us → ws' ≡ ws → Becomes program (machine.Task.run_at g env st ∷ ts) vs us' ws'
+becomes-goal program g h env st ts us us' vs ws ws' same step is are = rw (same, is, are) step
 
 -- each goal takes a task
 pub count-some : (g : Goal) (env : List Tm) (st : facts.Store) → 0 < count g env st
@@ -73,10 +73,10 @@ count-some (Goal.fresh k g) env st = omega arith
 count-some (Goal.call r args) env st = omega arith
 
 -- a goal's stream on top
-pub becomes-given : (g : Goal) (env : List Tm) (st : facts.Store) (ts us : List machine.Task) (vs ws ws' : List model.Stream) (s : model.Stream) →
-    us ≡ ts → s ≡ run g env st → ws ≡ vs → ws' ≡ s ∷ ws → Becomes (machine.Task.run_at g env st ∷ ts) vs us ws'
-becomes-given g env st ts us vs ws ws' s is made same grown =
-    becomes-moved _ _ _ _ _ _ (becomes-stream g env st ts vs (count-some g env st)) is (grown ∙ ap₂ (λ x xs. x ∷ xs) made same)
+pub becomes-given : (program : Program) (g : Goal) (env : List Tm) (st : facts.Store) (ts us : List machine.Task) (vs ws ws' : List model.Stream) (s : model.Stream) →
+    us ≡ ts → s ≡ run g env st → ws ≡ vs → ws' ≡ s ∷ ws → Becomes program (machine.Task.run_at g env st ∷ ts) vs us ws'
+becomes-given program g env st ts us vs ws ws' s is made same grown =
+    becomes-moved program _ _ _ _ _ _ (becomes-stream program g env st ts vs (count-some g env st)) is (grown ∙ ap₂ (λ x xs. x ∷ xs) made same)
 
 -- what follows where a call gave a value
 pub on-ok : {T E : Type 0} (r : Result T E) (P Q : Type 0) → (P → Q) → OnOk r P → OnOk r Q
@@ -84,35 +84,30 @@ on-ok (Ok x) P Q f h = f h
 on-ok (Err e) P Q f h = h
 
 -- the two streams on top appended
-pub becomes-top : (ts : List machine.Task) (vs ws : List model.Stream) (s t made : model.Stream) (rest : List model.Stream) →
-    vs ≡ s ∷ t ∷ rest → ws ≡ made ∷ rest → made ≡ model.append s t → Becomes (machine.Task.append_two ∷ ts) vs ts ws
-becomes-top ts vs ws s t made rest old new is = rw (old, new, is) (becomes-appended s t ts rest)
+pub becomes-top : (program : Program) (ts : List machine.Task) (vs ws : List model.Stream) (s t made : model.Stream) (rest : List model.Stream) →
+    vs ≡ s ∷ t ∷ rest → ws ≡ made ∷ rest → made ≡ model.append s t → Becomes program (machine.Task.append_two ∷ ts) vs ts ws
+becomes-top program ts vs ws s t made rest old new is = rw (old, new, is) (becomes-appended program s t ts rest)
 
 pub heads-going : (hs : List facts.Store) (o : Option model.Thunk) → model.heads (going_on hs o) ≡ hs
 heads-going hs None = refl
 heads-going hs (Some t) = refl
 
 -- a goal bound to the stream on top
-pub becomes-bound-top : (g : Goal) (env : List Tm) (ts us : List machine.Task) (vs ws rest : List model.Stream) (s made : model.Stream) (hs : List facts.Store) →
-    vs ≡ s ∷ rest → us ≡ machine.run_each g env hs ts → model.heads s ≡ hs → ws ≡ made ∷ rest → made ≡ machine.bound_last g env s → Becomes (machine.Task.bind_to g env ∷ ts) vs us ws
-becomes-bound-top g env ts us vs ws rest s made hs old new has grown is =
-    let step : Becomes (machine.Task.bind_to g env ∷ ts) (s ∷ rest) (machine.run_each g env hs ts) (machine.bound_last g env s ∷ rest) =
-    subst (λ h. Becomes (machine.Task.bind_to g env ∷ ts) (s ∷ rest) (machine.run_each g env h ts) (machine.bound_last g env s ∷ rest)) has (becomes-bound g env s ts rest) in
+pub becomes-bound-top : (program : Program) (g : Goal) (env : List Tm) (ts us : List machine.Task) (vs ws rest : List model.Stream) (s made : model.Stream) (hs : List facts.Store) →
+    vs ≡ s ∷ rest → us ≡ machine.run_each g env hs ts → model.heads s ≡ hs → ws ≡ made ∷ rest → made ≡ machine.bound_last g env s → Becomes program (machine.Task.bind_to g env ∷ ts) vs us ws
+becomes-bound-top program g env ts us vs ws rest s made hs old new has grown is =
+    let step : Becomes program (machine.Task.bind_to g env ∷ ts) (s ∷ rest) (machine.run_each g env hs ts) (machine.bound_last g env s ∷ rest) =
+    subst (λ h. Becomes program (machine.Task.bind_to g env ∷ ts) (s ∷ rest) (machine.run_each g env h ts) (machine.bound_last g env s ∷ rest)) has (becomes-bound program g env s ts rest) in
     rw (old, new, grown, is) step
 
--- a step of the loop
-pub record StillFine (ts : List machine.Task) (vs : List model.Stream) (us : List machine.Task) (ws : List model.Stream) : Type 0 where
-  pub same : done us ws ≡ done ts vs
-  pub ready : machine.AreReady us ws
+pub first-ready : (program : Program) (ts us : List machine.Task) (t : machine.Task) (vs : List model.Stream) → ts ≡ t ∷ us → machine.AreReady program ts vs → machine.AreReady program (t ∷ us) vs
+first-ready program ts us t vs is ready = subst (λ xs. machine.AreReady program xs vs) is ready
 
-pub first-ready : (ts us : List machine.Task) (t : machine.Task) (vs : List model.Stream) → ts ≡ t ∷ us → machine.AreReady ts vs → machine.AreReady (t ∷ us) vs
-first-ready ts us t vs is ready = subst (λ xs. machine.AreReady xs vs) is ready
+pub step-done : (program : Program) (ts us ws : List machine.Task) (t : machine.Task) (vs xs : List model.Stream) (whole : List model.Stream) → ts ≡ t ∷ us → Becomes program (t ∷ us) vs ws xs → done ts vs ≡ whole → done ws xs ≡ whole
+step-done program ts us ws t vs xs whole is step kept = step.same ∙ ap (λ ys. done ys vs) (sym is) ∙ kept
 
-pub step-done : (ts us ws : List machine.Task) (t : machine.Task) (vs xs : List model.Stream) (whole : List model.Stream) → ts ≡ t ∷ us → Becomes (t ∷ us) vs ws xs → done ts vs ≡ whole → done ws xs ≡ whole
-step-done ts us ws t vs xs whole is step kept = step.same ∙ ap (λ ys. done ys vs) (sym is) ∙ kept
-
-pub step-fewer : (ts us ws : List machine.Task) (t : machine.Task) (vs xs : List model.Stream) → ts ≡ t ∷ us → Becomes (t ∷ us) vs ws xs → machine.AreReady ts vs → machine.left ws xs < machine.left ts vs
-step-fewer ts us ws t vs xs is step ready = rw is (step.fewer (first-ready ts us t vs is ready))
+pub step-fewer : (program : Program) (ts us ws : List machine.Task) (t : machine.Task) (vs xs : List model.Stream) → ts ≡ t ∷ us → Becomes program (t ∷ us) vs ws xs → machine.AreReady program ts vs → machine.left ws xs < machine.left ts vs
+step-fewer program ts us ws t vs xs is step ready = rw is (step.fewer (first-ready program ts us t vs is ready))
 
 -- the top of the stack when no task is left
 pub top-is : (ts : List machine.Task) (vs rest whole : List model.Stream) (s : model.Stream) → ts ≡ [] → done ts vs ≡ whole → vs ≡ s ∷ rest → (v : model.Stream) (more : List model.Stream) → whole ≡ v ∷ more → s ≡ v
@@ -127,3 +122,18 @@ run-done g env env' st ts vs is none same = ap₂ done is none ∙ ap (λ e. run
 pub bind-done : (g : Goal) (env env' : List Tm) (s : model.Stream) (ts : List machine.Task) (vs : List model.Stream) → ts ≡ machine.Task.bind_to g env' ∷ [] → vs ≡ s ∷ [] → env' ≡ env →
     done ts vs ≡ model.bind_all (run g env) g env s ∷ []
 bind-done g env env' s ts vs is one same = ap₂ done is one ∙ ap (λ e. model.bind_all (run g e) g e s ∷ []) same
+
+-- a stream that goes on, in front of another one
+pub append-going : (hs : List facts.Store) (o : Option model.Thunk) (i whole : model.Thunk) (t : model.Stream) → o ≡ Some i → whole ≡ model.Thunk.swap t i →
+    model.Stream.goes_on hs whole ≡ model.append (going_on hs o) t
+append-going hs o i whole t is made = rw (is, made) refl
+
+-- what variables lie below doesn't hang on the stores that come first
+pub below-going : (env : List Tm) (hs : List facts.Store) (o : Option model.Thunk) → machine.AreBelowRest env (going_on hs o) → machine.AreBelowRest env (going_on [] o)
+below-going env hs None h = h
+below-going env hs (Some i) h = h
+
+-- the goal of the first task may be bound to the stream on top
+pub top-may-bind : (program : Program) (g : Goal) (env : List Tm) (ts : List machine.Task) (vs rest : List model.Stream) (s : model.Stream) → vs ≡ s ∷ rest →
+    machine.AreReady program (machine.Task.bind_to g env ∷ ts) vs → machine.MayBind program g env s
+top-may-bind program g env ts vs rest s is ready = (subst (machine.AreReady program (machine.Task.bind_to g env ∷ ts)) is ready).0

@@ -47,7 +47,3 @@ is_placed ns id = id.at < length ns
 -- the tree that an id stands for under a program
 abbrev pub grown_tree : {St : Type 0} → (St → facts.Store) → Program → List (Thunk PlainId St) → PlainId → model.Thunk
 grown_tree means program ns = tree_at (trees_after means (standing.goal_in program) [] ns)
-
--- it isn't told whether a stream is kept
-abbrev pub untold : Option Bool
-untold = None

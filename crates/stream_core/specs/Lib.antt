@@ -5,3 +5,5 @@ pub mod Naming
 pub mod Growing
 pub mod Forcing
 pub mod Ways
+pub mod Fitting
+pub mod Keeping

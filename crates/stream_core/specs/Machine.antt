@@ -1,13 +1,13 @@
 -- What is left to be done while goals are run: tasks on a stack, and the streams that earlier tasks left for them.
-use Rattle.std.specs.Prelude.{◌≡◌, ℕ, ◌+◌, ◌≤◌, ◌<◌, ◌^◌, true, List, [], ◌∷◌}
+use Rattle.std.specs.Prelude.{◌≡◌, ℕ, ◌+◌, ◌≤◌, ◌<◌, ◌^◌, true, List, [], ◌∷◌, ◌++◌, length, Contains}
 use Rattle.std.specs.List.{list_all}
 use Rattle.kan_terms.specs.Tree.{Tm}
-use Rattle.kan_model.specs.Goals.{Goal}
+use Rattle.kan_model.specs.Goals.{Goal, Program}
 use Rattle.kan_model.specs.Stores.{Store, with_fresh}
 use Rattle.kan_model.specs.Streams.{Stream, Thunk, heads, append, bind_all, empty}
 use Rattle.kan_model.specs.Running.{run, variables}
-use Rattle.kan_model.specs.Scope.{width, all_below}
-use Rattle.std.specs.Prelude.{◌++◌}
+use Rattle.kan_model.specs.Scope.{width, all_below, in_scope}
+use Rattle.kan_model.specs.Bounds.{floor}
 
 -- to run a goal at a store, to append the two streams on top, or to bind a goal to the one on top
 pub data Task : Type 0 where
@@ -33,14 +33,30 @@ Each P (x ∷ xs) = P x × Each P xs
 abbrev pub HasRoom : Goal → List Tm → Store → Type 0
 HasRoom g env st = (list_all (all_below st.counter) env ≡ true) × (st.counter + width g ≤ 2 ^ 63)
 
--- each task finds its streams, and room
-abbrev pub AreReady : List Task → List Stream → Type 0
-AreReady [] vs = Unit {0}
-AreReady (Task.run_at g env st ∷ ts) vs = HasRoom g env st × AreReady ts (run g env st ∷ vs)
-AreReady (Task.append_two ∷ ts) (s ∷ t ∷ vs) = AreReady ts (append s t ∷ vs)
-AreReady (Task.append_two ∷ ts) vs = ⊥
-AreReady (Task.bind_to g env ∷ ts) (s ∷ vs) = Each (HasRoom g env) (heads s) × AreReady ts (bind_all (run g env) g env s ∷ vs)
-AreReady (Task.bind_to g env ∷ ts) [] = ⊥
+-- a goal is one of the program and finds its slots
+abbrev pub IsOf : Program → Goal → List Tm → Type 0
+IsOf program g env = Contains program.goals g × (in_scope (length env) g ≡ true)
+
+-- variables are there for whatever a stream goes on with
+abbrev pub AreBelowRest : List Tm → Stream → Type 0
+AreBelowRest env (Stream.ends hs) = Unit {0}
+AreBelowRest env (Stream.goes_on hs i) = list_all (all_below (floor i)) env ≡ true
+
+-- a goal may be run at a store, and may be bound to a stream
+abbrev pub MayRun : Program → Goal → List Tm → Store → Type 0
+MayRun program g env st = IsOf program g env × HasRoom g env st
+
+abbrev pub MayBind : Program → Goal → List Tm → Stream → Type 0
+MayBind program g env s = IsOf program g env × Each (HasRoom g env) (heads s) × AreBelowRest env s
+
+-- each task finds its streams, and may be done
+abbrev pub AreReady : Program → List Task → List Stream → Type 0
+AreReady program [] vs = Unit {0}
+AreReady program (Task.run_at g env st ∷ ts) vs = MayRun program g env st × AreReady program ts (run g env st ∷ vs)
+AreReady program (Task.append_two ∷ ts) (s ∷ t ∷ vs) = AreReady program ts (append s t ∷ vs)
+AreReady program (Task.append_two ∷ ts) vs = ⊥
+AreReady program (Task.bind_to g env ∷ ts) (s ∷ vs) = MayBind program g env s × AreReady program ts (bind_all (run g env) g env s ∷ vs)
+AreReady program (Task.bind_to g env ∷ ts) [] = ⊥
 
 -- the sum of a number for each store
 abbrev pub for_each : (Store → ℕ) → List Store → ℕ
@@ -67,10 +83,10 @@ left (Task.bind_to g env ∷ ts) (s ∷ vs) = for_each (count g env) (heads s) +
 left (Task.bind_to g env ∷ ts) [] = 0
 
 -- tasks and streams that come from others by one task: the same is there in the end, all tasks are ready, and fewer are left
-pub record Becomes (ts : List Task) (vs : List Stream) (us : List Task) (ws : List Stream) : Type 0 where
+pub record Becomes (program : Program) (ts : List Task) (vs : List Stream) (us : List Task) (ws : List Stream) : Type 0 where
   pub same : done us ws ≡ done ts vs
-  pub ready : AreReady ts vs → AreReady us ws
-  pub fewer : AreReady ts vs → left us ws < left ts vs
+  pub ready : AreReady program ts vs → AreReady program us ws
+  pub fewer : AreReady program ts vs → left us ws < left ts vs
 
 -- a goal at each store, the last one first, each followed by an appending
 abbrev pub run_each : Goal → List Tm → List Store → List Task → List Task

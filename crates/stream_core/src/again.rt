@@ -11,7 +11,7 @@ use kan_terms::{ListOf, Memory};
 use std::alloc::Global;
 
 // Stores once more, in the same order.
-fn stores_again<St: Store>(alloc: Global, stores: &[St]) -> Result<Stores<St>, Memory>
+pub(crate) fn stores_again<St: Store>(alloc: Global, stores: &[St]) -> Result<Stores<St>, Memory>
     ensures { IfOk result (λ copies. map St.meaning copies ≡ map St.meaning stores.now) }
 {
     let mut copies = ListOf::new(alloc);

@@ -1,7 +1,8 @@
 //! Appending streams.
 
-ghost use Rattle.std.specs.Prelude.{◌≡◌, ◌++◌, ◌∷◌, [], map, reverse, IfOk, OnOk};
+ghost use Rattle.std.specs.Prelude.{◌≡◌, ℕ, ◌++◌, ◌∷◌, [], map, reverse, IfOk, OnOk};
 ghost use Rattle.kan_model.specs.Streams as model;
+ghost use Rattle.stream_core.specs.Fitting.{TailFits};
 ghost use Rattle.stream_core.specs.Standing as standing;
 
 use crate::nodes::Nodes;
@@ -61,6 +62,8 @@ pub fn append<N: Nodes<St>, St: Store>(
     requires right { standing.StreamBelongs (N.belongs nodes.old) right }
     ensures made { IfOk result (λ made. standing.stream (N.tree nodes.new) St.meaning made ≡ model.append (standing.stream (N.tree nodes.old) St.meaning left) (standing.stream (N.tree nodes.old) St.meaning right)) }
     ensures belong { IfOk result (λ made. standing.StreamBelongs (N.belongs nodes.new) made) }
+    ensures fits { IfOk result (λ made. (low high : ℕ) → TailFits (N.serves nodes.old) low high (standing.stream (N.tree nodes.old) St.meaning left) → TailFits (N.serves nodes.old) low high (standing.stream (N.tree nodes.old) St.meaning right) →
+        TailFits (N.serves nodes.new) low high (standing.stream (N.tree nodes.new) St.meaning made)) }
     ensures older { standing.Grows (N.belongs nodes.old) (N.tree nodes.old) (N.belongs nodes.new) (N.tree nodes.new) }
     ensures same { N.serves nodes.new ≡ N.serves nodes.old }
 {

@@ -1,12 +1,14 @@
 //! Forcing suspensions.
 
-ghost use Rattle.std.specs.Prelude.{◌≡◌, true, slice_get, IfOk, IfSome};
+ghost use Rattle.std.specs.Prelude.{◌≡◌, ◌≤◌, ◌^◌, true, slice_get, IfOk, IfSome};
 ghost use Rattle.std.specs.List.{list_all};
 ghost use Rattle.kan_model.specs.Streams as model;
 ghost use Rattle.kan_model.specs.Running as running;
 ghost use Rattle.kan_model.specs.Scope.{is_small};
+ghost use Rattle.kan_model.specs.Bounds.{top, floor};
 ghost use Rattle.kan_model.specs.Environments.{terms_of};
 ghost use Rattle.kan_model.specs.Programs as programs;
+ghost use Rattle.stream_core.specs.Fitting.{TailFits};
 ghost use Rattle.stream_core.specs.Forcing.{inner_of, MayForce, IsInside};
 ghost use Rattle.stream_core.specs.Standing as standing;
 ghost use Rattle.stream_core.specs.Tasks.{is_built};
@@ -198,8 +200,9 @@ pub fn force<N: Nodes<St>, St: Store>(
     // Until the other constraints are built.
     requires built { list_all is_built (programs.tables program.now).goals ≡ true }
     requires belongs { N.belongs nodes.old id.now }
-    requires may { MayForce (programs.meaning program.now) (N.tree nodes.old id.now) }
+    requires room { top (N.tree nodes.old id.now) ≤ 2 ^ 62 }
     ensures force { IfOk result (standing.IsForce (N.belongs nodes.new) (N.tree nodes.new) St.meaning (programs.meaning program.now) (N.tree nodes.old id.now)) }
+    ensures fits { IfOk result (λ made. TailFits (programs.meaning program.now) (floor (N.tree nodes.old id.now)) (top (N.tree nodes.old id.now)) (standing.stream (N.tree nodes.new) St.meaning made)) }
     ensures older { standing.Grows (N.belongs nodes.old) (N.tree nodes.old) (N.belongs nodes.new) (N.tree nodes.new) }
     ensures same { N.serves nodes.new ≡ N.serves nodes.old }
 {

@@ -7,7 +7,7 @@ ghost use Rattle.kan_terms.specs.Terms.{tree};
 ghost use Rattle.kan_model.specs.Goals.{Goal, Primitive};
 ghost use Rattle.kan_model.specs.Streams as model;
 ghost use Rattle.kan_model.specs.Running.{assert as asserted, instance, instances, named, named_store, suspended_call, run};
-ghost use Rattle.kan_model.specs.Scope.{all_below, width};
+ghost use Rattle.kan_model.specs.Scope.{all_below, width, takes, calls_there};
 ghost use Rattle.kan_model.specs.Tables.{arguments_at};
 ghost use Rattle.kan_model.specs.Nodes.{goal_entry};
 ghost use Rattle.kan_model.specs.Environments.{terms_of};
@@ -135,6 +135,7 @@ pub(crate) fn call_stream<N: Nodes<St>, St: Store>(
 ) -> Result<Stream<N::Id, St>, Memory>
     requires below { list_all (all_below (St.meaning store).counter) (terms_of env.now) ≡ true }
     requires room { (St.meaning store).counter + length (arguments_at (programs.templates program.now) (programs.tables program.now).arguments call.at call.count) ≤ 2 ^ 63 }
+    requires there { takes (slice_get (N.serves nodes.old).relations call.rel) (length (arguments_at (programs.templates program.now) (programs.tables program.now).arguments call.at call.count)) ≡ true }
     ensures made { IfOk result (λ made. standing.stream (N.tree nodes.new) St.meaning made
         ≡ suspended_call call.rel (named (St.meaning store) (instances (terms_of env.now) (arguments_at (programs.templates program.now) (programs.tables program.now).arguments call.at call.count)))) }
     ensures belong { IfOk result (λ made. standing.StreamBelongs (N.belongs nodes.new) made) }
@@ -165,6 +166,7 @@ pub(crate) fn give<N: Nodes<St>, St: Store>(
 ) -> Result<Stream<N::Id, St>, Memory>
     requires below { list_all (all_below (St.meaning store).counter) (terms_of env.now) ≡ true }
     requires room { (St.meaning store).counter + width (programs.entry_goal program.now (goal_entry node)) ≤ 2 ^ 63 }
+    requires there { calls_there (N.serves nodes.old).relations (programs.entry_goal program.now (goal_entry node)) ≡ true }
     ensures made { IfOk result (λ made. standing.stream (N.tree nodes.new) St.meaning made ≡ run (programs.entry_goal program.now (goal_entry node)) (terms_of env.now) (St.meaning store)) }
     ensures belong { IfOk result (λ made. standing.StreamBelongs (N.belongs nodes.new) made) }
     ensures older { standing.Grows (N.belongs nodes.old) (N.tree nodes.old) (N.belongs nodes.new) (N.tree nodes.new) }

@@ -3,6 +3,7 @@
 ghost use Rattle.std.specs.Prelude.{◌≡◌, ◌≢◌, Bool, true, Option, Some, option_map, IfOk, OnErr, IfSome, is_some};
 ghost use Rattle.kan_model.specs.Goals as goals;
 ghost use Rattle.kan_model.specs.Streams as model;
+ghost use Rattle.kan_model.specs.Bounds.{Fits};
 ghost use Rattle.stream_core.specs.Standing as standing;
 
 use crate::streams::{Stream, Thunk};
@@ -30,7 +31,8 @@ pub trait Nodes<St: Store> {
 
     /// Adds a suspension.
     fn suspend(&mut self, thunk: Thunk<Self::Id, St>) -> Result<Self::Id, Memory>
-        requires { standing.ThunkBelongs (belongs self.old) thunk }
+        requires belong { standing.ThunkBelongs (belongs self.old) thunk }
+        requires fits { Fits (serves self.old) (standing.thunk (tree self.old) St.meaning (standing.goal_in (serves self.old)) thunk) }
         ensures made { IfOk result (λ id. belongs self.new id × (tree self.new id ≡ standing.thunk (tree self.old) St.meaning (standing.goal_in (serves self.old)) thunk)) }
         ensures older { standing.Grows (belongs self.old) (tree self.old) (belongs self.new) (tree self.new) }
         ensures same { serves self.new ≡ serves self.old }
@@ -68,4 +70,7 @@ pub trait Nodes<St: Store> {
         ensures added { IfOk result (λ _. kept self.new id.now ≡ option_map (λ _. true) (kept self.old id.now)) }
         ensures others { (other : Self.Id) → belongs self.old other → other ≢ id.now → kept self.new other ≡ kept self.old other }
         ensures unchanged { OnErr result ((other : Self.Id) → belongs self.old other → kept self.new other ≡ kept self.old other) };
+
+    // Each suspension fits the program.
+    ghost fits: { (nodes : Self) → (id : Self.Id) → belongs nodes id → Fits (serves nodes) (tree nodes id) };
 }

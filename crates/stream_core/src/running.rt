@@ -1,14 +1,16 @@
 //! The stream of a goal, by tasks on a stack.
 
-ghost use Rattle.std.specs.Prelude.{◌≡◌, ◌+◌, ◌≤◌, ◌^◌, ℕ, List, [], ◌∷◌, ◌++◌, map, true, option_map, IfSome, IfOk, OnOk};
+ghost use Rattle.std.specs.Prelude.{◌≡◌, ◌+◌, ◌≤◌, ◌<◌, ◌^◌, ℕ, length, List, [], ◌∷◌, ◌++◌, map, true, option_map, IfSome, IfOk, OnOk};
 ghost use Rattle.std.specs.List.{list_all};
 ghost use Rattle.kan_model.specs.Stores as facts;
 ghost use Rattle.kan_model.specs.Streams as model;
 ghost use Rattle.kan_model.specs.Running.{run};
+ghost use Rattle.kan_model.specs.Scope.{width, all_below, in_scope, is_small};
 ghost use Rattle.kan_model.specs.Environments.{terms_of};
 ghost use Rattle.kan_model.specs.Programs as programs;
+ghost use Rattle.stream_core.specs.Fitting.{TailFits};
 ghost use Rattle.stream_core.specs.Machine as machine;
-ghost use Rattle.stream_core.specs.Machine.{Each, HasRoom, Becomes, AreReady, done};
+ghost use Rattle.stream_core.specs.Machine.{Each, IsOf, MayRun, AreBelowRest, Becomes, AreReady, done};
 ghost use Rattle.stream_core.specs.Standing as standing;
 ghost use Rattle.stream_core.specs.Tasks.{task, stack, is_built};
 
@@ -33,9 +35,11 @@ fn run_node<N: Nodes<St>, St: Store>(
     tasks: &mut Vec<Task<St>>,
     values: &mut Vec<Stream<N::Id, St>>,
 ) -> Result<(), Memory>
-    requires room { HasRoom (programs.goal program.now goal) (terms_of env) (St.meaning store) }
+    requires goals { N.serves nodes.old ≡ programs.meaning program.now }
+    requires small { is_small (programs.meaning program.now) ≡ true }
+    requires may { MayRun (programs.meaning program.now) (programs.goal program.now goal) (terms_of env) (St.meaning store) }
     requires belong { Each (standing.StreamBelongs (N.belongs nodes.old)) values.old.items }
-    ensures becomes { OnOk result (Becomes (machine.Task.run_at (programs.goal program.now goal) (terms_of env) (St.meaning store) ∷ stack (task St.meaning (programs.goal program.now)) tasks.old.items)
+    ensures becomes { OnOk result (Becomes (programs.meaning program.now) (machine.Task.run_at (programs.goal program.now goal) (terms_of env) (St.meaning store) ∷ stack (task St.meaning (programs.goal program.now)) tasks.old.items)
         (stack (standing.stream (N.tree nodes.old) St.meaning) values.old.items)
         (stack (task St.meaning (programs.goal program.now)) tasks.new.items) (stack (standing.stream (N.tree nodes.new) St.meaning) values.new.items)) }
     ensures belong { OnOk result (Each (standing.StreamBelongs (N.belongs nodes.new)) values.new.items) }
@@ -62,7 +66,7 @@ fn append_top<N: Nodes<St>, St: Store>(
     values: &mut Vec<Stream<N::Id, St>>,
 ) -> Result<(), Memory>
     requires belong { Each (standing.StreamBelongs (N.belongs nodes.old)) values.old.items }
-    ensures becomes { OnOk result ((ts : List machine.Task) → Becomes (machine.Task.append_two ∷ ts) (stack (standing.stream (N.tree nodes.old) St.meaning) values.old.items)
+    ensures becomes { OnOk result ((ts : List machine.Task) → Becomes (N.serves nodes.old) (machine.Task.append_two ∷ ts) (stack (standing.stream (N.tree nodes.old) St.meaning) values.old.items)
         ts (stack (standing.stream (N.tree nodes.new) St.meaning) values.new.items)) }
     ensures belong { OnOk result (Each (standing.StreamBelongs (N.belongs nodes.new)) values.new.items) }
     ensures older { standing.Grows (N.belongs nodes.old) (N.tree nodes.old) (N.belongs nodes.new) (N.tree nodes.new) }
@@ -87,7 +91,9 @@ fn bound_tail<N: Nodes<St>, St: Store>(
     tail: Option<N::Id>,
     nodes: &mut N,
 ) -> Result<Stream<N::Id, St>, Memory>
-    requires { IfSome tail (N.belongs nodes.old) }
+    requires belong { IfSome tail (N.belongs nodes.old) }
+    requires is { IsOf (N.serves nodes.old) (standing.goal_in (N.serves nodes.old) goal) (terms_of env.now) }
+    requires below { AreBelowRest (terms_of env.now) (standing.going_on [] (option_map (N.tree nodes.old) tail)) }
     ensures made { IfOk result (λ made. (hs : List facts.Store) → standing.stream (N.tree nodes.new) St.meaning made
         ≡ machine.bound_last (standing.goal_in (N.serves nodes.old) goal) (terms_of env.now) (standing.going_on hs (option_map (N.tree nodes.old) tail))) }
     ensures belong { IfOk result (λ made. standing.StreamBelongs (N.belongs nodes.new) made) }
@@ -119,8 +125,9 @@ fn bind_top<N: Nodes<St>, St: Store>(
     tasks: &mut Vec<Task<St>>,
     values: &mut Vec<Stream<N::Id, St>>,
 ) -> Result<(), Memory>
+    requires ready { AreReady (N.serves nodes.old) (machine.Task.bind_to (standing.goal_in (N.serves nodes.old) goal) (terms_of env.now) ∷ stack (task St.meaning (standing.goal_in (N.serves nodes.old))) tasks.old.items) (stack (standing.stream (N.tree nodes.old) St.meaning) values.old.items) }
     requires belong { Each (standing.StreamBelongs (N.belongs nodes.old)) values.old.items }
-    ensures becomes { OnOk result (Becomes (machine.Task.bind_to (standing.goal_in (N.serves nodes.old) goal) (terms_of env.now) ∷ stack (task St.meaning (standing.goal_in (N.serves nodes.old))) tasks.old.items)
+    ensures becomes { OnOk result (Becomes (N.serves nodes.old) (machine.Task.bind_to (standing.goal_in (N.serves nodes.old) goal) (terms_of env.now) ∷ stack (task St.meaning (standing.goal_in (N.serves nodes.old))) tasks.old.items)
         (stack (standing.stream (N.tree nodes.old) St.meaning) values.old.items)
         (stack (task St.meaning (standing.goal_in (N.serves nodes.old))) tasks.new.items) (stack (standing.stream (N.tree nodes.new) St.meaning) values.new.items)) }
     ensures belong { OnOk result (Each (standing.StreamBelongs (N.belongs nodes.new)) values.new.items) }
@@ -147,9 +154,10 @@ fn take_task<N: Nodes<St>, St: Store>(
     values: &mut Vec<Stream<N::Id, St>>,
 ) -> Result<(), Memory>
     requires goals { N.serves nodes.old ≡ programs.meaning program.now }
-    requires ready { AreReady (task St.meaning (programs.goal program.now) next ∷ stack (task St.meaning (programs.goal program.now)) tasks.old.items) (stack (standing.stream (N.tree nodes.old) St.meaning) values.old.items) }
+    requires small { is_small (programs.meaning program.now) ≡ true }
+    requires ready { AreReady (programs.meaning program.now) (task St.meaning (programs.goal program.now) next ∷ stack (task St.meaning (programs.goal program.now)) tasks.old.items) (stack (standing.stream (N.tree nodes.old) St.meaning) values.old.items) }
     requires belong { Each (standing.StreamBelongs (N.belongs nodes.old)) values.old.items }
-    ensures becomes { OnOk result (Becomes (task St.meaning (programs.goal program.now) next ∷ stack (task St.meaning (programs.goal program.now)) tasks.old.items)
+    ensures becomes { OnOk result (Becomes (programs.meaning program.now) (task St.meaning (programs.goal program.now) next ∷ stack (task St.meaning (programs.goal program.now)) tasks.old.items)
         (stack (standing.stream (N.tree nodes.old) St.meaning) values.old.items)
         (stack (task St.meaning (programs.goal program.now)) tasks.new.items) (stack (standing.stream (N.tree nodes.new) St.meaning) values.new.items)) }
     ensures belong { OnOk result (Each (standing.StreamBelongs (N.belongs nodes.new)) values.new.items) }
@@ -174,7 +182,8 @@ fn finish<N: Nodes<St>, St: Store>(
     mut values: Vec<Stream<N::Id, St>>,
 ) -> Result<Stream<N::Id, St>, Memory>
     requires goals { N.serves nodes.old ≡ programs.meaning program.now }
-    requires ready { AreReady (stack (task St.meaning (programs.goal program.now)) tasks.items) (stack (standing.stream (N.tree nodes.old) St.meaning) values.items) }
+    requires small { is_small (programs.meaning program.now) ≡ true }
+    requires ready { AreReady (programs.meaning program.now) (stack (task St.meaning (programs.goal program.now)) tasks.items) (stack (standing.stream (N.tree nodes.old) St.meaning) values.items) }
     requires belong { Each (standing.StreamBelongs (N.belongs nodes.old)) values.items }
     ensures made { IfOk result (λ made. (v : model.Stream) (more : List model.Stream) →
         done (stack (task St.meaning (programs.goal program.now)) tasks.items) (stack (standing.stream (N.tree nodes.old) St.meaning) values.items) ≡ v ∷ more → standing.stream (N.tree nodes.new) St.meaning made ≡ v) }
@@ -201,11 +210,16 @@ pub fn run_goal<N: Nodes<St>, St: Store>(
     nodes: &mut N,
 ) -> Result<Stream<N::Id, St>, Memory>
     requires goals { N.serves nodes.old ≡ programs.meaning program.now }
-    requires room { HasRoom (programs.goal program.now goal) (terms_of env.now) (St.meaning store) }
+    requires small { is_small (programs.meaning program.now) ≡ true }
+    requires there { goal < length (programs.goals program.now) }
+    requires slots { in_scope (length (terms_of env.now)) (programs.goal program.now goal) ≡ true }
+    requires below { list_all (all_below (St.meaning store).counter) (terms_of env.now) ≡ true }
+    requires room { (St.meaning store).counter ≤ 2 ^ 62 }
     // Until the other constraints are built.
     requires built { list_all is_built (programs.tables program.now).goals ≡ true }
     ensures made { IfOk result (λ made. standing.stream (N.tree nodes.new) St.meaning made ≡ run (programs.goal program.now goal) (terms_of env.now) (St.meaning store)) }
     ensures belong { IfOk result (λ made. standing.StreamBelongs (N.belongs nodes.new) made) }
+    ensures fits { IfOk result (λ made. TailFits (programs.meaning program.now) (St.meaning store).counter ((St.meaning store).counter + width (programs.goal program.now goal)) (standing.stream (N.tree nodes.new) St.meaning made)) }
     ensures older { standing.Grows (N.belongs nodes.old) (N.tree nodes.old) (N.belongs nodes.new) (N.tree nodes.new) }
     ensures same { N.serves nodes.new ≡ N.serves nodes.old }
 {
@@ -227,13 +241,18 @@ pub fn bind_all<N: Nodes<St>, St: Store>(
     nodes: &mut N,
 ) -> Result<Stream<N::Id, St>, Memory>
     requires goals { N.serves nodes.old ≡ programs.meaning program.now }
-    requires room { Each (HasRoom (programs.goal program.now goal) (terms_of env.now)) (map St.meaning stream.heads) }
+    requires small { is_small (programs.meaning program.now) ≡ true }
+    requires is { IsOf (programs.meaning program.now) (programs.goal program.now goal) (terms_of env.now) }
+    requires room { Each (λ st. (list_all (all_below st.counter) (terms_of env.now) ≡ true) × (st.counter ≤ 2 ^ 62)) (map St.meaning stream.heads) }
+    requires below { AreBelowRest (terms_of env.now) (standing.stream (N.tree nodes.old) St.meaning stream) }
     requires belong { standing.StreamBelongs (N.belongs nodes.old) stream }
     // Until the other constraints are built.
     requires built { list_all is_built (programs.tables program.now).goals ≡ true }
     ensures made { IfOk result (λ made. standing.stream (N.tree nodes.new) St.meaning made
         ≡ model.bind_all (run (programs.goal program.now goal) (terms_of env.now)) (programs.goal program.now goal) (terms_of env.now) (standing.stream (N.tree nodes.old) St.meaning stream)) }
     ensures belong { IfOk result (λ made. standing.StreamBelongs (N.belongs nodes.new) made) }
+    ensures fits { IfOk result (λ made. (low high : ℕ) → list_all (all_below low) (terms_of env.now) ≡ true → TailFits (programs.meaning program.now) low high (standing.stream (N.tree nodes.old) St.meaning stream) →
+        TailFits (programs.meaning program.now) low (high + width (programs.goal program.now goal)) (standing.stream (N.tree nodes.new) St.meaning made)) }
     ensures older { standing.Grows (N.belongs nodes.old) (N.tree nodes.old) (N.belongs nodes.new) (N.tree nodes.new) }
     ensures same { N.serves nodes.new ≡ N.serves nodes.old }
 {

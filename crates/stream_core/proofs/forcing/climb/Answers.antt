@@ -4,9 +4,21 @@ use Rattle.kan_model.specs.Environments.{terms_of}
 use Rattle.kan_model.specs.Programs as programs
 use Rattle.stream_core.specs.Forcing.{inner_of}
 use Rattle.stream_core.specs.Standing as standing
-use Rattle.stream_core.proofs.ForceLaws.{climb-room, narrow-bodies}
+use Rattle.stream_core.proofs.ClosedLaws.{program-closed}
+use Rattle.stream_core.proofs.ForceLaws.{climb-binds}
 use Rattle.stream_core.proofs.RunningLaws.{heads-going}
 use Rattle.stream_core.proofs.forcing.climb.Goals as goal
+
+pub bind_all-requires-clause-is : goal.bind_all-requires-clause-is
+bind_all-requires-clause-is g c =
+    let p = c.args.program.now in
+    let means = g.St.Store.meaning in
+    let tree = g.N.Nodes.tree c.args.nodes.now in
+    let is_force = standing.IsForce (g.N.Nodes.belongs c.args.nodes.now) tree means (programs.meaning p) (inner_of (standing.thunk tree means (programs.goal p) c.args.thunk)) in
+    let made = subst (λ o. IfSome o is_force) c.in-Some-inside.is c.requires.inside in
+    (climb-binds (programs.meaning p) (programs.goal p c.in-Bind.goal) (terms_of c.in-Bind.env) _ _ _ (map means c.in-Some-inside.stream.heads) (program-closed p c.requires.small)
+    (ap (standing.thunk tree means (programs.goal p)) c.in-Bind.is) c.requires.may made.1
+    (heads-going (map means c.in-Some-inside.stream.heads) (option_map tree c.in-Some-inside.stream.tail))).is
 
 pub bind_all-requires-clause-room : goal.bind_all-requires-clause-room
 bind_all-requires-clause-room g c =
@@ -15,6 +27,17 @@ bind_all-requires-clause-room g c =
     let tree = g.N.Nodes.tree c.args.nodes.now in
     let is_force = standing.IsForce (g.N.Nodes.belongs c.args.nodes.now) tree means (programs.meaning p) (inner_of (standing.thunk tree means (programs.goal p) c.args.thunk)) in
     let made = subst (λ o. IfSome o is_force) c.in-Some-inside.is c.requires.inside in
-    climb-room (programs.meaning p) (programs.goal p c.in-Bind.goal) (terms_of c.in-Bind.env) _ _ _ (map means c.in-Some-inside.stream.heads) (narrow-bodies (programs.tables p) c.requires.small)
+    (climb-binds (programs.meaning p) (programs.goal p c.in-Bind.goal) (terms_of c.in-Bind.env) _ _ _ (map means c.in-Some-inside.stream.heads) (program-closed p c.requires.small)
     (ap (standing.thunk tree means (programs.goal p)) c.in-Bind.is) c.requires.may made.1
-    (heads-going (map means c.in-Some-inside.stream.heads) (option_map tree c.in-Some-inside.stream.tail))
+    (heads-going (map means c.in-Some-inside.stream.heads) (option_map tree c.in-Some-inside.stream.tail))).room
+
+pub bind_all-requires-clause-below : goal.bind_all-requires-clause-below
+bind_all-requires-clause-below g c =
+    let p = c.args.program.now in
+    let means = g.St.Store.meaning in
+    let tree = g.N.Nodes.tree c.args.nodes.now in
+    let is_force = standing.IsForce (g.N.Nodes.belongs c.args.nodes.now) tree means (programs.meaning p) (inner_of (standing.thunk tree means (programs.goal p) c.args.thunk)) in
+    let made = subst (λ o. IfSome o is_force) c.in-Some-inside.is c.requires.inside in
+    (climb-binds (programs.meaning p) (programs.goal p c.in-Bind.goal) (terms_of c.in-Bind.env) _ _ _ (map means c.in-Some-inside.stream.heads) (program-closed p c.requires.small)
+    (ap (standing.thunk tree means (programs.goal p)) c.in-Bind.is) c.requires.may made.1
+    (heads-going (map means c.in-Some-inside.stream.heads) (option_map tree c.in-Some-inside.stream.tail))).below

@@ -5,13 +5,19 @@ use Rattle.kan_model.specs.Nodes.{relation_entry}
 use Rattle.kan_model.specs.Running as running
 use Rattle.kan_model.specs.Environments.{terms_of}
 use Rattle.kan_model.specs.Programs as programs
-use Rattle.stream_core.proofs.ForceLaws.{relation-found, call-room, narrow-bodies}
+use Rattle.stream_core.proofs.ClosedLaws.{program-closed}
+use Rattle.stream_core.proofs.ForceLaws.{relation-found, body-placed, body-slots}
 use Rattle.stream_core.proofs.forcing.enter_call.Goals as goal
 
-pub run_goal-requires-clause-room : goal.run_goal-requires-clause-room
-run_goal-requires-clause-room g c =
+pub run_goal-requires-clause-there : goal.run_goal-requires-clause-there
+run_goal-requires-clause-there g c =
     let p = c.args.program.now in
-    call-room (programs.meaning p) c.args.rel (terms_of c.args.args.now) (g.St.Store.meaning c.args.store) _ (narrow-bodies (programs.tables p) c.requires.small) c.requires.may
+    body-placed (programs.tables p) c.args.rel (relation_entry c.in-Some.relation.now) p.draft.grown (ap (λ r. option_map relation_entry (option_copied r)) (sym c.in-Some.is) ∙ c.relation.ensures)
+
+pub run_goal-requires-clause-slots : goal.run_goal-requires-clause-slots
+run_goal-requires-clause-slots g c =
+    let p = c.args.program.now in
+    body-slots (programs.meaning p) c.args.rel (terms_of c.args.args.now) (g.St.Store.meaning c.args.store) _ (program-closed p c.requires.small) c.requires.may.0
     (relation-found (programs.tables p) c.args.rel (relation_entry c.in-Some.relation.now) (ap (λ r. option_map relation_entry (option_copied r)) (sym c.in-Some.is) ∙ c.relation.ensures))
 
 pub returns-in_ok-made-in-Some-clause-made : goal.returns-in_ok-made-in-Some-clause-made

@@ -1,7 +1,10 @@
-use Rattle.std.proofs.Common.{◌∙◌, subst}
+use Rattle.std.proofs.Common.{◌∙◌, refl, subst, rules}
 use Rattle.std.specs.Prelude.{IfSome}
+use Rattle.kan_model.specs.Bounds.{Fits}
 use Rattle.kan_model.specs.Programs as programs
 use Rattle.stream_core.specs.Standing as standing
+use Rattle.stream_core.proofs.ClosedLaws.{program-closed}
+use Rattle.stream_core.proofs.FitLaws.{force-fits, fits-moved}
 use Rattle.stream_core.proofs.RunningLaws.{grows-twice}
 use Rattle.stream_core.proofs.WayLaws.{next-inside, up-step}
 use Rattle.stream_core.proofs.forcing.force.Goals as goal
@@ -27,3 +30,13 @@ loop-at-preserved g c =
           (g.N.Nodes.tree c.args.nodes.now) (g.N.Nodes.tree c.loop-at.nodes) (g.N.Nodes.tree c.force_last.new.nodes) inv.older step.older;
       same = step.same ∙ inv.same;
     }
+
+pub returns-in-Some-inside-clause-force : goal.returns-in-Some-inside-clause-force
+returns-in-Some-inside-clause-force g c = search rules
+
+pub returns-in-Some-inside-clause-fits : goal.returns-in-Some-inside-clause-fits
+returns-in-Some-inside-clause-fits g c =
+    let p = c.args.program.now in
+    let whole = g.N.Nodes.tree c.args.nodes.now c.args.id.now in
+    let fit = subst (λ q. Fits q whole) c.requires.goals (g.met.N.Nodes.fits c.args.nodes.now c.args.id.now c.requires.belongs) in
+    fits-moved (programs.meaning p) (programs.meaning p) _ _ _ _ refl (returns-in-Some-inside-clause-force g c).1 (force-fits (programs.meaning p) whole (program-closed p c.requires.small) fit)

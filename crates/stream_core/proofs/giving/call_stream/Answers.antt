@@ -1,7 +1,17 @@
 use Rattle.std.proofs.Common.{ap, ap₂, ◌∙◌, map}
 use Rattle.kan_model.specs.Streams as model
+use Rattle.kan_model.specs.Environments.{terms_of}
+use Rattle.kan_model.specs.Programs as programs
+use Rattle.kan_model.specs.Tables.{arguments_at}
+use Rattle.stream_core.proofs.FitLaws.{call-fits}
 use Rattle.stream_core.proofs.GivingLaws.{call-waits}
 use Rattle.stream_core.proofs.giving.call_stream.Goals as goal
+
+pub suspend-requires-clause-fits : goal.suspend-requires-clause-fits
+suspend-requires-clause-fits g c =
+    let p = c.args.program.now in
+    call-fits (g.N.Nodes.serves c.args.nodes.now) c.args.call.rel _ (g.St.Store.meaning c.in_ok-values.store) (terms_of c.args.env.now) (arguments_at (programs.templates p) (programs.tables p).arguments c.args.call.at c.args.call.count) _ _
+    c.in_ok-values.ensures c.of-args.ensures c.requires.below c.requires.there
 
 pub returns-clause-made : goal.returns-clause-made
 returns-clause-made g c =

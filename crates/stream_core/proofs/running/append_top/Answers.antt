@@ -12,7 +12,7 @@ returns-clause-becomes g c ts =
     let belongs = standing.StreamBelongs (g.N.Nodes.belongs c.args.nodes.now) in
     let first = Each-front belongs _ _ _ c.in-Some.ensures.items c.requires.belong in
     let second = Each-front belongs _ _ _ c.in-Some-pop.ensures.items first.0 in
-    becomes-top ts _ _ _ _ _ _
+    becomes-top (g.N.Nodes.serves c.args.nodes.now) ts _ _ _ _ _ _
     (stack-pop was _ _ _ c.in-Some.ensures.items ∙ ap (λ vs. was c.in-Some.left ∷ vs) (stack-pop was _ _ _ c.in-Some-pop.ensures.items))
     (stack-pop is _ _ _ c.in_ok-push.ensures.items
     ∙ ap (λ vs. is c.in_ok-stream.stream ∷ vs) (stack-grows (g.N.Nodes.belongs c.args.nodes.now) (g.N.Nodes.belongs c.append.new.nodes) (g.N.Nodes.tree c.args.nodes.now) (g.N.Nodes.tree c.append.new.nodes) means c.in_ok-stream.ensures.older _ second.0))

@@ -8,11 +8,11 @@ use Rattle.stream_core.proofs.running.finish.Goals as goal
 
 pub take_task-requires-clause-ready : goal.take_task-requires-clause-ready
 take_task-requires-clause-ready g c =
-    first-ready _ _ _ _ (stack-pop (task g.St.Store.meaning (programs.goal c.args.program.now)) _ _ _ c.in-Some.ensures.items) c.loop-next.invariant.ready
+    first-ready (programs.meaning c.args.program.now) _ _ _ _ (stack-pop (task g.St.Store.meaning (programs.goal c.args.program.now)) _ _ _ c.in-Some.ensures.items) c.loop-next.invariant.ready
 
 pub loop-next-smaller : goal.loop-next-smaller
 loop-next-smaller g c =
-    step-fewer _ _ _ _ _ _ (stack-pop (task g.St.Store.meaning (programs.goal c.args.program.now)) _ _ _ c.in-Some.ensures.items) c.in_ok-take_task.ensures.becomes c.loop-next.invariant.ready
+    step-fewer (programs.meaning c.args.program.now) _ _ _ _ _ _ (stack-pop (task g.St.Store.meaning (programs.goal c.args.program.now)) _ _ _ c.in-Some.ensures.items) c.in_ok-take_task.ensures.becomes c.loop-next.invariant.ready
 
 pub loop-next-preserved : goal.loop-next-preserved
 loop-next-preserved g c =
@@ -20,8 +20,8 @@ loop-next-preserved g c =
     let step = c.in_ok-take_task.ensures in
     let inv = c.loop-next.invariant in
     record {
-      same = step-done _ _ _ _ _ _ _ split step.becomes inv.same;
-      ready = step.becomes.ready (first-ready _ _ _ _ split inv.ready);
+      same = step-done (programs.meaning c.args.program.now) _ _ _ _ _ _ _ split step.becomes inv.same;
+      ready = step.becomes.ready (first-ready (programs.meaning c.args.program.now) _ _ _ _ split inv.ready);
       belong = step.belong;
       older = grows-twice (g.N.Nodes.belongs c.args.nodes.now) (g.N.Nodes.belongs c.loop-next.nodes) (g.N.Nodes.belongs c.take_task.new.nodes)
           (g.N.Nodes.tree c.args.nodes.now) (g.N.Nodes.tree c.loop-next.nodes) (g.N.Nodes.tree c.take_task.new.nodes) inv.older step.older;

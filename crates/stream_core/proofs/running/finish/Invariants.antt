@@ -10,7 +10,7 @@ abbrev pub invariant-loop-next : goal.invariant-loop-next
 invariant-loop-next g l = record {
   same : done (stack (task g.St.Store.meaning (programs.goal l.program)) l.tasks.items) (stack (standing.stream (g.N.Nodes.tree l.nodes) g.St.Store.meaning) l.values.items)
       ≡ done (stack (task g.St.Store.meaning (programs.goal l.program)) l.fn.tasks.items) (stack (standing.stream (g.N.Nodes.tree l.fn.nodes) g.St.Store.meaning) l.fn.values.items);
-  ready : AreReady (stack (task g.St.Store.meaning (programs.goal l.program)) l.tasks.items) (stack (standing.stream (g.N.Nodes.tree l.nodes) g.St.Store.meaning) l.values.items);
+  ready : AreReady (programs.meaning l.program) (stack (task g.St.Store.meaning (programs.goal l.program)) l.tasks.items) (stack (standing.stream (g.N.Nodes.tree l.nodes) g.St.Store.meaning) l.values.items);
   belong : Each (standing.StreamBelongs (g.N.Nodes.belongs l.nodes)) l.values.items;
   older : standing.Grows (g.N.Nodes.belongs l.fn.nodes) (g.N.Nodes.tree l.fn.nodes) (g.N.Nodes.belongs l.nodes) (g.N.Nodes.tree l.nodes);
   goals : g.N.Nodes.serves l.nodes ≡ g.N.Nodes.serves l.fn.nodes;

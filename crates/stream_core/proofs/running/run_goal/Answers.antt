@@ -3,9 +3,20 @@ use Rattle.kan_model.specs.Environments.{terms_of}
 use Rattle.kan_model.specs.Programs as programs
 use Rattle.stream_core.specs.Standing as standing
 use Rattle.stream_core.specs.Tasks.{task, stack}
+use Rattle.stream_core.proofs.ClosedLaws.{program-closed, goal-there}
+use Rattle.stream_core.proofs.FitLaws.{run-fits, fits-moved}
 use Rattle.stream_core.proofs.RunningLaws.{run-done}
 use Rattle.stream_core.proofs.StackLaws.{pushed-one}
+use Rattle.stream_core.proofs.TaskLaws.{run-ready}
 use Rattle.stream_core.proofs.running.run_goal.Goals as goal
+
+pub finish-requires-clause-ready : goal.finish-requires-clause-ready
+finish-requires-clause-ready g c =
+    let p = c.args.program.now in
+    let f = task g.St.Store.meaning (programs.goal p) in
+    run-ready (programs.meaning p) (program-closed p c.requires.small) (programs.goal p c.args.goal) (terms_of c.args.env.now) (terms_of c.in_ok-env.env) (g.St.Store.meaning c.args.store) _ _
+    (goal-there (programs.goals p) c.args.goal c.requires.there) c.requires.slots c.requires.below c.requires.room
+    (pushed-one f _ _ _ _ [] c.in_ok-push.ensures.items refl (ap (stack f) c.new-tasks.ensures.items)) c.in_ok-env.ensures
 
 pub returns-clause-made : goal.returns-clause-made
 returns-clause-made g c =
@@ -14,3 +25,10 @@ returns-clause-made g c =
     c.in_ok-made.ensures.made _ []
     (run-done (programs.goal c.args.program.now c.args.goal) (terms_of c.args.env.now) (terms_of c.in_ok-env.env) (g.St.Store.meaning c.args.store) _ _
     (pushed-one f _ _ _ _ [] c.in_ok-push.ensures.items refl (ap (stack f) c.new-tasks.ensures.items)) (ap (stack is) c.new-values.ensures.items) c.in_ok-env.ensures)
+
+pub returns-clause-fits : goal.returns-clause-fits
+returns-clause-fits g c =
+    let p = c.args.program.now in
+    fits-moved (programs.meaning p) (programs.meaning p) _ _ _ _ refl (returns-clause-made g c)
+    (run-fits (programs.meaning p) (programs.goal p c.args.goal) (terms_of c.args.env.now) (g.St.Store.meaning c.args.store) (program-closed p c.requires.small)
+    (goal-there (programs.goals p) c.args.goal c.requires.there) c.requires.slots c.requires.below)

@@ -1,11 +1,18 @@
+use Rattle.std.proofs.Common.{◌≡◌, length, arith, rules}
+use Rattle.std.specs.Vec.{vec_len}
 use Rattle.kan_model.specs.Programs as programs
-use Rattle.stream_core.specs.Standing as standing
-use Rattle.stream_core.proofs.GrowingLaws.{stands-for, belongs-at}
+use Rattle.stream_core.proofs.KeepingLaws.{placed-within, row-belongs, row-stands}
 use Rattle.stream_core.proofs.plain.PlainNodesNodes.thunk.Goals as goal
 
+pub index-requires : goal.index-requires
+index-requires g c =
+    let low = placed-within c.args.self.now.rows.items c.args.id.now (c.requires 0).0 in
+    let long : vec_len c.args.self.now.rows ≡ length c.args.self.now.rows.items = search rules in omega (arith, low, long)
+
 pub returns-clause-belong : goal.returns-clause-belong
-returns-clause-belong g c = belongs-at c.args.self.now.thunks.items c.args.id.now c.index.result.now c.args.self.now.grown c.requires c.index.ensures
+returns-clause-belong g c =
+    row-belongs g.St.Store.meaning (programs.meaning c.args.self.now.program.now) c.args.self.now.rows.items c.args.id.now c.index.result.now c.requires c.index.ensures
 
 pub returns-clause-is : goal.returns-clause-is
 returns-clause-is g c =
-    stands-for g.St.Store.meaning (standing.goal_in (programs.meaning c.args.self.now.program.now)) c.args.self.now.thunks.items c.args.id.now c.index.result.now c.args.self.now.grown c.requires c.index.ensures
+    row-stands g.St.Store.meaning (programs.meaning c.args.self.now.program.now) c.args.self.now.rows.items c.args.id.now c.index.result.now c.args.self.now.grown (c.requires 0).0 c.index.ensures

@@ -1,0 +1,17 @@
+use Rattle.goal_syntax.specs.Parts.{sites}
+use Rattle.goal_syntax.specs.Tabled.{relations}
+use Rattle.goal_syntax.proofs.DraftLaws.{grows_on}
+use Rattle.goal_syntax.proofs.GoalWorkLaws.{work_done, work_falls}
+use Rattle.goal_syntax.proofs.build_goal.build_goals.Goals as goal
+
+pub loop-work-smaller : goal.loop-work-smaller
+loop-work-smaller c = work_falls (sites c.args.text.now.nodes.now) _ _ _ _ c.in-Some.ensures.items c.in_ok-build_next.ensures.falls
+
+pub loop-work-preserved : goal.loop-work-preserved
+loop-work-preserved c = record {
+  made = work_done (relations c.args.text.now.relations.now) c.args.text.now.names.now (sites c.args.text.now.nodes.now) c.loop-work.scope.items c.build_next.new.scope.items _ _ c.build_next.new.works.items c.in-Some.work _ _ _
+      c.in-Some.ensures.items c.in_ok-build_next.ensures.made c.loop-work.invariant.made;
+  below = c.in_ok-build_next.ensures.below;
+  grows = grows_on _ _ _ c.loop-work.invariant.grows c.in_ok-build_next.ensures.grows;
+  room = c.in_ok-build_next.ensures.room;
+}

@@ -1,0 +1,13 @@
+use Rattle.std.proofs.Common.{length}
+use Rattle.kan_model.specs.Drafts.{tables}
+use Rattle.kan_model.specs.Nodes.{goal_entry}
+use Rattle.goal_syntax.proofs.BuiltLaws.{top_two, join_grown}
+use Rattle.goal_syntax.proofs.join_goal.join_two.Goals as goal
+
+pub make-requires-clause-there : goal.make-requires-clause-there
+make-requires-clause-there c =
+    let top = top_two (length (tables c.args.draft.now).goals) _ _ _ _ _ c.in-Some.ensures.items c.in-Some-pop.ensures.items c.requires.below in
+    join_grown (tables c.args.draft.now) c.args.row _ _ (goal_entry c.join.result) c.join.ensures top.1 top.2
+
+pub make-requires-clause-below : goal.make-requires-clause-below
+make-requires-clause-below c = (top_two (length (tables c.args.draft.now).goals) _ _ _ _ _ c.in-Some.ensures.items c.in-Some-pop.ensures.items c.requires.below).0

@@ -1,0 +1,99 @@
+//! Goals that are made of those that were made last.
+
+ghost use Rattle.std.specs.Prelude.{◌≡◌, length, true, OnOk};
+ghost use Rattle.kan_model.specs.Drafts.{tables};
+ghost use Rattle.kan_model.specs.Nodes.{goal_entry};
+ghost use Rattle.kan_model.specs.Tables.{is_goal_grown};
+ghost use Rattle.goal_syntax.specs.Built.{built, with_entry};
+ghost use Rattle.goal_syntax.specs.Drafting.{Grows, HasRoom};
+ghost use Rattle.goal_syntax.specs.GoalWorks.{empty_entry, freshened, join_entry, joined};
+ghost use Rattle.goal_syntax.specs.Turning.{are_below};
+
+use crate::drafting::add_goal;
+use kan_model::{Draft, GoalNode};
+use kan_terms::Memory;
+
+/// How the goals of a list are joined.
+#[derive(Clone, Copy, Debug, PartialEq, Eq)]
+pub(crate) enum Row {
+    /// Goals that hold together.
+    All,
+    /// Goals of which one holds.
+    One,
+    /// Clauses of which one holds.
+    Clauses,
+}
+
+impl Row {
+    /// The goal of an empty row.
+    pub(crate) fn empty(self) -> GoalNode
+        ensures { goal_entry result ≡ empty_entry self }
+    {
+        match self {
+            Row::All => GoalNode::Succeed,
+            Row::One => GoalNode::Fail,
+            Row::Clauses => GoalNode::Fail,
+        }
+    }
+
+    /// Two goals joined as those of a row.
+    pub(crate) fn join(self, left: u32, right: u32) -> GoalNode
+        ensures { goal_entry result ≡ join_entry self left right }
+    {
+        match self {
+            Row::All => GoalNode::Both(left, right),
+            Row::One => GoalNode::Either(left, right),
+            Row::Clauses => GoalNode::Either(left, right),
+        }
+    }
+}
+
+/// Adds a goal, and its place to those that were made.
+pub(crate) fn make(node: GoalNode, draft: &mut Draft, places: &mut Vec<u32>) -> Result<(), Memory>
+    requires there { is_goal_grown (tables draft.old) (length (tables draft.old).goals) (goal_entry node) ≡ true }
+    requires room { HasRoom (tables draft.old) }
+    requires below { are_below (length (tables draft.old).goals) places.old.items ≡ true }
+    ensures made { OnOk result (built (tables draft.new) places.new.items ≡ with_entry (tables draft.old) (goal_entry node) (built (tables draft.old) places.old.items)) }
+    ensures below { OnOk result (are_below (length (tables draft.new).goals) places.new.items ≡ true) }
+    ensures grows { OnOk result (Grows (tables draft.old) (tables draft.new)) }
+    ensures room { OnOk result (HasRoom (tables draft.new)) }
+{
+    let place = add_goal(draft, node)?;
+    places.push(place)?;
+    Ok(())
+}
+
+/// Joins the two goals that were made last as those of a row.
+pub(crate) fn join_two(row: Row, draft: &mut Draft, places: &mut Vec<u32>) -> Result<(), Memory>
+    requires room { HasRoom (tables draft.old) }
+    requires below { are_below (length (tables draft.old).goals) places.old.items ≡ true }
+    ensures made { OnOk result (built (tables draft.new) places.new.items ≡ joined row (built (tables draft.old) places.old.items)) }
+    ensures below { OnOk result (are_below (length (tables draft.new).goals) places.new.items ≡ true) }
+    ensures grows { OnOk result (Grows (tables draft.old) (tables draft.new)) }
+    ensures room { OnOk result (HasRoom (tables draft.new)) }
+{
+    let Some(right) = places.pop() else {
+        return Ok(());
+    };
+    let Some(left) = places.pop() else {
+        return Ok(());
+    };
+    make(row.join(left, right), draft, places)?;
+    Ok(())
+}
+
+/// Gives the goal that was made last so many slots of its own.
+pub(crate) fn add_slots(count: u32, draft: &mut Draft, places: &mut Vec<u32>) -> Result<(), Memory>
+    requires room { HasRoom (tables draft.old) }
+    requires below { are_below (length (tables draft.old).goals) places.old.items ≡ true }
+    ensures made { OnOk result (built (tables draft.new) places.new.items ≡ freshened count (built (tables draft.old) places.old.items)) }
+    ensures below { OnOk result (are_below (length (tables draft.new).goals) places.new.items ≡ true) }
+    ensures grows { OnOk result (Grows (tables draft.old) (tables draft.new)) }
+    ensures room { OnOk result (HasRoom (tables draft.new)) }
+{
+    let Some(goal) = places.pop() else {
+        return Ok(());
+    };
+    make(GoalNode::Fresh(count, goal), draft, places)?;
+    Ok(())
+}

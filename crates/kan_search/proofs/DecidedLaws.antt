@@ -1,0 +1,188 @@
+-- Equality of goals and of streams is decided, since one kind of trees spells them all.
+use Rattle.std.proofs.Common.{◌≡◌, ℕ, true, false, List, [], ◌∷◌, refl, sym, ◌∙◌, ap, ap₂}
+use Rattle.std.specs.Prelude.{pos, negsuc}
+use Rattle.std.proofs.Math.Decide.{ℕ_discrete}
+use Rattle.kan_terms.specs.Tree.{Tree, Tm}
+use Rattle.kan_model.specs.Goals.{Primitive, Goal}
+use Rattle.kan_model.specs.Stores.{Store}
+use Rattle.kan_model.specs.Streams.{Stream, Thunk}
+
+-- which constructor is spelled
+data Tag : Type 0 where
+  first second third fourth fifth sixth seventh : Tag
+  deriving Discrete as Tag-discrete
+
+data Word : Type 0 where
+  nothing : Word
+  number : ℕ → Word
+  node : Tag → Word → Word → Word
+  deriving Discrete as Word-discrete
+
+abbrev of_term : Tm → Word
+of_term (Tree.leaf v) = node first (number v) nothing
+of_term (Tree.sym s) = node second (number s) nothing
+of_term (Tree.num (pos n)) = node third (number n) nothing
+of_term (Tree.num (negsuc n)) = node fourth (number n) nothing
+of_term (Tree.truth true) = node fifth nothing nothing
+of_term (Tree.truth false) = node sixth nothing nothing
+of_term Tree.nil = nothing
+of_term (Tree.pair a b) = node seventh (of_term a) (of_term b)
+
+abbrev to_term : Word → Tm
+to_term (node first (number v) w) = Tree.leaf v
+to_term (node second (number s) w) = Tree.sym s
+to_term (node third (number n) w) = Tree.num (pos n)
+to_term (node fourth (number n) w) = Tree.num (negsuc n)
+to_term (node fifth v w) = Tree.truth true
+to_term (node sixth v w) = Tree.truth false
+to_term (node seventh v w) = Tree.pair (to_term v) (to_term w)
+to_term _ = Tree.nil
+
+term-back : (t : Tm) → to_term (of_term t) ≡ t
+term-back (Tree.leaf v) = refl
+term-back (Tree.sym s) = refl
+term-back (Tree.num (pos n)) = refl
+term-back (Tree.num (negsuc n)) = refl
+term-back (Tree.truth true) = refl
+term-back (Tree.truth false) = refl
+term-back Tree.nil = refl
+term-back (Tree.pair a b) = ap₂ Tree.pair (term-back a) (term-back b)
+
+abbrev of_terms : List Tm → Word
+of_terms [] = nothing
+of_terms (t ∷ ts) = node first (of_term t) (of_terms ts)
+
+abbrev to_terms : Word → List Tm
+to_terms (node first v w) = to_term v ∷ to_terms w
+to_terms _ = []
+
+terms-back : (ts : List Tm) → to_terms (of_terms ts) ≡ ts
+terms-back [] = refl
+terms-back (t ∷ ts) = ap₂ (λ x xs. x ∷ xs) (term-back t) (terms-back ts)
+
+abbrev of_primitive : Primitive Tm → Word
+of_primitive (Primitive.same a b) = node first (of_term a) (of_term b)
+of_primitive (Primitive.differ a b) = node second (of_term a) (of_term b)
+of_primitive (Primitive.symbol a) = node third (of_term a) nothing
+of_primitive (Primitive.number a) = node fourth (of_term a) nothing
+of_primitive (Primitive.absent tag a) = node fifth (number tag) (of_term a)
+
+abbrev to_primitive : Word → Primitive Tm
+to_primitive (node second v w) = Primitive.differ (to_term v) (to_term w)
+to_primitive (node third v w) = Primitive.symbol (to_term v)
+to_primitive (node fourth v w) = Primitive.number (to_term v)
+to_primitive (node fifth (number tag) w) = Primitive.absent tag (to_term w)
+to_primitive (node first v w) = Primitive.same (to_term v) (to_term w)
+to_primitive _ = Primitive.symbol Tree.nil
+
+primitive-back : (p : Primitive Tm) → to_primitive (of_primitive p) ≡ p
+primitive-back (Primitive.same a b) = ap₂ Primitive.same (term-back a) (term-back b)
+primitive-back (Primitive.differ a b) = ap₂ Primitive.differ (term-back a) (term-back b)
+primitive-back (Primitive.symbol a) = ap Primitive.symbol (term-back a)
+primitive-back (Primitive.number a) = ap Primitive.number (term-back a)
+primitive-back (Primitive.absent tag a) = ap (Primitive.absent tag) (term-back a)
+
+abbrev of_primitives : List (Primitive Tm) → Word
+of_primitives [] = nothing
+of_primitives (p ∷ ps) = node first (of_primitive p) (of_primitives ps)
+
+abbrev to_primitives : Word → List (Primitive Tm)
+to_primitives (node first v w) = to_primitive v ∷ to_primitives w
+to_primitives _ = []
+
+primitives-back : (ps : List (Primitive Tm)) → to_primitives (of_primitives ps) ≡ ps
+primitives-back [] = refl
+primitives-back (p ∷ ps) = ap₂ (λ x xs. x ∷ xs) (primitive-back p) (primitives-back ps)
+
+abbrev of_goal : Goal → Word
+of_goal (Goal.prim p) = node first (of_primitive p) nothing
+of_goal Goal.succeed = node second nothing nothing
+of_goal Goal.fail = nothing
+of_goal (Goal.both g h) = node third (of_goal g) (of_goal h)
+of_goal (Goal.either g h) = node fourth (of_goal g) (of_goal h)
+of_goal (Goal.fresh k g) = node fifth (number k) (of_goal g)
+of_goal (Goal.call r args) = node sixth (number r) (of_terms args)
+
+abbrev to_goal : Word → Goal
+to_goal (node first v w) = Goal.prim (to_primitive v)
+to_goal (node second v w) = Goal.succeed
+to_goal (node third v w) = Goal.both (to_goal v) (to_goal w)
+to_goal (node fourth v w) = Goal.either (to_goal v) (to_goal w)
+to_goal (node fifth (number k) w) = Goal.fresh k (to_goal w)
+to_goal (node sixth (number r) w) = Goal.call r (to_terms w)
+to_goal _ = Goal.fail
+
+goal-back : (g : Goal) → to_goal (of_goal g) ≡ g
+goal-back (Goal.prim p) = ap Goal.prim (primitive-back p)
+goal-back Goal.succeed = refl
+goal-back Goal.fail = refl
+goal-back (Goal.both g h) = ap₂ Goal.both (goal-back g) (goal-back h)
+goal-back (Goal.either g h) = ap₂ Goal.either (goal-back g) (goal-back h)
+goal-back (Goal.fresh k g) = ap (Goal.fresh k) (goal-back g)
+goal-back (Goal.call r args) = ap (Goal.call r) (terms-back args)
+
+abbrev of_store : Store → Word
+of_store st = node first (of_primitives st.prims) (number st.counter)
+
+abbrev to_store : Word → Store
+to_store (node first v (number n)) = record { prims = to_primitives v; counter = n }
+to_store _ = record { prims = []; counter = 0 }
+
+store-back : (st : Store) → to_store (of_store st) ≡ st
+store-back st = ap (λ ps. record { prims = ps; counter = st.counter }) (primitives-back st.prims)
+
+abbrev of_stores : List Store → Word
+of_stores [] = nothing
+of_stores (st ∷ sts) = node first (of_store st) (of_stores sts)
+
+abbrev to_stores : Word → List Store
+to_stores (node first v w) = to_store v ∷ to_stores w
+to_stores _ = []
+
+stores-back : (sts : List Store) → to_stores (of_stores sts) ≡ sts
+stores-back [] = refl
+stores-back (st ∷ sts) = ap₂ (λ x xs. x ∷ xs) (store-back st) (stores-back sts)
+
+abbrev mutual
+  of_stream : Stream → Word
+  of_stream (Stream.ends hs) = node first (of_stores hs) nothing
+  of_stream (Stream.goes_on hs i) = node second (of_stores hs) (of_thunk i)
+
+  of_thunk : Thunk → Word
+  of_thunk (Thunk.call r args st) = node first (number r) (node first (of_terms args) (of_store st))
+  of_thunk (Thunk.swap t i) = node second (of_stream t) (of_thunk i)
+  of_thunk (Thunk.bind g env i) = node third (node first (of_goal g) (of_terms env)) (of_thunk i)
+
+abbrev mutual
+  to_stream : Word → Stream
+  to_stream (node second v w) = Stream.goes_on (to_stores v) (to_thunk w)
+  to_stream (node first v w) = Stream.ends (to_stores v)
+  to_stream _ = Stream.ends []
+
+  to_thunk : Word → Thunk
+  to_thunk (node first (number r) (node first v w)) = Thunk.call r (to_terms v) (to_store w)
+  to_thunk (node second v w) = Thunk.swap (to_stream v) (to_thunk w)
+  to_thunk (node third (node first u v) w) = Thunk.bind (to_goal u) (to_terms v) (to_thunk w)
+  to_thunk _ = Thunk.call 0 [] (record { prims = []; counter = 0 })
+
+mutual
+  stream-back : (s : Stream) → to_stream (of_stream s) ≡ s
+  stream-back (Stream.ends hs) = ap Stream.ends (stores-back hs)
+  stream-back (Stream.goes_on hs i) = ap₂ Stream.goes_on (stores-back hs) (thunk-back i)
+
+  thunk-back : (t : Thunk) → to_thunk (of_thunk t) ≡ t
+  thunk-back (Thunk.call r args st) = ap₂ (Thunk.call r) (terms-back args) (store-back st)
+  thunk-back (Thunk.swap t i) = ap₂ Thunk.swap (stream-back t) (thunk-back i)
+  thunk-back (Thunk.bind g env i) =
+      ap₂ (λ (h : Goal) (e : List Tm). Thunk.bind h e (to_thunk (of_thunk i))) (goal-back g) (terms-back env) ∙ ap (Thunk.bind g env) (thunk-back i)
+
+words-decided : (v w : Word) → Dec (v ≡ w)
+words-decided = Word-discrete ℕ_discrete Tag-discrete
+
+pub goals-decided : (g h : Goal) → Dec (g ≡ h)
+goals-decided g h =
+    elim (words-decided (of_goal g) (of_goal h)) [ yes e ↦ yes (sym (goal-back g) ∙ ap to_goal e ∙ goal-back h) | no differs ↦ no (λ e. differs (ap of_goal e)) ]
+
+pub streams-decided : (s t : Stream) → Dec (s ≡ t)
+streams-decided s t =
+    elim (words-decided (of_stream s) (of_stream t)) [ yes e ↦ yes (sym (stream-back s) ∙ ap to_stream e ∙ stream-back t) | no differs ↦ no (λ e. differs (ap of_stream e)) ]

@@ -1,0 +1,5 @@
+pub mod DecidedLaws
+pub mod JoinLaws
+pub mod KnownLaws
+pub mod PullLaws
+pub mod StartLaws

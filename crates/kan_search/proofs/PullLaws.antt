@@ -1,0 +1,76 @@
+-- What is left after a pull, and what the table keeps.
+use Rattle.std.proofs.Common.{◌≡◌, ℕ, zero, suc, ◌+◌, ◌-◌, ◌^◌, ◌≤◌, Bool, true, false, List, [], ◌∷◌, ◌++◌, refl, sym, ◌∙◌, ap, ap₂, subst, arith}
+use Rattle.std.specs.Prelude.{Option, Some, None, IfSome, ◌&&◌}
+use Rattle.std.specs.List.{list_all}
+use Rattle.std.proofs.Math.Bool.{and_assoc, and-true}
+use Rattle.std.proofs.lemmas.List.Folds.{list_all-append}
+use Rattle.kan_model.specs.Goals.{Primitive, Goal, Template, Program}
+use Rattle.kan_model.specs.Stores as facts
+use Rattle.kan_model.specs.Streams as model
+use Rattle.kan_model.specs.Running.{force}
+use Rattle.kan_model.specs.Taking.{take, with_pull}
+use Rattle.kan_model.specs.Tables.{GoalEntry, Tables, goal_of, goals_after, templates_of, program_of}
+use Rattle.kan_model.specs.Bounds.{top}
+use Rattle.stream_core.specs.Tasks.{is_built}
+use Rattle.stream_core.specs.declared.plain.PlainId.{PlainId}
+use Rattle.kan_search.specs.Suspensions.{LeavesRoom, pulled_stream}
+use Rattle.kan_search.specs.Waiting.{is_reached}
+
+-- a pull where nothing is given before it
+take-pull : (program : Program) (f : ℕ) (i : model.Thunk) (l : Option ℕ) → is_reached l ≡ false → 1 ≤ f → take program f (model.Stream.goes_on [] i) l ≡ with_pull (take program (f - 1) (force program i) l)
+take-pull program zero i l wanted fuelled = let none : ⊥ = omega (arith, fuelled) in absurd none
+take-pull program (suc f) i None wanted fuelled = let less : f ≡ suc f - 1 = omega arith in ap (λ n. with_pull (take program n (force program i) None)) less
+take-pull program (suc f) i (Some zero) wanted fuelled = cc
+take-pull program (suc f) i (Some (suc n)) wanted fuelled = let less : f ≡ suc f - 1 = omega arith in ap (λ m. with_pull (take program m (force program i) (Some (suc n)))) less
+
+-- what is left before a pull is one pull, and what is left after it
+pub left-pulled : {St : Type 0} (means : St → facts.Store) (before after : Program) (was is : PlainId → model.Thunk) (heads given : List St) (tail next : Option PlainId) (id : PlainId) (f : ℕ) (l : Option ℕ) →
+    heads ≡ [] → tail ≡ Some id → is_reached l ≡ false → 1 ≤ f → after ≡ before → pulled_stream is means given next ≡ force before (was id) →
+    take before f (pulled_stream was means heads tail) l ≡ with_pull (take after (f - 1) (pulled_stream is means given next) l)
+left-pulled means before after was is heads given tail next id f l none goes wanted fuelled same made =
+    ap₂ (λ hs o. take before f (pulled_stream was means hs o) l) none goes
+    ∙ take-pull before f (was id) l wanted fuelled
+    ∙ ap₂ (λ p s. with_pull (take p (f - 1) s l)) (sym same) (sym made)
+
+-- a suspension of a search may be forced
+pub room-before : (t : model.Thunk) (pulls fuel : ℕ) → LeavesRoom pulls t → pulls + fuel ≤ 1000000 → top t ≤ 2 ^ 62
+room-before t pulls fuel room few = omega (arith, room, few)
+
+-- a pull takes at most 2^21 variables
+pub room-after : (tree : PlainId → model.Thunk) (t : model.Thunk) (tail : Option PlainId) (pulls : ℕ) → IfSome tail (λ next. top (tree next) ≤ top t + 2 ^ 21) → LeavesRoom pulls t →
+    (id : PlainId) → tail ≡ Some id → LeavesRoom (pulls + 1) (tree id)
+room-after tree t tail pulls more room id is =
+    let high : top (tree id) ≤ top t + 2 ^ 21 = subst (λ o. IfSome o (λ next. top (tree next) ≤ top t + 2 ^ 21)) is more in omega (arith, high, room)
+
+-- whether a goal is built, as its entry tells
+abbrev goal_is_built : Goal → Bool
+goal_is_built (Goal.prim (Primitive.same a b)) = true
+goal_is_built (Goal.prim p) = false
+goal_is_built g = true
+
+entry-is-built : (ts : List Template) (args : List ℕ) (gs : List Goal) (e : GoalEntry) → goal_is_built (goal_of ts args gs e) ≡ is_built e
+entry-is-built ts args gs GoalEntry.succeed = refl
+entry-is-built ts args gs GoalEntry.fail = refl
+entry-is-built ts args gs (GoalEntry.same a b) = refl
+entry-is-built ts args gs (GoalEntry.differ a b) = refl
+entry-is-built ts args gs (GoalEntry.symbol a) = refl
+entry-is-built ts args gs (GoalEntry.number a) = refl
+entry-is-built ts args gs (GoalEntry.absent tag a) = refl
+entry-is-built ts args gs (GoalEntry.both g h) = refl
+entry-is-built ts args gs (GoalEntry.either g h) = refl
+entry-is-built ts args gs (GoalEntry.fresh k g) = refl
+entry-is-built ts args gs (GoalEntry.call r at k) = refl
+
+goals-are-built : (ts : List Template) (args : List ℕ) (gs : List Goal) (es : List GoalEntry) → list_all goal_is_built (goals_after ts args gs es) ≡ (list_all goal_is_built gs && list_all is_built es)
+goals-are-built ts args gs [] = sym (and-true (list_all goal_is_built gs))
+goals-are-built ts args gs (e ∷ es) =
+    let g = goal_of ts args gs e in
+    goals-are-built ts args (gs ++ g ∷ []) es
+    ∙ ap (λ b. b && list_all is_built es) (list_all-append goal_is_built gs (g ∷ []))
+    ∙ and_assoc (list_all goal_is_built gs) (list_all goal_is_built (g ∷ [])) (list_all is_built es)
+    ∙ ap (λ b. list_all goal_is_built gs && (b && list_all is_built es)) (and-true (goal_is_built g) ∙ entry-is-built ts args gs e)
+
+-- whether all is built can be told from the program that tables stand for
+pub built-alike : (t u : Tables) → program_of u ≡ program_of t → list_all is_built t.goals ≡ true → list_all is_built u.goals ≡ true
+built-alike t u same built =
+    sym (goals-are-built (templates_of u.terms) u.arguments [] u.goals) ∙ ap (λ p. list_all goal_is_built p.goals) same ∙ goals-are-built (templates_of t.terms) t.arguments [] t.goals ∙ built

@@ -1,0 +1,26 @@
+use Rattle.std.proofs.Common.{◌∙◌, ap, map}
+use Rattle.kan_model.specs.Environments.{terms_of}
+use Rattle.kan_model.specs.Programs as programs
+use Rattle.kan_model.specs.Scope.{is_small}
+use Rattle.kan_search.specs.Suspensions.{tree_of}
+use Rattle.kan_search.proofs.StartLaws.{turned-is, started, start-room}
+use Rattle.kan_search.proofs.pulling.start.Goals as goal
+
+pub returns-clause-made : goal.returns-clause-made
+returns-clause-made g c =
+    let means = g.St.Store.meaning in
+    let stream = c.in_ok-stream.stream in
+    let pulled = c.in_ok-pulled.pulled in
+    turned-is (tree_of means c.run_goal.new.nodes) means pulled.heads.items stream.heads stream.tail pulled.tail c.in_ok-pulled.ensures.heads c.in_ok-pulled.ensures.tail
+    ∙ c.in_ok-stream.ensures.made
+    ∙ started (programs.goal c.program-program.result.now c.args.goal) (programs.goal c.args.nodes.now.program.now c.args.goal) (terms_of c.in_ok-env.env) (means c.in_ok-none.none) (means c.in_ok-store.store)
+    (ap (λ p. programs.goal p c.args.goal) c.program-program.ensures) c.in_ok-env.ensures c.in_ok-none.ensures c.in_ok-store.ensures
+
+pub returns-clause-room : goal.returns-clause-room
+returns-clause-room g c =
+    let means = g.St.Store.meaning in
+    let program = c.program-program.result.now in
+    let stream = c.in_ok-stream.stream in
+    let pulled = c.in_ok-pulled.pulled in
+    start-room (programs.meaning program) (programs.goals program) c.args.goal (means c.in_ok-none.none) (means c.in_ok-store.store) (map means stream.heads) (tree_of means c.run_goal.new.nodes) stream.tail pulled.tail
+    (ap (λ p. is_small (programs.meaning p)) c.program-program.ensures ∙ c.requires.small) c.in_ok-none.ensures c.in_ok-store.ensures c.in_ok-stream.ensures.fits.tail c.in_ok-pulled.ensures.tail

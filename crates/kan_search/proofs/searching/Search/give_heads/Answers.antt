@@ -1,0 +1,19 @@
+use Rattle.std.proofs.Common.{◌∙◌, sym, ap, map, arith}
+use Rattle.kan_search.specs.Batches.{joined}
+use Rattle.kan_search.proofs.JoinLaws.{joined-answer, longer-few}
+use Rattle.kan_search.proofs.searching.Search.give_heads.Goals as goal
+
+pub returns-in-None-clause-joined : goal.returns-in-None-clause-joined
+returns-in-None-clause-joined g c pulls = c.loop-self.invariant.joined pulls ∙ ap (joined (map g.St.Store.meaning c.loop-self.answers) pulls) (sym c.in-None.ensures.none.1)
+
+pub loop-self-preserved : goal.loop-self-preserved
+loop-self-preserved g c =
+    let kept = c.next_head.ensures in
+    let inv = c.loop-self.invariant in
+    record {
+      joined = λ pulls. inv.joined pulls ∙ joined-answer g.St.Store.meaning _ _ c.in-Some.store _ _ pulls c.in_ok-put_last-in-Some.ensures c.in-Some.ensures.some;
+      few = longer-few c.loop-self.answers _ c.in-Some.store 1024 c.in_ok-put_last-in-Some.ensures (omega arith);
+      pulls = kept.pulls ∙ inv.pulls;
+      round = kept.round ∙ inv.round;
+      spent = kept.spent ∙ inv.spent;
+    }

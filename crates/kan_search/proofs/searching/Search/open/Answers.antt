@@ -1,0 +1,27 @@
+use Rattle.std.proofs.Common.{◌∙◌, ap, ap₂, subst}
+use Rattle.std.specs.Prelude.{IfSome}
+use Rattle.kan_model.specs.Programs as programs
+use Rattle.kan_model.specs.Running.{start}
+use Rattle.kan_model.specs.Scope.{is_small}
+use Rattle.kan_model.specs.Taking.{take}
+use Rattle.kan_search.specs.Suspensions.{LeavesRoom, tree_of}
+use Rattle.kan_search.proofs.PullLaws.{built-alike}
+use Rattle.kan_search.proofs.searching.Search.open.Goals as goal
+
+pub invariant_of-result-clause-small : goal.invariant_of-result-clause-small
+invariant_of-result-clause-small g c = ap is_small (c.start.ensures.same ∙ ap programs.meaning c.new-nodes.ensures.program) ∙ c.requires.small
+
+pub invariant_of-result-clause-built : goal.invariant_of-result-clause-built
+invariant_of-result-clause-built g c =
+    built-alike (programs.tables c.args.program.now) (programs.tables c.start.new.nodes.program.now) (c.start.ensures.same ∙ ap programs.meaning c.new-nodes.ensures.program) c.requires.built
+
+pub invariant_of-result-clause-belongs : goal.invariant_of-result-clause-belongs
+invariant_of-result-clause-belongs g c = ∣ c.in_ok-pulled.ensures.belong ∣₁
+
+pub invariant_of-result-clause-room : goal.invariant_of-result-clause-room
+invariant_of-result-clause-room g c id is = subst (λ o. IfSome o (λ next. LeavesRoom 0 (tree_of g.St.Store.meaning c.start.new.nodes next))) is c.in_ok-pulled.ensures.room
+
+pub returns-clause-left : goal.returns-clause-left
+returns-clause-left g c =
+    ap₂ (λ p s. take p c.args.fuel s c.args.query.now.limit) (c.start.ensures.same ∙ ap programs.meaning c.new-nodes.ensures.program)
+    (c.in_ok-pulled.ensures.made ∙ ap (λ p. start (programs.goal p c.args.query.now.goal)) c.new-nodes.ensures.program)

@@ -1,0 +1,27 @@
+-- The suspensions of a table, and how many variables they have taken at most.
+use Rattle.std.specs.Prelude.{ℕ, ◌+◌, ◌*◌, ◌^◌, ◌≤◌, List, map, reverse, Option, option_map}
+use Rattle.kan_model.specs.Stores as facts
+use Rattle.kan_model.specs.Streams as model
+use Rattle.kan_model.specs.Bounds.{top}
+use Rattle.kan_model.specs.Programs as programs
+use Rattle.stream_core.specs.Standing.{going_on}
+use Rattle.stream_core.specs.Keeping.{BelongsTo, row_tree}
+use Rattle.stream_core.specs.declared.plain.PlainId.{PlainId}
+use Rattle.stream_core.specs.declared.plain.PlainNodes.{PlainNodes}
+
+module _ {St : Type 0} (means : St → facts.Store) where
+  -- the suspension that an id of a table stands for
+  abbrev pub tree_of : PlainNodes St → PlainId → model.Thunk
+  tree_of nodes = row_tree means (programs.meaning nodes.program.now) nodes.rows.items
+
+  -- the id is of the table
+  abbrev pub IsOf : PlainNodes St → PlainId → Type 0
+  IsOf nodes = BelongsTo means (programs.meaning nodes.program.now) nodes.rows.items
+
+-- the stream of stores, the next one last, and of what comes behind them
+abbrev pub pulled_stream : {St : Type 0} → (PlainId → model.Thunk) → (St → facts.Store) → List St → Option PlainId → model.Stream
+pulled_stream tree means heads tail = going_on (map means (reverse heads)) (option_map tree tail)
+
+-- what a run goes on with after some pulls: its goal, that goal's calls, and each pull take at most 2^21 variables
+abbrev pub LeavesRoom : ℕ → model.Thunk → Type 0
+LeavesRoom pulls t = top t ≤ (pulls + 2) * 2 ^ 21

@@ -1,0 +1,82 @@
+//! The streams of a run: the one that it begins with, and the one that a pull gives.
+
+ghost use Rattle.std.specs.Prelude.{◌≡◌, ◌+◌, ◌≤◌, ◌^◌, [], ◌∷◌, reverse, true, IfOk, IfSome};
+ghost use Rattle.std.specs.List.{list_all};
+ghost use Rattle.kan_model.specs.Bounds.{top};
+ghost use Rattle.kan_model.specs.Running as running;
+ghost use Rattle.kan_model.specs.Scope.{is_small};
+ghost use Rattle.kan_model.specs.Tables.{nothing_open};
+ghost use Rattle.kan_model.specs.Programs as programs;
+ghost use Rattle.stream_core.specs.Standing as standing;
+ghost use Rattle.stream_core.specs.Tasks.{is_built};
+ghost use Rattle.kan_search.specs.Suspensions.{tree_of, IsOf, LeavesRoom, pulled_stream};
+
+use crate::heads::reversed;
+use kan_model::{Env, Store};
+use kan_terms::Memory;
+use std::alloc::Global;
+use stream_core::{PlainId, PlainNodes, Stream, force, run_goal};
+
+// Stores of a stream, the next one last, and how it goes on behind them.
+#[derive(Drop)]
+pub(crate) struct Pulled<St> {
+    pub(crate) heads: Vec<St>,
+    pub(crate) tail: Option<PlainId>,
+}
+
+// A stream with its stores turned.
+fn turned<St: Drop>(alloc: Global, stream: Stream<PlainId, St>) -> Result<Pulled<St>, Memory>
+    ensures heads { IfOk result (λ pulled. pulled.heads.items ≡ reverse stream.heads) }
+    ensures tail { IfOk result (λ pulled. pulled.tail ≡ stream.tail) }
+{
+    let Stream { heads, tail } = stream;
+    let heads = reversed(alloc, heads)?;
+    Ok(Pulled { heads, tail })
+}
+
+// The stream that a run begins with.
+pub(crate) fn start<'a, St: Store>(
+    alloc: Global,
+    goal: u32,
+    nodes: &mut PlainNodes<'a, St>,
+) -> Result<Pulled<St>, Memory>
+    requires closed { nothing_open (programs.tables nodes.old.program.now) (goal ∷ []) ≡ true }
+    requires small { is_small (programs.meaning nodes.old.program.now) ≡ true }
+    requires built { list_all is_built (programs.tables nodes.old.program.now).goals ≡ true }
+    ensures made { IfOk result (λ made. pulled_stream (tree_of St.meaning nodes.new) St.meaning made.heads.items made.tail ≡ running.start (programs.goal nodes.old.program.now goal)) }
+    ensures belong { IfOk result (λ made. IfSome made.tail (IsOf St.meaning nodes.new)) }
+    ensures room { IfOk result (λ made. IfSome made.tail (λ next. LeavesRoom 0 (tree_of St.meaning nodes.new next))) }
+    ensures same { programs.meaning nodes.new.program.now ≡ programs.meaning nodes.old.program.now }
+{
+    let program = nodes.program();
+    let env = Env::start(alloc, 0)?;
+    let none = St::empty(alloc)?;
+    let store = none.fresh(alloc, 1)?;
+    let stream = run_goal(alloc, program, goal, &env, store, nodes)?;
+    let pulled = turned(alloc, stream)?;
+    Ok(pulled)
+}
+
+// The stream that a pull gives.
+pub(crate) fn pull<'a, St: Store>(
+    alloc: Global,
+    id: &PlainId,
+    nodes: &mut PlainNodes<'a, St>,
+) -> Result<Pulled<St>, Memory>
+    requires small { is_small (programs.meaning nodes.old.program.now) ≡ true }
+    requires built { list_all is_built (programs.tables nodes.old.program.now).goals ≡ true }
+    requires belongs { IsOf St.meaning nodes.old id.now }
+    requires room { top (tree_of St.meaning nodes.old id.now) ≤ 2 ^ 62 }
+    ensures made { IfOk result (λ made. pulled_stream (tree_of St.meaning nodes.new) St.meaning made.heads.items made.tail
+        ≡ running.force (programs.meaning nodes.old.program.now) (tree_of St.meaning nodes.old id.now)) }
+    ensures belong { IfOk result (λ made. IfSome made.tail (IsOf St.meaning nodes.new)) }
+    ensures room { IfOk result (λ made. IfSome made.tail (λ next. top (tree_of St.meaning nodes.new next)
+        ≤ top (tree_of St.meaning nodes.old id.now) + 2 ^ 21)) }
+    ensures older { standing.Grows (IsOf St.meaning nodes.old) (tree_of St.meaning nodes.old) (IsOf St.meaning nodes.new) (tree_of St.meaning nodes.new) }
+    ensures same { programs.meaning nodes.new.program.now ≡ programs.meaning nodes.old.program.now }
+{
+    let program = nodes.program();
+    let stream = force(alloc, program, id, nodes)?;
+    let pulled = turned(alloc, stream)?;
+    Ok(pulled)
+}

@@ -1,0 +1,21 @@
+-- Streams that a program gives: the counters of their stores keep to bounds, and what they go on with fits the program.
+use Rattle.std.specs.Prelude.{ℕ, ◌+◌, ◌≤◌, ◌^◌}
+use Rattle.kan_model.specs.Goals.{Program}
+use Rattle.kan_model.specs.Stores.{Store}
+use Rattle.kan_model.specs.Streams.{Stream, heads}
+use Rattle.kan_model.specs.Bounds.{Fits, top, floor}
+use Rattle.stream_core.specs.Machine.{Each}
+
+-- a counter between two numbers
+abbrev pub Between : ℕ → ℕ → Store → Type 0
+Between low high st = (low ≤ st.counter) × (st.counter ≤ high)
+
+-- what a stream goes on with, where it does, fits and lies between two numbers
+abbrev pub RestFits : Program → ℕ → ℕ → Stream → Type 0
+RestFits program low high (Stream.ends hs) = Unit {0}
+RestFits program low high (Stream.goes_on hs i) = Fits program i × (low ≤ floor i) × (top i ≤ high)
+
+-- the stores' counters lie between two numbers, and the tail fits, where each call may take 2^21 variables more
+pub record TailFits (program : Program) (low high : ℕ) (s : Stream) : Type 0 where
+  pub heads : Each (Between low high) (heads s)
+  pub tail : RestFits program low (high + 2 ^ 21) s

@@ -1,0 +1,44 @@
+-- Rows of suspensions and the streams that are kept for them, and which ids stand for suspensions whose rows are in order.
+use Rattle.std.specs.Prelude.{ℕ, zero, suc, Bool, false, List, [], ◌∷◌, map, Option, Some, slice_get, is_some, IfSome}
+use Rattle.kan_model.specs.Goals.{Program}
+use Rattle.kan_model.specs.Stores as facts
+use Rattle.kan_model.specs.Streams as model
+use Rattle.kan_model.specs.Bounds.{Fits}
+use Rattle.stream_core.specs.Standing.{ThunkBelongs, IsForce}
+use Rattle.stream_core.specs.Growing.{is_placed, grown_tree}
+use Rattle.stream_core.specs.declared.streams.Thunk.{Thunk}
+use Rattle.stream_core.specs.declared.plain.PlainId.{PlainId}
+use Rattle.stream_core.specs.declared.plain.Row.{Row}
+
+-- the suspensions of rows
+abbrev pub thunks : {St : Type 0} → List (Row St) → List (Thunk PlainId St)
+thunks rows = map (λ row. row.thunk) rows
+
+-- whether a stream is kept at a place
+abbrev pub is_kept_at : {St : Type 0} → List (Row St) → ℕ → Bool
+is_kept_at [] i = false
+is_kept_at (row ∷ rows) zero = is_some row.kept
+is_kept_at (row ∷ rows) (suc i) = is_kept_at rows i
+
+-- it is told of each id whether a stream is kept for it
+abbrev pub told : {St : Type 0} → List (Row St) → PlainId → Option Bool
+told rows id = Some (is_kept_at rows id.at)
+
+module _ {St : Type 0} (means : St → facts.Store) (program : Program) where
+  -- the tree that an id stands for
+  abbrev pub row_tree : List (Row St) → PlainId → model.Thunk
+  row_tree rows = grown_tree means program (thunks rows)
+
+  -- the ids in a row belong, and the stream that it keeps is the force of its tree
+  abbrev pub RowIsSound : (PlainId → Type 0) → (PlainId → model.Thunk) → model.Thunk → Row St → Type 0
+  RowIsSound belongs tree t row = ThunkBelongs belongs row.thunk × IfSome row.kept (IsForce belongs tree means program t)
+
+  -- an id is placed and its tree fits, and so is all that is reached from it in so many steps, by the ids in suspensions and in kept streams
+  abbrev pub IsSound : ℕ → List (Row St) → PlainId → Type 0
+  IsSound zero rows id = is_placed (thunks rows) id × Fits program (row_tree rows id)
+  IsSound (suc n) rows id =
+      is_placed (thunks rows) id × Fits program (row_tree rows id) × IfSome (slice_get rows id.at) (RowIsSound (IsSound n rows) (row_tree rows) (row_tree rows id))
+
+  -- an id belongs where all that is reached from it is sound
+  abbrev pub BelongsTo : List (Row St) → PlainId → Type 0
+  BelongsTo rows id = (n : ℕ) → IsSound n rows id
