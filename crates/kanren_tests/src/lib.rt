@@ -6,6 +6,10 @@ mod asking;
 #[cfg(test)]
 mod commands;
 #[cfg(test)]
+mod compiled;
+#[cfg(test)]
+mod compiling;
+#[cfg(test)]
 mod ends;
 #[cfg(test)]
 mod equations;
@@ -17,6 +21,8 @@ mod reading;
 mod refusals;
 #[cfg(test)]
 mod relations;
+#[cfg(test)]
+mod spelling;
 #[cfg(test)]
 mod stores;
 #[cfg(test)]
