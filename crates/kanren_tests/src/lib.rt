@@ -2,9 +2,27 @@
 #![tactic(auto)]
 
 #[cfg(test)]
+mod asking;
+#[cfg(test)]
+mod commands;
+#[cfg(test)]
+mod compiled;
+#[cfg(test)]
+mod compiling;
+#[cfg(test)]
+mod ends;
+#[cfg(test)]
+mod equations;
+#[cfg(test)]
 mod outside;
 #[cfg(test)]
 mod reading;
+#[cfg(test)]
+mod refusals;
+#[cfg(test)]
+mod relations;
+#[cfg(test)]
+mod spelling;
 #[cfg(test)]
 mod stores;
 #[cfg(test)]
