@@ -14,3 +14,7 @@ pub mod DraftLaws
 pub mod BuildLaws
 pub mod BuiltLaws
 pub mod GoalWorkLaws
+pub mod InScopeLaws
+pub mod CallsLaws
+pub mod DefinedLaws
+pub mod ClosedLaws
