@@ -18,3 +18,4 @@ pub mod InScopeLaws
 pub mod CallsLaws
 pub mod DefinedLaws
 pub mod ClosedLaws
+pub mod HeightLaws

@@ -20,3 +20,4 @@ pub mod Equational
 pub mod Compiles
 pub mod Built
 pub mod GoalWorks
+pub mod Low
