@@ -19,3 +19,4 @@ pub mod CallsLaws
 pub mod DefinedLaws
 pub mod ClosedLaws
 pub mod HeightLaws
+pub mod TurnLowLaws

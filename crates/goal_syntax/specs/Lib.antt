@@ -21,3 +21,4 @@ pub mod Compiles
 pub mod Built
 pub mod GoalWorks
 pub mod Low
+pub mod TurnLow
