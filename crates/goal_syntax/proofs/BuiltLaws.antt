@@ -1,6 +1,6 @@
 -- What stands in tables while goals are built.
 use Rattle.std.proofs.Common.{◌≡◌, ℕ, ◌<◌, List, [], ◌∷◌, ◌++◌, length, map, reverse, refl, sym, ◌∙◌, ap, ap₂, Option, Some, None}
-use Rattle.std.specs.Prelude.{Bool, true, false, ◌&&◌}
+use Rattle.std.specs.Prelude.{Bool, true, ◌&&◌}
 use Rattle.std.proofs.lemmas.Bool.{and_from, and_parts, ltb-true, lt-ltb}
 use Rattle.std.proofs.lemmas.List.{reverse-append}
 use Rattle.kan_model.specs.Goals.{Goal}
@@ -10,14 +10,14 @@ use Rattle.kan_model.specs.Tables.{Tables, GoalEntry, goal_at, goals_of, is_goal
 use Rattle.goal_syntax.specs.Drafting.{HasGoal, Grows}
 use Rattle.goal_syntax.specs.Equational.{is_equational, is_equational_entry, are_equational_entries}
 use Rattle.goal_syntax.specs.Built.{Built, built, entry_goal, with_entry, with_goal, with_maybe, Stands, StandsFor}
-use Rattle.goal_syntax.specs.GoalWorks.{both_of, empty_entry, freshened, join_entry, joined, row_goal}
+use Rattle.goal_syntax.specs.GoalWorks.{join_entry}
 use Rattle.goal_syntax.specs.declared.join_goal.Row.{Row}
 use Rattle.goal_syntax.specs.declared.join_goal.Row.TheVariants as rows
 use Rattle.goal_syntax.specs.Turning.{are_below}
 use Rattle.goal_syntax.proofs.TurnLaws.{below-push, below-split}
 
 -- a goal is among those of a table that grew
-goal_kept : (ts us : Tables) (p : ℕ) → Grows ts us → p < length ts.goals → HasGoal us p (goal_at (goals_of ts) p)
+pub goal_kept : (ts us : Tables) (p : ℕ) → Grows ts us → p < length ts.goals → HasGoal us p (goal_at (goals_of ts) p)
 goal_kept ts us p grows there = grows.goals p (goal_at (goals_of ts) p) (record { there = there; is = refl })
 
 -- places are there in tables that grew
@@ -83,45 +83,11 @@ top_two n p0 p1 p2 g h top next below =
     let inner = below-split n p2 g (sym (ap (are_below n) next) ∙ outer.0) in
     (inner.0, inner.1, outer.1)
 
-and_true : (x : Bool) → (x && true) ≡ x
-and_true true = refl
-and_true false = refl
-
 -- goals that are joined as those of a row may be added where both are there
 pub join_grown : (ts : Tables) (row : Row) (g h : ℕ) (e : GoalEntry) → e ≡ join_entry row g h → g < length ts.goals → h < length ts.goals → is_goal_grown ts (length ts.goals) e ≡ true
 join_grown ts rows.All g h e is first second = ap (is_goal_grown ts (length ts.goals)) is ∙ and_from _ _ (lt-ltb g (length ts.goals) first) (lt-ltb h (length ts.goals) second)
 join_grown ts rows.One g h e is first second = ap (is_goal_grown ts (length ts.goals)) is ∙ and_from _ _ (lt-ltb g (length ts.goals) first) (lt-ltb h (length ts.goals) second)
 join_grown ts rows.Clauses g h e is first second = ap (is_goal_grown ts (length ts.goals)) is ∙ and_from _ _ (lt-ltb g (length ts.goals) first) (lt-ltb h (length ts.goals) second)
-
-join_entry_added : (ts : Tables) (row : Row) (g h : ℕ) (b : Built) → with_entry ts (join_entry row g h) b ≡ built_from (both_of row (goal_at (goals_of ts) g) (goal_at (goals_of ts) h) ∷ b.made) b.equational
-join_entry_added ts rows.All g h b = ap (built_from (both_of rows.All (goal_at (goals_of ts) g) (goal_at (goals_of ts) h) ∷ b.made)) (and_true b.equational)
-join_entry_added ts rows.One g h b = ap (built_from (both_of rows.One (goal_at (goals_of ts) g) (goal_at (goals_of ts) h) ∷ b.made)) (and_true b.equational)
-join_entry_added ts rows.Clauses g h b = ap (built_from (both_of rows.Clauses (goal_at (goals_of ts) g) (goal_at (goals_of ts) h) ∷ b.made)) (and_true b.equational)
-
--- the two goals on top are joined
-pub two_joined : (ts : Tables) (row : Row) (p0 p1 p2 : List ℕ) (g h : ℕ) (e : GoalEntry) (after : Built) → p0 ≡ p1 ++ h ∷ [] → p1 ≡ p2 ++ g ∷ [] → e ≡ join_entry row g h →
-    after ≡ with_entry ts e (built ts p2) → after ≡ joined row (built ts p0)
-two_joined ts row p0 p1 p2 g h e after top next is added =
-    let all : reverse p0 ≡ h ∷ g ∷ reverse p2 = ap reverse top ∙ reverse-append p1 (h ∷ []) ∙ ap (λ l. h ∷ l) (ap reverse next ∙ reverse-append p2 (g ∷ [])) in
-    added ∙ ap (λ x. with_entry ts x (built ts p2)) is ∙ join_entry_added ts row g h (built ts p2)
-    ∙ sym (ap (λ l. joined row (built_from (map (goal_at (goals_of ts)) l) (are_equational_entries ts.goals))) all)
-
--- nothing is joined where there is one goal or none
-pub none_joined : (ts : Tables) (row : Row) (p0 : List ℕ) → p0 ≡ [] → built ts p0 ≡ joined row (built ts p0)
-none_joined ts row p0 e = rw e refl
-
--- the goal on top gets slots of its own
-pub slots_added : (ts : Tables) (k : ℕ) (p0 p1 : List ℕ) (g : ℕ) (after : Built) → p0 ≡ p1 ++ g ∷ [] → after ≡ with_entry ts (GoalEntry.fresh k g) (built ts p1) → after ≡ freshened k (built ts p0)
-slots_added ts k p0 p1 g after top added =
-    let all : reverse p0 ≡ g ∷ reverse p1 = ap reverse top ∙ reverse-append p1 (g ∷ []) in
-    added ∙ ap (built_from (Goal.fresh k (goal_at (goals_of ts) g) ∷ map (goal_at (goals_of ts)) (reverse p1))) (and_true (are_equational_entries ts.goals))
-    ∙ sym (ap (λ l. freshened k (built_from (map (goal_at (goals_of ts)) l) (are_equational_entries ts.goals))) all)
-
--- the goal of an empty row
-pub empty_stands : (ts : Tables) (row : Row) → Stands ts (empty_entry row) (row_goal row [])
-empty_stands ts rows.All = record { grown = refl; is = refl; equational = refl }
-empty_stands ts rows.One = record { grown = refl; is = refl; equational = refl }
-empty_stands ts rows.Clauses = record { grown = refl; is = refl; equational = refl }
 
 -- the one goal that is left is that of all
 pub goal_made : (ts us : Tables) (ps popped : List ℕ) (at : ℕ) (g : Goal) → ps ≡ popped ++ at ∷ [] → are_below (length us.goals) ps ≡ true → built us ps ≡ with_goal g (built ts []) → HasGoal us at g

@@ -10,7 +10,8 @@ use Rattle.kan_model.specs.Sited.{Sited, elements}
 use Rattle.kan_model.specs.Faults.{Fault}
 use Rattle.kan_model.specs.TopForms.{Defined, form, defined, defined_by, defined_by_head}
 use Rattle.kan_model.specs.Language.{Word, word, head_word, is_other}
-use Rattle.kan_model.specs.TextFaults.{form_faults, forms_faults}
+use Rattle.std.proofs.lemmas.Grind.{flat_map-append}
+use Rattle.kan_model.specs.TextFaults.{form_faults, forms_faults, faults_of, least}
 use Rattle.goal_syntax.specs.Parts.{site_at}
 
 -- the next of some places, and those behind it
@@ -109,3 +110,15 @@ few_rows t ds forms old new added =
     let old_size : length (related old) ≡ length old = simp length-map in
     let all : length (related new) ≡ length (related old) + length (defined t (map (site_at ds) forms)) = ap length added ∙ length-append (related old) (defined t (map (site_at ds) forms)) in
     omega arith
+
+-- the relations of a library stand before those of a text
+pub before_text : (rs library text : List Defined) (n : ℕ) → rs ≡ library ++ text → n ≡ length library → take n rs ≡ library
+before_text rs library text n split size = ap (take n) split ∙ ap (λ k. take k (library ++ text)) size ∙ take-append_seam library text
+
+-- the first fault of the forms of a text is that of the text behind its library
+pub first_is : (t : Table) (library text : List Sited) (rs : List Defined) (n : ℕ) (r : Option Fault) → rs ≡ defined t library ++ defined t text → n ≡ length (defined t library) →
+    r ≡ least (forms_faults t rs (take n rs) text) → r ≡ least (faults_of t library text)
+unfolding faults_of
+first_is t library text rs n r split size found =
+    let all : rs ≡ defined t (library ++ text) = split ∙ sym (flat_map-append (defined_by t) library text) in
+    found ∙ ap (λ b. least (forms_faults t rs b text)) (before_text rs (defined t library) (defined t text) n split size) ∙ ap (λ l. least (forms_faults t l (defined t library) text)) all

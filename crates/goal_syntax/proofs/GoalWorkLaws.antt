@@ -18,7 +18,7 @@ use Rattle.goal_syntax.specs.Built.{Built, with_goal, with_maybe, own_goal}
 use Rattle.goal_syntax.specs.Shapes.{parts}
 use Rattle.goal_syntax.specs.Equational.{is_equational}
 use Rattle.goal_syntax.specs.GoalWorks.{both_of, finish, first_form, first_work, inner_works, joined, other_works, row_forms, row_goal, row_size, work_size, works_size}
-use Rattle.goal_syntax.proofs.GoalLaws.{clauses-none, fewer_parts, goals-none, parts-is}
+use Rattle.goal_syntax.proofs.GoalLaws.{clauses-none, goals-none, parts-is}
 use Rattle.goal_syntax.proofs.BuiltLaws.{built_from}
 use Rattle.goal_syntax.specs.declared.goal.Goal as opened
 use Rattle.goal_syntax.specs.declared.goal.Goal.TheVariants.{Succeed, Fail, Same, Differ, Symbol, Number, Absent, Fresh, AllOf, OneOf, Clauses, Call, Misshapen}
@@ -100,11 +100,6 @@ row-more rows.All t s a d e = ap (goal_forms t) (parts-is s a d e).1
 row-more rows.One t s a d e = ap (goal_forms t) (parts-is s a d e).1
 row-more rows.Clauses t s a d e = ap (clause_forms t) (parts-is s a d e).1
 
-pub empty_row : (rs : List Defined) (t : Table) (ds : List Sited) (ns : Names) (row : Row) (place : ℕ) (ws : List Work) (b after : Built) → None ≡ parts (site_at ds place) → after ≡ with_goal (row_goal row []) b →
-    finish rs t ds ns (reverse ws) after ≡ finish rs t ds ns (works.Row row place ∷ reverse ws) b
-empty_row rs t ds ns row place ws b after e made =
-    ap (finish rs t ds ns (reverse ws)) made ∙ sym (ap (λ gs. finish rs t ds ns (reverse ws) (with_goal (row_goal row (goals_in rs ns gs)) b)) (row-none row t (site_at ds place) e))
-
 row-single : (row : Row) (g : Goal) → row_goal row (g ∷ []) ≡ g
 row-single rows.All g = refl
 row-single rows.One g = refl
@@ -179,9 +174,6 @@ row_falls ds row place a d ws mid new first e others is pushed =
     let first_one = first-size ds row a in
     let other_ones = others-size ds row d (parts (site_at ds d)) in
     omega arith
-
-pub empty_falls : (ds : List Sited) (place n : ℕ) → n < row_size (site_at ds place) + n
-empty_falls ds place n = let some = fewer_parts ds place n in omega arith
 
 -- the goals of a clause wait
 pub clause_falls : (ds : List Sited) (clause : ℕ) (ws new : List Work) → new ≡ ws ++ works.Row rows.All clause ∷ [] → works_size ds new < 1 + row_size (site_at ds clause) + works_size ds ws

@@ -14,6 +14,8 @@ pub mod DraftLaws
 pub mod BuildLaws
 pub mod BuiltLaws
 pub mod GoalWorkLaws
+pub mod BuiltTextLaws
+pub mod CompilingLaws
 pub mod InScopeLaws
 pub mod CallsLaws
 pub mod DefinedLaws

@@ -20,5 +20,7 @@ pub mod Equational
 pub mod Compiles
 pub mod Built
 pub mod GoalWorks
+pub mod BuiltText
+pub mod CompiledForms
 pub mod Low
 pub mod TurnLow

@@ -62,15 +62,12 @@ fn join(draft: &mut Draft, places: &mut Vec<u32>) -> Result<(), Memory>
     Ok(())
 }
 
-// The slot of a variable. One whose number is too large for a template has no memory.
+// The slot of a variable, 0 where its name is not in scope. A number too large for a template has no memory.
 fn slot_number(scope: &[Option<u32>], symbol: u32) -> Result<u32, Memory>
     ensures { IfOk result (λ slot. slot ≡ unwrap_or (slot_of scope.now symbol) 0) }
 {
     let slot = slot_of(scope, symbol).unwrap_or(0);
-    match u32::try_from(slot) {
-        Ok(slot) => Ok(slot),
-        Err(_) => Err(Memory),
-    }
+    u32::try_from(slot).map_err(|_| Memory)
 }
 
 // Builds the template that begins with a step, as far as its parts.
@@ -96,11 +93,10 @@ fn build_step(
         Step::Variable(_, symbol) => {
             put(TermNode::Slot(slot_number(scope, symbol)?), draft, places)?
         }
-        Step::Misshapen(_) => put(TermNode::Nil, draft, places)?,
         Step::Symbol(symbol) => put(TermNode::Sym(symbol), draft, places)?,
         Step::Number(number) => put(TermNode::Num(number), draft, places)?,
         Step::Truth(truth) => put(TermNode::Truth(truth), draft, places)?,
-        Step::Nil => put(TermNode::Nil, draft, places)?,
+        Step::Misshapen(_) | Step::Nil => put(TermNode::Nil, draft, places)?,
         Step::Pair(first, rest) => {
             works.push(Work::Pair)?;
             works.push(Work::Term(rest))?;
@@ -158,10 +154,7 @@ pub(crate) fn build_term(
     while let Some(work) = works.pop() {
         build_work(text, scope, work, draft, &mut places, &mut works)?;
     }
-    match places.pop() {
-        Some(place) => Ok(place),
-        None => Err(Memory),
-    }
+    places.pop().ok_or(Memory)
 }
 
 // Builds the templates of the terms in a list, and gives their places.
@@ -239,11 +232,8 @@ pub(crate) fn build_slots(bound: &[u32], draft: &mut Draft) -> Result<u32, Memor
     ensures room { OnOk result (HasRoom (tables draft.new)) }
     ensures same { OnOk result ((tables draft.new).goals ≡ (tables draft.old).goals) }
 {
-    let Ok(count) = u32::try_from(bound.len()) else {
-        return Err(Memory);
-    };
+    let mut slot = u32::try_from(bound.len()).map_err(|_| Memory)?;
     let mut list = add_term(draft, TermNode::Nil)?;
-    let mut slot = count;
     while slot > 0 {
         let first = add_term(draft, TermNode::Slot(slot))?;
         list = add_term(draft, TermNode::Pair(first, list))?;

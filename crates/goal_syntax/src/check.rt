@@ -11,7 +11,7 @@ ghost use Rattle.goal_syntax.specs.TurnWorks.{AreNumbered};
 use crate::fault::Fault;
 use crate::judge_text::first_fault;
 use crate::node::Nodes;
-use crate::turn::{Prefixes, turn};
+use crate::turn::{Prefixes, turn_both};
 use kan_terms::{Memory, Names};
 use sexpr::Datum;
 use std::alloc::Global;
@@ -33,8 +33,8 @@ impl From<Memory> for SyntaxError {
     }
 }
 
-// The numbers of the symbols that prefixes stand for; those that have none get one.
-fn number_prefixes(names: &mut Names) -> Result<Prefixes, Memory>
+/// The numbers of the symbols that prefixes stand for; those that have none get one.
+pub(crate) fn number_prefixes(names: &mut Names) -> Result<Prefixes, Memory>
     requires { length names.old + 3 < 2 ^ 32 }
     ensures numbered { IfOk result (λ prefixes. AreNumbered names.new prefixes) }
     ensures named { OnOk result (NamesPrefixes names.new) }
@@ -63,9 +63,7 @@ fn judge(
     ensures { IfOk result (λ fault. option_map fault_of fault ≡ fault_of_text names.now (map (written names.now) library.now) (map (written names.now) text.now)) }
 {
     let mut table = Nodes::new(alloc);
-    let mut places = Vec::new(alloc);
-    turn(alloc, library, names, prefixes, &mut table, &mut places)?;
-    turn(alloc, text, names, prefixes, &mut table, &mut places)?;
+    let places = turn_both(alloc, library, text, names, prefixes, &mut table)?;
     let (first, later) = places.as_slice().split_at(library.len());
     let fault = first_fault(alloc, &table, names, first, later)?;
     Ok(fault)

@@ -31,8 +31,8 @@ fn is_new(relations: &Relations, before: u32, symbol: u32) -> bool
     }
 }
 
-// The symbol of a relation's name, and its offset.
-fn head_name(nodes: &Nodes, head: u32) -> Option<(u32, u32)>
+/// The symbol of a relation's name, and its offset.
+pub(crate) fn head_name(nodes: &Nodes, head: u32) -> Option<(u32, u32)>
     ensures { option_map named result ≡ name_of_head (site_at (sites nodes.now) head) }
 {
     let (first, params) = pair_parts(nodes, head)?;
@@ -58,8 +58,8 @@ fn judge_again(text: &Text, before: u32, head: u32, faults: &mut Vec<Fault>) -> 
     Ok(())
 }
 
-// The parameters of a relation; the faults of its head are noted.
-fn bind_head(text: &Text, head: u32, faults: &mut Vec<Fault>) -> Result<Vec<u32>, Memory>
+/// The parameters of a relation; the faults of its head are noted.
+pub(crate) fn bind_head(text: &Text, head: u32, faults: &mut Vec<Fault>) -> Result<Vec<u32>, Memory>
     ensures bound { IfOk result (λ bound. bound.items ≡ (head_of text.now.names.now (site_at (sites text.now.nodes.now) head)).value) }
     ensures faults { OnOk result (fault_list faults.new.items
         ≡ fault_list faults.old.items ++ (head_of text.now.names.now (site_at (sites text.now.nodes.now) head)).faults) }
@@ -150,8 +150,8 @@ fn judge_body(
     Ok(())
 }
 
-// The scope of a run over a list of names: a slot without a name.
-fn unnamed(alloc: Global) -> Result<Vec<Option<u32>>, Memory>
+/// The scope of a run over a list of names: a slot without a name.
+pub(crate) fn unnamed(alloc: Global) -> Result<Vec<Option<u32>>, Memory>
     ensures { IfOk result (λ scope. scope.items ≡ None ∷ []) }
 {
     let mut scope = Vec::new(alloc);

@@ -94,8 +94,47 @@ pub(crate) fn judge_forms(
     Ok(())
 }
 
+/// The relations that a library and a text define, and how many of them are the library's.
+pub(crate) fn define(
+    alloc: Global,
+    nodes: &Nodes,
+    names: &Names,
+    library: &[u32],
+    text: &[u32],
+) -> Result<(Relations, u32), Memory>
+    requires { length library.now + length text.now < 2 ^ 32 }
+    ensures relations { IfOk result (λ made. relations made.0
+        ≡ defined names.now (map (site_at (sites nodes.now)) library.now) ++ defined names.now (map (site_at (sites nodes.now)) text.now)) }
+    ensures before { IfOk result (λ made. made.1 ≡ length (defined names.now (map (site_at (sites nodes.now)) library.now))) }
+    ensures few { IfOk result (λ made. length (relations made.0) < 2 ^ 32) }
+{
+    let mut rows = Vec::new(alloc);
+    define_all(nodes, names, library, &mut rows)?;
+    let before = rows.len() as u32;
+    define_all(nodes, names, text, &mut rows)?;
+    let relations = Relations::of(alloc, rows)?;
+    Ok((relations, before))
+}
+
+/// The fault that comes first of top forms before which this many relations are defined, where they have one.
+pub(crate) fn first_of_forms(
+    text: &Text,
+    before: u32,
+    forms: &[u32],
+) -> Result<Option<Fault>, Memory>
+    requires few { length (relations text.now.relations.now) < 2 ^ 32 }
+    requires before { before ≤ length (relations text.now.relations.now) }
+    requires later { relations text.now.relations.now ≡ take before (relations text.now.relations.now)
+        ++ defined text.now.names.now (map (site_at (sites text.now.nodes.now)) forms.now) }
+    ensures { IfOk result (λ fault. option_map fault_of fault
+        ≡ least (forms_faults text.now.names.now (relations text.now.relations.now) (take before (relations text.now.relations.now)) (map (site_at (sites text.now.nodes.now)) forms.now))) }
+{
+    let mut faults = Vec::new(text.alloc);
+    judge_forms(text, before, forms, &mut faults)?;
+    Ok(least(faults))
+}
+
 /// The fault of a text behind a library that comes first, where it has one.
-#[tactic(auto, unfolding(kan_model::specs::TextFaults::faults_of))]
 pub(crate) fn first_fault(
     alloc: Global,
     nodes: &Nodes,
@@ -107,18 +146,13 @@ pub(crate) fn first_fault(
     ensures { IfOk result (λ fault. option_map fault_of fault ≡ least (faults_of names.now
         (map (site_at (sites nodes.now)) library.now) (map (site_at (sites nodes.now)) text.now))) }
 {
-    let mut rows = Vec::new(alloc);
-    define_all(nodes, names, library, &mut rows)?;
-    let before = rows.len() as u32;
-    define_all(nodes, names, text, &mut rows)?;
-    let relations = Relations::of(alloc, rows)?;
+    let (relations, before) = define(alloc, nodes, names, library, text)?;
     let judged = Text {
         alloc,
         nodes,
         names,
         relations: &relations,
     };
-    let mut faults = Vec::new(alloc);
-    judge_forms(&judged, before, text, &mut faults)?;
-    Ok(least(faults))
+    let fault = first_of_forms(&judged, before, text)?;
+    Ok(fault)
 }

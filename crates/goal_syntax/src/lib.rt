@@ -2,8 +2,10 @@
 #![tactic(auto)]
 
 mod binder;
+mod build_form;
 mod build_goal;
 mod build_node;
+mod build_run;
 mod build_term;
 mod check;
 mod compiling;

@@ -1,12 +1,12 @@
 //! Data turned into a table of their parts.
 
-ghost use Rattle.std.specs.Prelude.{◌≡◌, ◌+◌, ◌<◌, ◌++◌, ◌∷◌, [], length, reverse, List, ℕ, true, OnOk, map};
+ghost use Rattle.std.specs.Prelude.{◌≡◌, ◌+◌, ◌<◌, ◌++◌, ◌∷◌, [], length, reverse, List, ℕ, true, IfOk, OnOk, map};
 ghost use Rattle.kan_model.specs.Printed.{prefix_name};
 ghost use Rattle.kan_model.specs.Sited.{Sited, sited, sited_atom, symbol_number};
 ghost use Rattle.kan_terms.specs.Table.{IsDistinct, name_of, number_of};
 ghost use Rattle.sexpr.specs.Meaning.{prefix_of};
 ghost use Rattle.sexpr.specs.Seen.{Table, symbol_atom, written};
-ghost use Rattle.goal_syntax.specs.Parts.{sites, part_site};
+ghost use Rattle.goal_syntax.specs.Parts.{sites, site_at, part_site};
 ghost use Rattle.std.specs.List.{list_all};
 ghost use Rattle.goal_syntax.specs.Low.{AreLow, is_low_datum};
 ghost use Rattle.goal_syntax.specs.Rows.{is_there};
@@ -247,8 +247,8 @@ fn turn_one(
     Ok(())
 }
 
-/// Turns data: their places come behind those that were made.
-pub(crate) fn turn(
+// Turns data: their places come behind those that were made.
+fn turn(
     alloc: Global,
     forms: &[Datum],
     names: &Names,
@@ -267,4 +267,22 @@ pub(crate) fn turn(
         turn_one(alloc, datum, names, prefixes, table, places)?;
     }
     Ok(())
+}
+
+/// Turns the data of a library and those of a text, and gives their places, those of the library first.
+pub(crate) fn turn_both(
+    alloc: Global,
+    library: &[Datum],
+    text: &[Datum],
+    names: &Names,
+    prefixes: &Prefixes,
+    table: &mut Nodes,
+) -> Result<Vec<u32>, Memory>
+    requires { AreNumbered names.now prefixes.now }
+    ensures { IfOk result (λ places. map (site_at (sites table.new)) places.items ≡ map (meaning names.now) library.now ++ map (meaning names.now) text.now) }
+{
+    let mut places = Vec::new(alloc);
+    turn(alloc, library, names, prefixes, table, &mut places)?;
+    turn(alloc, text, names, prefixes, table, &mut places)?;
+    Ok(places)
 }

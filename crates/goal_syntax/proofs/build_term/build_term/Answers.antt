@@ -1,7 +1,7 @@
 use Rattle.std.proofs.Common.{arith}
 use Rattle.kan_model.specs.Drafts.{tables}
 use Rattle.goal_syntax.specs.Parts.{sites}
-use Rattle.goal_syntax.proofs.BuildLaws.{adds_on, work_done, work_falls, last_built, all_done}
+use Rattle.goal_syntax.proofs.BuildLaws.{adds_on, work_done, work_falls, top_built, all_done}
 use Rattle.goal_syntax.proofs.build_term.build_term.Goals as goal
 
 pub loop-work-smaller : goal.loop-work-smaller
@@ -14,7 +14,7 @@ loop-work-preserved c = record {
   adds = adds_on (tables c.args.draft.now) (tables c.loop-work.draft) _ c.loop-work.invariant.adds c.in_ok-build_work.ensures.adds;
 }
 
-pub returns-in-Some-pop-clause-made : goal.returns-in-Some-pop-clause-made
-returns-in-Some-pop-clause-made c =
-    last_built (tables c.loop-work.draft) _ _ _ _ c.in-Some-pop.ensures.items c.loop-work.invariant.below
+pub returns-clause-made : goal.returns-clause-made
+returns-clause-made c =
+    top_built (tables c.loop-work.draft) c.loop-work.places.items _ _ _ _ _ c.ok_or.ensures.value c.pop-2.ensures.items c.loop-work.invariant.below
     (all_done (sites c.args.text.now.nodes.now) c.args.text.now.names.now c.args.scope.now c.loop-work.works.items _ _ (omega (arith, c.in_default.ensures.cases)) c.loop-work.invariant.made)

@@ -1,15 +1,9 @@
-use Rattle.std.proofs.Common.{arith, ap, length}
-use Rattle.goal_syntax.proofs.FormLaws.{few_rows}
-use Rattle.goal_syntax.specs.Parts.{sites}
+use Rattle.std.proofs.Common.{map}
+use Rattle.goal_syntax.specs.Parts.{sites, site_at}
+use Rattle.goal_syntax.proofs.FormLaws.{first_is}
 use Rattle.goal_syntax.proofs.judge_text.first_fault.Goals as goal
 
-pub overflow_cast-before : goal.overflow_cast-before
-overflow_cast-before c =
-    let few = few_rows c.args.names.now (sites c.args.nodes.now) c.args.library.now c.new-rows.result.items _ c.in_ok-define_all.ensures in
-    omega (arith, few, ap length c.new-rows.ensures.items)
-
-pub of-requires : goal.of-requires
-of-requires c =
-    let few = few_rows c.args.names.now (sites c.args.nodes.now) c.args.library.now c.new-rows.result.items c.define_all.new.rows.items c.in_ok-define_all.ensures in
-    let more = few_rows c.args.names.now (sites c.args.nodes.now) c.args.text.now c.define_all.new.rows.items c.define_all-2.new.rows.items c.in_ok-define_all-2.ensures in
-    omega (arith, few, more, ap length c.new-rows.ensures.items)
+pub returns : goal.returns
+returns c =
+    let ds = sites c.args.nodes.now in
+    first_is c.args.names.now (map (site_at ds) c.args.library.now) (map (site_at ds) c.args.text.now) _ _ _ c.in_ok-relations.ensures.relations c.in_ok-relations.ensures.before c.in_ok-fault.ensures
