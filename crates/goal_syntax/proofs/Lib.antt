@@ -22,3 +22,4 @@ pub mod DefinedLaws
 pub mod ClosedLaws
 pub mod HeightLaws
 pub mod TurnLowLaws
+pub mod BuildLowLaws

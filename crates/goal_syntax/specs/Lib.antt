@@ -24,3 +24,5 @@ pub mod BuiltText
 pub mod CompiledForms
 pub mod Low
 pub mod TurnLow
+pub mod BuildLow
+pub mod Called
