@@ -1,6 +1,6 @@
 -- The templates that are built of low data are low, and so are all of a table that grows by them.
-use Rattle.std.proofs.Common.{◌≡◌, ℕ, zero, suc, ◌+◌, ◌≤◌, max, List, [], ◌∷◌, ◌++◌, length, map, drop, length-drop, reverse, refl, sym, ap, ◌∙◌, arith}
-use Rattle.std.specs.Prelude.{Bool, true, false, ◌&&◌, nat_le}
+use Rattle.std.proofs.Common.{◌≡◌, ℕ, zero, suc, ◌≤◌, max, List, [], ◌∷◌, ◌++◌, length, drop, length-drop, reverse, refl, sym, ap, ◌∙◌, arith}
+use Rattle.std.specs.Prelude.{true, ◌&&◌}
 use Rattle.std.specs.List.{list_all}
 use Rattle.std.proofs.lemmas.Bool.{and_from, and_parts, leb-true, le-leb}
 use Rattle.std.proofs.lemmas.List.{reverse-append}
@@ -15,16 +15,14 @@ use Rattle.kan_model.specs.Resolved.{Names, template_in}
 use Rattle.kan_model.proofs.TableLaws.{templates-more}
 use Rattle.goal_syntax.specs.Building.{built, paired, finish}
 use Rattle.goal_syntax.specs.Drafting.{HasTemplate}
-use Rattle.goal_syntax.specs.Turning.{are_below}
+use Rattle.goal_syntax.specs.Turning.{are_below, kept}
 use Rattle.kan_model.specs.ProgramText.{slot_list}
 use Rattle.goal_syntax.specs.BuildLow.{all_low, WorksLow}
 use Rattle.goal_syntax.specs.Low.{pairs_high, is_low_datum, AreLow, KeepsLow}
 use Rattle.goal_syntax.specs.Parts.{site_at}
-use Rattle.goal_syntax.specs.TermSteps.{task_form, step_form}
+use Rattle.goal_syntax.specs.TermSteps.{task_form}
 use Rattle.goal_syntax.specs.declared.term.Task.{Task}
 use Rattle.goal_syntax.specs.declared.term.Task.TheVariants.{Term as TermOf, Terms, Template as TemplateOf, Constant}
-use Rattle.goal_syntax.specs.declared.term.Step.{Step}
-use Rattle.goal_syntax.specs.declared.term.Step.TheVariants as steps
 use Rattle.goal_syntax.specs.declared.build_term.Work.{Work}
 use Rattle.goal_syntax.specs.declared.build_term.Work.TheVariants.{Term, Pair}
 use Rattle.goal_syntax.proofs.BuildLaws.{built-push}
@@ -152,3 +150,11 @@ slots_low ts p x bound i n made list few =
     let same : height x ≡ length (drop n bound) = ap height (sym made.is ∙ list.is) ∙ slots_high i (drop n bound) in
     let size = length-drop n bound in
     le-leb (height x) 2048 (omega (arith, same, size, few))
+
+-- the data at places of a table of low ones are low
+pub kept_low : (ds : List Sited) (ps : List ℕ) → AreLow ds → list_all is_low_datum (kept ds ps) ≡ true
+kept_low ds [] low = refl
+kept_low ds (p ∷ ps) low =
+    list_all-append is_low_datum (kept ds ps) (site_at ds p ∷ [])
+    ∙ and_from (list_all is_low_datum (kept ds ps)) (is_low_datum (site_at ds p) && true) (kept_low ds ps low)
+    (and_from (is_low_datum (site_at ds p)) true (le-leb (pairs_high (site_at ds p)) 2048 (site_low ds p low)) refl)

@@ -23,3 +23,5 @@ pub mod ClosedLaws
 pub mod HeightLaws
 pub mod TurnLowLaws
 pub mod BuildLowLaws
+pub mod CalledLaws
+pub mod ClosingLaws

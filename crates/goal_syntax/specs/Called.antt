@@ -24,6 +24,9 @@ bodies_named rs rows = list_all (λ r. calls_named rows r.body) rs
 abbrev pub queries_named : List Query → List RelationEntry → Bool
 queries_named qs rows = list_all (λ q. calls_named rows q.goal) qs
 
+abbrev pub all_named : List Relation → List Query → List RelationEntry → Bool
+all_named rs qs rows = bodies_named rs rows && queries_named qs rows
+
 -- all calls of a table of goals are there
 abbrev pub are_there : List RelationEntry → List GoalEntry → Bool
 are_there rows = list_all (call_there rows)

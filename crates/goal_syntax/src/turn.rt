@@ -279,7 +279,8 @@ pub(crate) fn turn_both(
     table: &mut Nodes,
 ) -> Result<Vec<u32>, Memory>
     requires { AreNumbered names.now prefixes.now }
-    ensures { IfOk result (λ places. map (site_at (sites table.new)) places.items ≡ map (meaning names.now) library.now ++ map (meaning names.now) text.now) }
+    ensures made { IfOk result (λ places. map (site_at (sites table.new)) places.items ≡ map (meaning names.now) library.now ++ map (meaning names.now) text.now) }
+    ensures low { OnOk result (AreLow (map (meaning names.now) library.now) → AreLow (map (meaning names.now) text.now) → AreLow (sites table.old) → AreLow (sites table.new)) }
 {
     let mut places = Vec::new(alloc);
     turn(alloc, library, names, prefixes, table, &mut places)?;

@@ -16,7 +16,7 @@ loop-slot-preserved c =
     let next : AddsTerms (tables c.add_term-in-loop-slot.new.draft) (tables c.add_term-in-loop-slot-2.new.draft) =
     record { grows = c.in_ok-list-2.ensures.grows; room = c.in_ok-list-2.ensures.room; same = c.in_ok-list-2.ensures.same } in
     let made = slots_next (tables c.loop-slot.draft) (tables c.add_term-in-loop-slot.new.draft) _ c.args.bound.now c.loop-slot.slot _ _ _ c.loop-slot-test.true c.loop-slot.invariant.within
-          c.loop-slot.invariant.made c.in_ok-first.ensures.made c.in_ok-first.ensures.grows c.in_ok-list-2.ensures.made in
+    c.loop-slot.invariant.made c.in_ok-first.ensures.made c.in_ok-first.ensures.grows c.in_ok-list-2.ensures.made in
     record {
       within = omega arith;
       made = made;
