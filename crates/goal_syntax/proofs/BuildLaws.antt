@@ -33,7 +33,7 @@ pub adds_on : (ts us vs : Tables) → AddsTerms ts us → AddsTerms us vs → Ad
 adds_on ts us vs first next = record { grows = grows_on ts us vs first.grows next.grows; room = next.room; same = next.same ∙ first.same }
 
 -- the top of the stack comes first
-built-push : (ts : List Template) (ps : List ℕ) (p : ℕ) → built ts (ps ++ p ∷ []) ≡ template_at ts p ∷ built ts ps
+pub built-push : (ts : List Template) (ps : List ℕ) (p : ℕ) → built ts (ps ++ p ∷ []) ≡ template_at ts p ∷ built ts ps
 built-push ts [] p = refl
 built-push ts (q ∷ ps) p = ap (λ l. l ++ template_at ts q ∷ []) (built-push ts ps p)
 

@@ -30,11 +30,11 @@ abbrev pub empty_tables : Tables
 empty_tables = record { terms = []; arguments = []; goals = []; relations = [] }
 
 -- nothing is meant by empty tables
-nothing_means : Means empty_tables [] [] []
+pub nothing_means : Means empty_tables [] [] []
 nothing_means = record { relations = refl; queries = refl; bodies_there = refl; goals_there = refl }
 
 -- what the first of some places give, and the next one
-flat_next : {X : Type 0} (f : Sited → List X) (ds : List Sited) (forms : List ℕ) (i : ℕ) → i < length forms →
+pub flat_next : {X : Type 0} (f : Sited → List X) (ds : List Sited) (forms : List ℕ) (i : ℕ) → i < length forms →
     flat_map f (map (site_at ds) (take (i + 1) forms)) ≡ flat_map f (map (site_at ds) (take i forms)) ++ f (site_at ds (get_or forms i 0))
 flat_next f ds forms i here =
     let step : i + 1 ≡ suc i = omega arith in

@@ -7,9 +7,11 @@ use Rattle.std.proofs.Math.ListN.{get_or-append}
 use Rattle.std.proofs.Math.Seq.{get_or-append_seam}
 use Rattle.kan_terms.specs.Tree.{Tree}
 use Rattle.kan_model.specs.Goals.{Template, Goal}
-use Rattle.kan_model.specs.Tables.{TermEntry, GoalEntry, Tables, template_at, template_of, templates_of, goal_at, goal_of, goals_of, is_grown, with_term, with_argument, with_goal}
+use Rattle.kan_model.specs.Calls.{call_there}
+use Rattle.kan_model.specs.Tables.{TermEntry, GoalEntry, RelationEntry, Tables, template_at, template_of, templates_of, goal_at, goal_of, goals_of, is_grown, with_term, with_argument, with_goal}
 use Rattle.kan_model.proofs.TableLaws.{templates-more, templates-length, goals-more, goals-length, grown-parts, term-same, goals-with_term, goals-with_argument}
 use Rattle.goal_syntax.specs.Drafting.{HasTemplate, HasGoal, Grows, HasRoom}
+use Rattle.goal_syntax.specs.Called.{are_there}
 use Rattle.goal_syntax.specs.Equational.{is_equational_entry, are_equational_entries}
 
 -- tables grow from themselves
@@ -124,3 +126,7 @@ and_last false b = refl
 -- one entry more is no primitive but an equation where it is none
 pub goal_equational : (ts us : Tables) (e : GoalEntry) → us ≡ with_goal ts e → are_equational_entries us.goals ≡ (are_equational_entries ts.goals && is_equational_entry e)
 goal_equational ts us e is = rw is (list_all-append is_equational_entry ts.goals (e ∷ []) ∙ and_last (are_equational_entries ts.goals) (is_equational_entry e))
+
+-- the calls are there where those before it are and its own is
+pub goal_called : (ts us : Tables) (e : GoalEntry) → us ≡ with_goal ts e → (rows : List RelationEntry) → are_there rows us.goals ≡ (are_there rows ts.goals && call_there rows e)
+goal_called ts us e is = λ rows. rw is (list_all-append (call_there rows) ts.goals (e ∷ []) ∙ and_last (are_there rows ts.goals) (call_there rows e))

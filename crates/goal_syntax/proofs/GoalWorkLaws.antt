@@ -4,9 +4,9 @@ use Rattle.std.specs.Prelude.{Bool, true, false, ◌&&◌}
 use Rattle.std.proofs.Math.Seq.{take-append_seam}
 use Rattle.std.proofs.lemmas.List.{reverse-append}
 use Rattle.kan_model.specs.Text.{Table}
-use Rattle.kan_model.specs.Sited.{Sited}
+use Rattle.kan_model.specs.Sited.{Sited, site, is_proper}
 use Rattle.kan_model.specs.Goals.{Goal}
-use Rattle.kan_model.specs.GoalForms.{GoalForm, none, more, goal_forms, clause_forms}
+use Rattle.kan_model.specs.GoalForms.{GoalForm, all_of, misshapen, none, more, goal_forms, clause_forms}
 use Rattle.kan_model.specs.TopForms.{Defined}
 use Rattle.kan_model.specs.Binders.{binder}
 use Rattle.kan_model.specs.Resolved.{Names, within, goal_in, goals_in}
@@ -16,6 +16,7 @@ use Rattle.goal_syntax.specs.GoalSteps.{step_goal, step_goal_size}
 use Rattle.goal_syntax.specs.GoalStack.{inner_names}
 use Rattle.goal_syntax.specs.Built.{Built, with_goal, with_maybe, own_goal}
 use Rattle.goal_syntax.specs.Shapes.{parts}
+use Rattle.goal_syntax.specs.Called.{calls_named}
 use Rattle.goal_syntax.specs.Equational.{is_equational}
 use Rattle.goal_syntax.specs.GoalWorks.{both_of, finish, first_form, first_work, inner_works, joined, other_works, row_forms, row_goal, row_size, work_size, works_size}
 use Rattle.goal_syntax.proofs.GoalLaws.{clauses-none, goals-none, parts-is}
@@ -122,9 +123,9 @@ and-assoc false y z = refl
 
 -- the goals of a first element and of the others are joined
 joined-goal : (row : Row) (g h : Goal) (b : Built) → joined row (with_goal h (with_goal g b)) ≡ with_goal (both_of row g h) b
-joined-goal rows.All g h b = ap (built_from (Goal.both g h ∷ b.made)) (and-assoc b.equational (is_equational g) (is_equational h))
-joined-goal rows.One g h b = ap (built_from (Goal.either g h ∷ b.made)) (and-assoc b.equational (is_equational g) (is_equational h))
-joined-goal rows.Clauses g h b = ap (built_from (Goal.either g h ∷ b.made)) (and-assoc b.equational (is_equational g) (is_equational h))
+joined-goal rows.All g h b = λ i. built_from (Goal.both g h ∷ b.made) (and-assoc b.equational (is_equational g) (is_equational h) i) (λ rows. and-assoc (b.called rows) (calls_named rows g) (calls_named rows h) i)
+joined-goal rows.One g h b = λ i. built_from (Goal.either g h ∷ b.made) (and-assoc b.equational (is_equational g) (is_equational h) i) (λ rows. and-assoc (b.called rows) (calls_named rows g) (calls_named rows h) i)
+joined-goal rows.Clauses g h b = λ i. built_from (Goal.either g h ∷ b.made) (and-assoc b.equational (is_equational g) (is_equational h) i) (λ rows. and-assoc (b.called rows) (calls_named rows g) (calls_named rows h) i)
 
 -- the first goal of a row, and what the others on the stack make of it
 others_finish : (rs : List Defined) (t : Table) (ds : List Sited) (ns : Names) (row : Row) (d : ℕ) (g : Goal) (ws : List Work) (b : Built) (p : Option (Sited × Sited)) → p ≡ parts (site_at ds d) →
@@ -190,3 +191,21 @@ pub work_falls : (ds : List Sited) (old popped new : List Work) (w : Work) → o
 work_falls ds old popped new w split falls =
     let size : works_size ds old ≡ works_size ds popped + works_size ds (w ∷ []) = ap (works_size ds) split ∙ size-push ds popped (w ∷ []) in
     omega arith
+
+-- a clause that is no list fails
+pub clause_fails : (rs : List Defined) (t : Table) (ds : List Sited) (ns : Names) (clause : ℕ) (ws : List Work) (b after : Built) → is_proper (site_at ds clause) ≡ false → after ≡ with_goal Goal.fail b →
+    finish rs t ds ns (reverse ws) after ≡ finish rs t ds ns (works.Clause clause ∷ reverse ws) b
+clause_fails rs t ds ns clause ws b after proper added =
+    let form = λ (p : Bool). elim p as (λ x. GoalForm) [ true ↦ all_of (goal_forms t (site_at ds clause)) | false ↦ misshapen (site (site_at ds clause)) ] in
+    ap (finish rs t ds ns (reverse ws)) added ∙ sym (ap (λ p. finish rs t ds ns (reverse ws) (with_goal (goal_in rs ns (form p)) b)) proper)
+
+-- where no work is left all is made
+pub works_done : (rs : List Defined) (t : Table) (ds : List Sited) (ns : Names) (ws : List Work) (b whole : Built) → length ws ≡ 0 → finish rs t ds ns (reverse ws) b ≡ whole → b ≡ whole
+works_done rs t ds ns [] b whole empty made = made
+works_done rs t ds ns (w ∷ ws) b whole empty made = absurd (omega (arith, empty))
+
+-- a row that is empty
+pub empty_row : (rs : List Defined) (t : Table) (ds : List Sited) (ns : Names) (row : Row) (place : ℕ) (ws : List Work) (b after : Built) → None ≡ parts (site_at ds place) → after ≡ with_goal (row_goal row []) b →
+    finish rs t ds ns (reverse ws) after ≡ finish rs t ds ns (works.Row row place ∷ reverse ws) b
+empty_row rs t ds ns row place ws b after e made =
+    ap (finish rs t ds ns (reverse ws)) made ∙ sym (ap (λ gs. finish rs t ds ns (reverse ws) (with_goal (row_goal row (goals_in rs ns gs)) b)) (row-none row t (site_at ds place) e))

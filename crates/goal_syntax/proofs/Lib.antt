@@ -17,3 +17,12 @@ pub mod GoalWorkLaws
 pub mod BuiltTextLaws
 pub mod CompilingLaws
 pub mod EachLaws
+pub mod InScopeLaws
+pub mod CallsLaws
+pub mod DefinedLaws
+pub mod ClosedLaws
+pub mod HeightLaws
+pub mod TurnLowLaws
+pub mod BuildLowLaws
+pub mod CalledLaws
+pub mod ClosingLaws

@@ -94,16 +94,23 @@ prefix_below d0 d1 p0 p1 p2 p3 d n top below named q2 q3 =
     let b2 = put_below d0 d1 p1 p2 n named q2 split.0 in
     ap (are_below (length d1)) q3 ∙ below-push (length d1) p2 d b2 (omega (arith, split.1))
 
--- a symbol, the datum below it and an end are put, and the datum is on top of its symbol
-pub prefix_made : (at s : ℕ) (d0 d1 d2 d3 d4 : List Sited) (p0 p1 p2 p3 p4 p5 p6 : List ℕ) (d : ℕ) → p0 ≡ p1 ++ d ∷ [] → are_below (length d0) p0 ≡ true →
+-- a symbol, the datum below it and an end are put
+pub prefix_kept : (at s : ℕ) (d0 d1 d2 : List Sited) (p0 p1 p2 p3 p4 : List ℕ) (d : ℕ) → p0 ≡ p1 ++ d ∷ [] → are_below (length d0) p0 ≡ true →
     d1 ≡ d0 ++ Sited.name at s ∷ [] → p2 ≡ p1 ++ length d0 ∷ [] → p3 ≡ p2 ++ d ∷ [] → d2 ≡ d1 ++ Sited.nil at ∷ [] → p4 ≡ p3 ++ length d1 ∷ [] →
-    kept d3 p5 ≡ joined at (kept d2 p4) → kept d4 p6 ≡ joined at (kept d3 p5) → kept d4 p6 ≡ prefixed_last at s (kept d0 p0)
-prefix_made at s d0 d1 d2 d3 d4 p0 p1 p2 p3 p4 p5 p6 d top below named q2 q3 ended q4 inner outer =
+    kept d2 p4 ≡ Sited.nil at ∷ site_at d0 d ∷ Sited.name at s ∷ kept d0 p1
+prefix_kept at s d0 d1 d2 p0 p1 p2 p3 p4 d top below named q2 q3 ended q4 =
     let split = below-split (length d0) p1 d (sym (ap (are_below (length d0)) top) ∙ below) in
     let k2 : kept d1 p2 ≡ Sited.name at s ∷ kept d0 p1 = put_kept d0 d1 p1 p2 (Sited.name at s) named q2 split.0 in
     let same : site_at d1 d ≡ site_at d0 d = ap (λ l. site_at l d) named ∙ site_at-more d0 (Sited.name at s ∷ []) d split.1 in
     let k3 : kept d1 p3 ≡ site_at d0 d ∷ Sited.name at s ∷ kept d0 p1 = ap (kept d1) q3 ∙ kept-push d1 p2 d ∙ ap (λ x. x ∷ kept d1 p2) same ∙ ap (λ l. site_at d0 d ∷ l) k2 in
     let b3 = prefix_below d0 d1 p0 p1 p2 p3 d (Sited.name at s) top below named q2 q3 in
-    let k4 : kept d2 p4 ≡ Sited.nil at ∷ site_at d0 d ∷ Sited.name at s ∷ kept d0 p1 = put_kept d1 d2 p3 p4 (Sited.nil at) ended q4 b3 ∙ ap (λ l. Sited.nil at ∷ l) k3 in
+    put_kept d1 d2 p3 p4 (Sited.nil at) ended q4 b3 ∙ ap (λ l. Sited.nil at ∷ l) k3
+
+-- the datum is then on top of its symbol
+pub prefix_made : (at s : ℕ) (d0 d1 d2 d3 d4 : List Sited) (p0 p1 p2 p3 p4 p5 p6 : List ℕ) (d : ℕ) → p0 ≡ p1 ++ d ∷ [] → are_below (length d0) p0 ≡ true →
+    d1 ≡ d0 ++ Sited.name at s ∷ [] → p2 ≡ p1 ++ length d0 ∷ [] → p3 ≡ p2 ++ d ∷ [] → d2 ≡ d1 ++ Sited.nil at ∷ [] → p4 ≡ p3 ++ length d1 ∷ [] →
+    kept d3 p5 ≡ joined at (kept d2 p4) → kept d4 p6 ≡ joined at (kept d3 p5) → kept d4 p6 ≡ prefixed_last at s (kept d0 p0)
+prefix_made at s d0 d1 d2 d3 d4 p0 p1 p2 p3 p4 p5 p6 d top below named q2 q3 ended q4 inner outer =
+    let k4 = prefix_kept at s d0 d1 d2 p0 p1 p2 p3 p4 d top below named q2 q3 ended q4 in
     let k0 : kept d0 p0 ≡ site_at d0 d ∷ kept d0 p1 = ap (kept d0) top ∙ kept-push d0 p1 d in
     outer ∙ ap (joined at) (inner ∙ ap (joined at) k4) ∙ sym (ap (prefixed_last at s) k0)

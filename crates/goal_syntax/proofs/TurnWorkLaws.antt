@@ -31,7 +31,7 @@ pushed_size names old new w e = ap (works_size names) e ∙ works_size-push name
 written_of : (names : Table) (d : Datum) (k : DatumKind) → d.kind ≡ k → written names d ≡ written names (record { at = d.at; kind = k })
 written_of names d k e = ap (λ x. written names (record { at = d.at; kind = x })) e
 
-prefixed_is : (names : Table) (d : Datum) (q : Prefix) (x : Datum) (inner : Bor Datum) → d.kind ≡ kinds.Prefixed q x → inner.now ≡ x → written names d ≡ prefixed d.at (prefix_of q) (written names inner.now)
+pub prefixed_is : (names : Table) (d : Datum) (q : Prefix) (x : Datum) (inner : Bor Datum) → d.kind ≡ kinds.Prefixed q x → inner.now ≡ x → written names d ≡ prefixed d.at (prefix_of q) (written names inner.now)
 prefixed_is names d q x inner e g = written_of names d (kinds.Prefixed q x) e ∙ written_prefixed names d.at q x ∙ ap (λ y. prefixed d.at (prefix_of q) (written names y)) (sym g)
 
 list_last : (names : Table) (at : ℕ) (ds : List Datum) (last : Option Datum) → written names (record { at = at; kind = kinds.List ds last }) ≡ list_of at (map (written names) ds) (option_map (written names) last)
@@ -39,7 +39,7 @@ list_last names at ds None = written_list names at ds
 list_last names at ds (Some d) = written_dotted names at ds d
 
 -- a list by what is lent of it
-list_is : (names : Table) (d : Datum) (ds : List Datum) (last : Option Datum) (items : Bor (List Datum)) (lent : Option (Bor Datum)) → d.kind ≡ kinds.List ds last → items.now ≡ ds → option_copied lent ≡ last →
+pub list_is : (names : Table) (d : Datum) (ds : List Datum) (last : Option Datum) (items : Bor (List Datum)) (lent : Option (Bor Datum)) → d.kind ≡ kinds.List ds last → items.now ≡ ds → option_copied lent ≡ last →
     written names d ≡ list d.at round (within names items lent)
 list_is names d ds last items lent e i l =
     written_of names d (kinds.List ds last) e ∙ list_last names d.at ds last

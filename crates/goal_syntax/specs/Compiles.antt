@@ -1,9 +1,10 @@
 -- What compiling a text answers.
-use Rattle.std.specs.Prelude.{◌≡◌, List, map, true, Option, Some, None, Result, Ok, Err}
+use Rattle.std.specs.Prelude.{◌≡◌, ℕ, ◌++◌, [], List, map, true, Option, Some, None, Result, Ok, Err}
 use Rattle.kan_model.specs.Faults as faults
 use Rattle.kan_model.specs.Goals as model
 use Rattle.kan_model.specs.Text.{Table}
-use Rattle.kan_model.specs.TextFaults.{fault_of_text}
+use Rattle.kan_model.specs.TextFaults.{fault_of_text, IsAccepted}
+use Rattle.kan_model.specs.Faults.{read_text, data_are}
 use Rattle.kan_model.specs.ProgramText.{program_of_text, queries_of_text}
 use Rattle.kan_model.specs.Scope.{is_small}
 use Rattle.kan_model.specs.Tables.{nothing_open}
@@ -11,7 +12,7 @@ use Rattle.kan_model.specs.Nodes.{goal_place}
 use Rattle.kan_model.specs.Programs as programs
 use Rattle.kan_model.specs.declared.program.Program.{Program}
 use Rattle.kan_model.specs.declared.nodes.Query.{Query}
-use Rattle.sexpr.specs.Seen.{written}
+use Rattle.sexpr.specs.Seen.{written, as_kept}
 use Rattle.sexpr.specs.declared.data.Datum.{Datum}
 use Rattle.goal_syntax.specs.Checks.{NamesPrefixes}
 use Rattle.goal_syntax.specs.Drafting.{HasRoom}
@@ -53,3 +54,11 @@ abbrev pub Compiles : Table → List Datum → List Datum → Result Compiled Sy
 Compiles names library text (Ok c) = NamesPrefixes names × IsCompiled names library text c.program c.queries
 Compiles names library text (Err (Fault at number)) = NamesPrefixes names × (fault_found names library text ≡ Some (faults.fault at number))
 Compiles names library text (Err Memory) = Unit {0}
+
+-- data are those of a text, under each table that goes on where these names end
+abbrev pub AreOfText : Table → List Datum → Type 0
+AreOfText names ds = (more : Table) → (bytes : List ℕ) × (read_text as_kept bytes ≡ data_are (map (written (names ++ more)) ds))
+
+-- a library is accepted by itself under such tables
+abbrev pub IsAcceptedAlone : Table → List Datum → Type 0
+IsAcceptedAlone names library = (more : Table) → IsAccepted (names ++ more) [] (map (written (names ++ more)) library)

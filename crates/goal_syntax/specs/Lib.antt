@@ -23,3 +23,7 @@ pub mod GoalWorks
 pub mod BuiltText
 pub mod CompiledForms
 pub mod Named
+pub mod Low
+pub mod TurnLow
+pub mod BuildLow
+pub mod Called

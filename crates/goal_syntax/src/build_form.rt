@@ -10,6 +10,7 @@ ghost use Rattle.kan_model.specs.Drafts.{tables};
 ghost use Rattle.kan_model.specs.Nodes.{relation_entry};
 ghost use Rattle.kan_model.specs.Tables.{with_relation};
 ghost use Rattle.kan_model.specs.declared.nodes.Query.{Query as AskedOf};
+ghost use Rattle.goal_syntax.specs.Called.{KeepsClosed, all_named, bodies_named, calls_named};
 ghost use Rattle.goal_syntax.specs.BuiltText.{Means, name_symbol, query_asked, relation_meant};
 ghost use Rattle.goal_syntax.specs.Drafting.{HasGoal, Grows, HasRoom};
 ghost use Rattle.goal_syntax.specs.Equational.{is_equational, is_equational_body, are_equational, are_equational_entries};
@@ -60,6 +61,7 @@ fn build_body(text: &Text, params: &[u32], goals: u32, draft: &mut Draft) -> Res
     ensures made { IfOk result (λ at. HasGoal (tables draft.new) at (conjunction (goals_in (relations text.now.relations.now) (within [] params.now) (goal_forms text.now.names.now (site_at (sites text.now.nodes.now) goals))))) }
     ensures grows { OnOk result (Grows (tables draft.old) (tables draft.new)) }
     ensures room { OnOk result (HasRoom (tables draft.new)) }
+    ensures closed { OnOk result (KeepsClosed (sites text.now.nodes.now) (tables draft.old) (tables draft.new) (λ rows. calls_named rows (conjunction (goals_in (relations text.now.relations.now) (within [] params.now) (goal_forms text.now.names.now (site_at (sites text.now.nodes.now) goals)))))) }
     ensures equational { OnOk result (are_equational_entries (tables draft.new).goals ≡ (are_equational_entries (tables draft.old).goals
         && is_equational (conjunction (goals_in (relations text.now.relations.now) (within [] params.now) (goal_forms text.now.names.now (site_at (sites text.now.nodes.now) goals)))))) }
 {
@@ -80,6 +82,7 @@ pub(crate) fn build_relation(
     ensures means { OnOk result ((qs : List AskedOf) → (rs : List model.Relation) → (asked : List model.Query) → Means (tables draft.old) qs rs asked → Means (tables draft.new) qs
         (rs ++ relation_meant (relations text.now.relations.now) (head_of text.now.names.now (site_at (sites text.now.nodes.now) head)).value (goal_forms text.now.names.now (site_at (sites text.now.nodes.now) goals)) ∷ []) asked) }
     ensures room { OnOk result (HasRoom (tables draft.new)) }
+    ensures closed { OnOk result (KeepsClosed (sites text.now.nodes.now) (tables draft.old) (tables draft.new) (bodies_named (relation_meant (relations text.now.relations.now) (head_of text.now.names.now (site_at (sites text.now.nodes.now) head)).value (goal_forms text.now.names.now (site_at (sites text.now.nodes.now) goals)) ∷ []))) }
     ensures equational { OnOk result (are_equational_entries (tables draft.new).goals ≡ (are_equational_entries (tables draft.old).goals
         && is_equational_body (relation_meant (relations text.now.relations.now) (head_of text.now.names.now (site_at (sites text.now.nodes.now) head)).value (goal_forms text.now.names.now (site_at (sites text.now.nodes.now) goals))))) }
 {
@@ -124,6 +127,7 @@ pub(crate) fn build_form(
         (rs ++ relations_in (relations text.now.relations.now) (step_top (sites text.now.nodes.now) text.now.names.now form))
         (asked ++ queries_in (relations text.now.relations.now) (step_top (sites text.now.nodes.now) text.now.names.now form))) }
     ensures room { OnOk result (HasRoom (tables draft.new)) }
+    ensures closed { OnOk result (KeepsClosed (sites text.now.nodes.now) (tables draft.old) (tables draft.new) (all_named (relations_in (relations text.now.relations.now) (step_top (sites text.now.nodes.now) text.now.names.now form)) (queries_in (relations text.now.relations.now) (step_top (sites text.now.nodes.now) text.now.names.now form)))) }
     ensures equational { OnOk result (are_equational_entries (tables draft.new).goals ≡ (are_equational_entries (tables draft.old).goals
         && are_equational (relations_in (relations text.now.relations.now) (step_top (sites text.now.nodes.now) text.now.names.now form))
         (queries_in (relations text.now.relations.now) (step_top (sites text.now.nodes.now) text.now.names.now form)))) }

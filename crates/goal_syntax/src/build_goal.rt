@@ -1,10 +1,13 @@
 //! Building goals.
 
-ghost use Rattle.std.specs.Prelude.{◌≡◌, ◌&&◌, ◌<◌, ◌≤◌, ◌+◌, ◌∷◌, ◌++◌, [], length, reverse, true, IfOk, OnOk};
+ghost use Rattle.std.specs.Prelude.{List, ◌≡◌, ◌&&◌, ◌<◌, ◌≤◌, ◌+◌, ◌∷◌, ◌++◌, [], length, reverse, true, IfOk, OnOk};
 ghost use Rattle.kan_model.specs.Binders.{binder as binder_of};
 ghost use Rattle.kan_model.specs.GoalForms.{goal_forms};
 ghost use Rattle.kan_model.specs.Resolved.{Names, conjunction, goals_in, within};
 ghost use Rattle.kan_model.specs.Drafts.{tables};
+ghost use Rattle.goal_syntax.specs.Low.{KeepsLow};
+ghost use Rattle.kan_model.specs.Tables.{RelationEntry};
+ghost use Rattle.goal_syntax.specs.Called.{are_there, calls_named};
 ghost use Rattle.goal_syntax.specs.Built.{built, own_goal, with_maybe};
 ghost use Rattle.goal_syntax.specs.Drafting.{HasGoal, Grows, HasRoom};
 ghost use Rattle.goal_syntax.specs.Equational.{is_equational, are_equational_entries};
@@ -56,6 +59,7 @@ fn build_own(
     ensures below { OnOk result (are_below (length (tables draft.new).goals) places.new.items ≡ true) }
     ensures grows { OnOk result (Grows (tables draft.old) (tables draft.new)) }
     ensures room { OnOk result (HasRoom (tables draft.new)) }
+    ensures low { OnOk result (KeepsLow (sites text.now.nodes.now) (tables draft.old) (tables draft.new)) }
 {
     if let Some(node) = build_node(text, scope, goal, draft)? {
         make(node, draft, places)?;
@@ -125,6 +129,7 @@ fn build_goal(
     ensures below { OnOk result (are_below (length (tables draft.new).goals) places.new.items ≡ true) }
     ensures grows { OnOk result (Grows (tables draft.old) (tables draft.new)) }
     ensures room { OnOk result (HasRoom (tables draft.new)) }
+    ensures low { OnOk result (KeepsLow (sites text.now.nodes.now) (tables draft.old) (tables draft.new)) }
 {
     let goal = open(text.nodes, text.names, place);
     build_own(text, scope, goal, draft, places)?;
@@ -172,6 +177,7 @@ fn build_row(
     ensures below { OnOk result (are_below (length (tables draft.new).goals) places.new.items ≡ true) }
     ensures grows { OnOk result (Grows (tables draft.old) (tables draft.new)) }
     ensures room { OnOk result (HasRoom (tables draft.new)) }
+    ensures terms { OnOk result ((tables draft.new).terms ≡ (tables draft.old).terms) }
 {
     if let Some((first, rest)) = pair_parts(text.nodes, place) {
         wait_for_others(text, row, rest, works)?;
@@ -199,6 +205,7 @@ fn build_clause(
     ensures below { OnOk result (are_below (length (tables draft.new).goals) places.new.items ≡ true) }
     ensures grows { OnOk result (Grows (tables draft.old) (tables draft.new)) }
     ensures room { OnOk result (HasRoom (tables draft.new)) }
+    ensures terms { OnOk result ((tables draft.new).terms ≡ (tables draft.old).terms) }
 {
     if is_proper(text.nodes, clause) {
         works.push(Work::Row(Row::All, clause))?;
@@ -226,6 +233,7 @@ fn build_next(
     ensures below { OnOk result (are_below (length (tables draft.new).goals) places.new.items ≡ true) }
     ensures grows { OnOk result (Grows (tables draft.old) (tables draft.new)) }
     ensures room { OnOk result (HasRoom (tables draft.new)) }
+    ensures low { OnOk result (KeepsLow (sites text.now.nodes.now) (tables draft.old) (tables draft.new)) }
 {
     match work {
         Work::Goal(place) => build_goal(text, place, scope, draft, places, works)?,
@@ -249,8 +257,11 @@ pub(crate) fn build_goals(
     ensures made { IfOk result (λ at. HasGoal (tables draft.new) at (conjunction (goals_in (relations text.now.relations.now) scope.items (goal_forms text.now.names.now (site_at (sites text.now.nodes.now) place))))) }
     ensures grows { OnOk result (Grows (tables draft.old) (tables draft.new)) }
     ensures room { OnOk result (HasRoom (tables draft.new)) }
+    ensures low { OnOk result (KeepsLow (sites text.now.nodes.now) (tables draft.old) (tables draft.new)) }
     ensures equational { OnOk result (are_equational_entries (tables draft.new).goals ≡ (are_equational_entries (tables draft.old).goals
         && is_equational (conjunction (goals_in (relations text.now.relations.now) scope.items (goal_forms text.now.names.now (site_at (sites text.now.nodes.now) place)))))) }
+    ensures called { OnOk result ((rows : List RelationEntry) → are_there rows (tables draft.new).goals ≡ (are_there rows (tables draft.old).goals
+        && calls_named rows (conjunction (goals_in (relations text.now.relations.now) scope.items (goal_forms text.now.names.now (site_at (sites text.now.nodes.now) place)))))) }
 {
     let mut places = Vec::new(text.alloc);
     let mut works = Vec::new(text.alloc);

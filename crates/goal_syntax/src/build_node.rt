@@ -5,6 +5,7 @@ ghost use Rattle.kan_model.specs.Binders.{tag as tag_of};
 ghost use Rattle.kan_model.specs.TermForms.{term_form};
 ghost use Rattle.kan_model.specs.Resolved.{relation_number, template_in};
 ghost use Rattle.kan_model.specs.Drafts.{tables};
+ghost use Rattle.goal_syntax.specs.Low.{KeepsLow};
 ghost use Rattle.goal_syntax.specs.Built.{StandsFor, own_goal};
 ghost use Rattle.goal_syntax.specs.Drafting.{HasTemplate, Grows, HasRoom};
 ghost use Rattle.goal_syntax.specs.Parts.{sites, site_at};
@@ -31,6 +32,7 @@ fn build_two(
     ensures right { IfOk result (λ made. HasTemplate (tables draft.new) made.1 (template_in scope.now (term_form text.now.names.now (site_at (sites text.now.nodes.now) right)))) }
     ensures grows { OnOk result (Grows (tables draft.old) (tables draft.new)) }
     ensures room { OnOk result (HasRoom (tables draft.new)) }
+    ensures low { OnOk result (KeepsLow (sites text.now.nodes.now) (tables draft.old) (tables draft.new)) }
     ensures same { OnOk result ((tables draft.new).goals ≡ (tables draft.old).goals) }
 {
     let first = build_term(text, scope, Task::Term(left), draft)?;
@@ -56,6 +58,7 @@ pub(crate) fn build_node(
     ensures made { IfOk result (λ node. StandsFor (tables draft.new) node (own_goal (relations text.now.relations.now) text.now.names.now (sites text.now.nodes.now) scope.now goal)) }
     ensures grows { OnOk result (Grows (tables draft.old) (tables draft.new)) }
     ensures room { OnOk result (HasRoom (tables draft.new)) }
+    ensures low { OnOk result (KeepsLow (sites text.now.nodes.now) (tables draft.old) (tables draft.new)) }
     ensures same { OnOk result ((tables draft.new).goals ≡ (tables draft.old).goals) }
 {
     match goal {

@@ -1,13 +1,17 @@
 //! Building the goals of runs.
 
-ghost use Rattle.std.specs.Prelude.{◌≡◌, ◌&&◌, ◌<◌, ◌∷◌, [], None, ℕ, List, length, IfOk, OnOk};
+ghost use Rattle.std.specs.Prelude.{true, ◌≤◌, ◌≡◌, ◌&&◌, ◌<◌, ◌∷◌, [], None, ℕ, List, length, IfOk, OnOk};
 ghost use Rattle.kan_terms.specs.Tree.{leaf};
 ghost use Rattle.kan_model.specs.Goals as model;
 ghost use Rattle.kan_model.specs.Binders.{binder as binder_of};
 ghost use Rattle.kan_model.specs.GoalForms.{goal_forms};
 ghost use Rattle.kan_model.specs.ProgramText.{slot_list};
 ghost use Rattle.kan_model.specs.Resolved.{conjunction, goals_in, within};
-ghost use Rattle.kan_model.specs.Drafts.{tables};
+ghost use Rattle.kan_model.specs.Drafts.{tables, templates};
+ghost use Rattle.goal_syntax.specs.Called.{KeepsClosed, are_there, calls_named};
+ghost use Rattle.std.specs.List.{list_all};
+ghost use Rattle.kan_model.specs.Scope.{is_low};
+ghost use Rattle.kan_model.specs.Tables.{RelationEntry};
 ghost use Rattle.goal_syntax.specs.Drafting.{HasGoal, Grows, HasRoom};
 ghost use Rattle.goal_syntax.specs.Equational.{is_equational, are_equational_entries};
 ghost use Rattle.goal_syntax.specs.Parts.{sites, site_at};
@@ -35,6 +39,7 @@ pub(crate) fn build_one(
     ensures made { IfOk result (λ at. HasGoal (tables draft.new) at (conjunction (goals_in (relations text.now.relations.now) (within [] (symbol ∷ [])) (goal_forms text.now.names.now (site_at (sites text.now.nodes.now) goals))))) }
     ensures grows { OnOk result (Grows (tables draft.old) (tables draft.new)) }
     ensures room { OnOk result (HasRoom (tables draft.new)) }
+    ensures closed { OnOk result (KeepsClosed (sites text.now.nodes.now) (tables draft.old) (tables draft.new) (λ rows. calls_named rows (conjunction (goals_in (relations text.now.relations.now) (within [] (symbol ∷ [])) (goal_forms text.now.names.now (site_at (sites text.now.nodes.now) goals)))))) }
     ensures equational { OnOk result (are_equational_entries (tables draft.new).goals ≡ (are_equational_entries (tables draft.old).goals
         && is_equational (conjunction (goals_in (relations text.now.relations.now) (within [] (symbol ∷ [])) (goal_forms text.now.names.now (site_at (sites text.now.nodes.now) goals)))))) }
 {
@@ -50,6 +55,8 @@ fn build_equation(bound: &[u32], draft: &mut Draft) -> Result<u32, Memory>
     ensures made { IfOk result (λ at. HasGoal (tables draft.new) at (asked_equation bound.now)) }
     ensures grows { OnOk result (Grows (tables draft.old) (tables draft.new)) }
     ensures room { OnOk result (HasRoom (tables draft.new)) }
+    ensures low { OnOk result (length bound.now ≤ 2048 → list_all is_low (templates draft.old) ≡ true → list_all is_low (templates draft.new) ≡ true) }
+    ensures called { OnOk result ((rows : List RelationEntry) → are_there rows (tables draft.new).goals ≡ are_there rows (tables draft.old).goals) }
     ensures equational { OnOk result (are_equational_entries (tables draft.new).goals ≡ are_equational_entries (tables draft.old).goals) }
 {
     let list = build_slots(bound, draft)?;
@@ -72,6 +79,7 @@ fn build_behind(
         HasGoal (tables draft.new) at (conjunction (g ∷ goals_in (relations text.now.relations.now) scope.items (goal_forms text.now.names.now (site_at (sites text.now.nodes.now) goals))))) }
     ensures grows { OnOk result (Grows (tables draft.old) (tables draft.new)) }
     ensures room { OnOk result (HasRoom (tables draft.new)) }
+    ensures closed { OnOk result (KeepsClosed (sites text.now.nodes.now) (tables draft.old) (tables draft.new) (λ rows. calls_named rows (conjunction (goals_in (relations text.now.relations.now) scope.items (goal_forms text.now.names.now (site_at (sites text.now.nodes.now) goals)))))) }
     ensures equational { OnOk result (are_equational_entries (tables draft.new).goals ≡ (are_equational_entries (tables draft.old).goals
         && is_equational (conjunction (goals_in (relations text.now.relations.now) scope.items (goal_forms text.now.names.now (site_at (sites text.now.nodes.now) goals)))))) }
 {
@@ -94,6 +102,7 @@ pub(crate) fn build_list(
     ensures made { IfOk result (λ at. HasGoal (tables draft.new) at (asked_list (relations text.now.relations.now) (binder_of text.now.names.now (site_at (sites text.now.nodes.now) binder)).value (goal_forms text.now.names.now (site_at (sites text.now.nodes.now) goals)))) }
     ensures grows { OnOk result (Grows (tables draft.old) (tables draft.new)) }
     ensures room { OnOk result (HasRoom (tables draft.new)) }
+    ensures closed { OnOk result (KeepsClosed (sites text.now.nodes.now) (tables draft.old) (tables draft.new) (λ rows. calls_named rows (asked_list (relations text.now.relations.now) (binder_of text.now.names.now (site_at (sites text.now.nodes.now) binder)).value (goal_forms text.now.names.now (site_at (sites text.now.nodes.now) goals))))) }
     ensures equational { OnOk result (are_equational_entries (tables draft.new).goals ≡ (are_equational_entries (tables draft.old).goals
         && is_equational (asked_list (relations text.now.relations.now) (binder_of text.now.names.now (site_at (sites text.now.nodes.now) binder)).value (goal_forms text.now.names.now (site_at (sites text.now.nodes.now) goals))))) }
 {

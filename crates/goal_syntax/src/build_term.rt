@@ -7,6 +7,10 @@ ghost use Rattle.kan_model.specs.Resolved.{template_in, slot_of};
 ghost use Rattle.kan_model.specs.Tables.{is_term_grown, template_at, template_of};
 ghost use Rattle.kan_model.specs.Nodes.{term_entry};
 ghost use Rattle.kan_model.specs.Drafts.{tables, templates};
+ghost use Rattle.std.specs.List.{list_all};
+ghost use Rattle.kan_model.specs.Scope.{is_low};
+ghost use Rattle.goal_syntax.specs.BuildLow.{WorksLow, all_low};
+ghost use Rattle.goal_syntax.specs.Low.{AreLow, KeepsLow};
 ghost use Rattle.goal_syntax.specs.Building.{AddsTerms, HasTemplates, with_arguments, built, paired, finish, work_size, works_size};
 ghost use Rattle.goal_syntax.specs.Drafting.{HasTemplate, HasArguments, Grows, HasRoom};
 ghost use Rattle.goal_syntax.specs.Parts.{sites, site_at};
@@ -38,6 +42,7 @@ fn put(node: TermNode, draft: &mut Draft, places: &mut Vec<u32>) -> Result<(), M
     ensures made { OnOk result (built (templates draft.new) places.new.items ≡ template_of (templates draft.old) (term_entry node) ∷ built (templates draft.old) places.old.items) }
     ensures below { OnOk result (are_below (length (tables draft.new).terms) places.new.items ≡ true) }
     ensures adds { OnOk result (AddsTerms (tables draft.old) (tables draft.new)) }
+    ensures low { OnOk result (is_low (template_of (templates draft.old) (term_entry node)) ≡ true → list_all is_low (templates draft.old) ≡ true → list_all is_low (templates draft.new) ≡ true) }
 {
     let place = add_term(draft, node)?;
     places.push(place)?;
@@ -51,6 +56,7 @@ fn join(draft: &mut Draft, places: &mut Vec<u32>) -> Result<(), Memory>
     ensures made { OnOk result (built (templates draft.new) places.new.items ≡ paired (built (templates draft.old) places.old.items)) }
     ensures below { OnOk result (are_below (length (tables draft.new).terms) places.new.items ≡ true) }
     ensures adds { OnOk result (AddsTerms (tables draft.old) (tables draft.new)) }
+    ensures low { OnOk result (list_all is_low (paired (built (templates draft.old) places.old.items)) ≡ true → list_all is_low (templates draft.old) ≡ true → list_all is_low (templates draft.new) ≡ true) }
 {
     let Some(rest) = places.pop() else {
         return Ok(());
@@ -86,6 +92,11 @@ fn build_step(
         (template_in scope.now (step_form (sites text.now.nodes.now) text.now.names.now step) ∷ built (templates draft.old) places.old.items)) }
     ensures below { OnOk result (are_below (length (tables draft.new).terms) places.new.items ≡ true) }
     ensures adds { OnOk result (AddsTerms (tables draft.old) (tables draft.new)) }
+    ensures low { OnOk result (
+        all_low (sites text.now.nodes.now) text.now.names.now scope.now (reverse works.old.items)
+        (template_in scope.now (step_form (sites text.now.nodes.now) text.now.names.now step) ∷ built (templates draft.old) places.old.items) ≡ true →
+        list_all is_low (templates draft.old) ≡ true →
+        WorksLow (sites text.now.nodes.now) text.now.names.now scope.now (reverse works.new.items) (templates draft.new) places.new.items) }
     ensures falls { OnOk result (works_size (sites text.now.nodes.now) works.new.items
         ≤ 1 + step_size (sites text.now.nodes.now) step + step_size (sites text.now.nodes.now) step + works_size (sites text.now.nodes.now) works.old.items) }
 {
@@ -122,6 +133,8 @@ fn build_work(
         ≡ finish (sites text.now.nodes.now) text.now.names.now scope.now (work ∷ reverse works.old.items) (built (templates draft.old) places.old.items)) }
     ensures below { OnOk result (are_below (length (tables draft.new).terms) places.new.items ≡ true) }
     ensures adds { OnOk result (AddsTerms (tables draft.old) (tables draft.new)) }
+    ensures low { OnOk result (WorksLow (sites text.now.nodes.now) text.now.names.now scope.now (work ∷ reverse works.old.items) (templates draft.old) places.old.items →
+        WorksLow (sites text.now.nodes.now) text.now.names.now scope.now (reverse works.new.items) (templates draft.new) places.new.items) }
     ensures falls { OnOk result (works_size (sites text.now.nodes.now) works.new.items
         < work_size (sites text.now.nodes.now) work + works_size (sites text.now.nodes.now) works.old.items) }
 {
@@ -147,6 +160,7 @@ pub(crate) fn build_term(
     ensures grows { OnOk result (Grows (tables draft.old) (tables draft.new)) }
     ensures room { OnOk result (HasRoom (tables draft.new)) }
     ensures same { OnOk result ((tables draft.new).goals ≡ (tables draft.old).goals) }
+    ensures low { OnOk result (KeepsLow (sites text.now.nodes.now) (tables draft.old) (tables draft.new)) }
 {
     let mut places = Vec::new(text.alloc);
     let mut works = Vec::new(text.alloc);
@@ -167,6 +181,7 @@ fn build_terms(
     requires room { HasRoom (tables draft.old) }
     ensures made { IfOk result (λ places. HasTemplates (tables draft.new) places.items (map (template_in scope.now) (term_forms text.now.names.now (site_at (sites text.now.nodes.now) place)))) }
     ensures adds { OnOk result (AddsTerms (tables draft.old) (tables draft.new)) }
+    ensures low { OnOk result (KeepsLow (sites text.now.nodes.now) (tables draft.old) (tables draft.new)) }
 {
     let mut places = Vec::new(text.alloc);
     while let Some((first, rest)) = pair_parts(text.nodes, place) {
@@ -183,6 +198,7 @@ fn put_behind(terms: &[u32], draft: &mut Draft) -> Result<(), Memory>
     requires below { are_below (length (tables draft.old).terms) terms.now ≡ true }
     ensures put { OnOk result (tables draft.new ≡ with_arguments (tables draft.old) terms.now) }
     ensures adds { OnOk result (AddsTerms (tables draft.old) (tables draft.new)) }
+    ensures terms { OnOk result ((tables draft.new).terms ≡ (tables draft.old).terms) }
 {
     for term in terms {
         add_argument(draft, *term)?;
@@ -196,6 +212,7 @@ fn put_arguments(terms: &[u32], draft: &mut Draft) -> Result<u32, Memory>
     requires below { are_below (length (tables draft.old).terms) terms.now ≡ true }
     ensures put { IfOk result (λ at. HasArguments (tables draft.new) at (length terms.now) (map (template_at (templates draft.old)) terms.now)) }
     ensures adds { OnOk result (AddsTerms (tables draft.old) (tables draft.new)) }
+    ensures terms { OnOk result ((tables draft.new).terms ≡ (tables draft.old).terms) }
 {
     let Some((first, rest)) = terms.split_first() else {
         return Ok(0);
@@ -218,6 +235,7 @@ pub(crate) fn build_arguments(
     ensures grows { OnOk result (Grows (tables draft.old) (tables draft.new)) }
     ensures room { OnOk result (HasRoom (tables draft.new)) }
     ensures same { OnOk result ((tables draft.new).goals ≡ (tables draft.old).goals) }
+    ensures low { OnOk result (KeepsLow (sites text.now.nodes.now) (tables draft.old) (tables draft.new)) }
 {
     let terms = build_terms(text, scope, place, draft)?;
     let at = put_arguments(&terms, draft)?;
@@ -231,6 +249,7 @@ pub(crate) fn build_slots(bound: &[u32], draft: &mut Draft) -> Result<u32, Memor
     ensures grows { OnOk result (Grows (tables draft.old) (tables draft.new)) }
     ensures room { OnOk result (HasRoom (tables draft.new)) }
     ensures same { OnOk result ((tables draft.new).goals ≡ (tables draft.old).goals) }
+    ensures low { OnOk result (length bound.now ≤ 2048 → list_all is_low (templates draft.old) ≡ true → list_all is_low (templates draft.new) ≡ true) }
 {
     let mut slot = u32::try_from(bound.len()).map_err(|_| Memory)?;
     let mut list = add_term(draft, TermNode::Nil)?;

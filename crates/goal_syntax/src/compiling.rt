@@ -1,6 +1,6 @@
 //! Compiling texts: their program and their runs.
 
-ghost use Rattle.std.specs.Prelude.{◌≡◌, ◌&&◌, ◌+◌, ◌<◌, ◌^◌, ◌++◌, List, length, map, true, IfOk, OnOk};
+ghost use Rattle.std.specs.Prelude.{[], ◌≡◌, ◌&&◌, ◌+◌, ◌<◌, ◌^◌, ◌++◌, List, length, map, true, IfOk, OnOk};
 ghost use Rattle.std.specs.List.{list_all};
 ghost use Rattle.sexpr.specs.Reads.{Extends};
 ghost use Rattle.kan_model.specs.Drafts.{tables};
@@ -14,14 +14,17 @@ ghost use Rattle.sexpr.specs.Seen.{written};
 ghost use Rattle.kan_model.specs.Tables.{nothing_open};
 ghost use Rattle.kan_model.specs.TopForms.{defined, form};
 ghost use Rattle.kan_model.specs.declared.nodes.Query.{Query as AskedOf};
+ghost use Rattle.goal_syntax.specs.Low.{AreLow};
+ghost use Rattle.kan_model.specs.TextFaults.{faults_of, IsAccepted};
+ghost use Rattle.goal_syntax.specs.Called.{KeepsClosed, all_named, bodies_named};
 ghost use Rattle.goal_syntax.specs.BuiltText.{Means};
 ghost use Rattle.goal_syntax.specs.CompiledForms.{CompilesForms, IsMeant};
-ghost use Rattle.goal_syntax.specs.Compiles.{Compiles};
+ghost use Rattle.goal_syntax.specs.Compiles.{AreOfText, Compiles, IsAcceptedAlone};
 ghost use Rattle.goal_syntax.specs.Drafting.{HasRoom};
 ghost use Rattle.goal_syntax.specs.Equational.{are_equational, are_equational_entries, is_equational_body};
 ghost use Rattle.goal_syntax.specs.Parts.{sites, site_at};
 ghost use Rattle.goal_syntax.specs.Tabled.{relations};
-ghost use Rattle.goal_syntax.specs.TurnWorks.{AreNumbered};
+ghost use Rattle.goal_syntax.specs.TurnWorks.{AreNumbered, meaning};
 
 use crate::build_form::{build_form, build_relation};
 use crate::check::{SyntaxError, number_prefixes};
@@ -56,6 +59,7 @@ fn build_library_form(text: &Text, place: u32, draft: &mut Draft) -> Result<(), 
     ensures means { OnOk result ((qs : List AskedOf) → (rs : List model.Relation) → (asked : List model.Query) → Means (tables draft.old) qs rs asked → Means (tables draft.new) qs
         (rs ++ relations_in (relations text.now.relations.now) (form text.now.names.now (site_at (sites text.now.nodes.now) place))) asked) }
     ensures room { OnOk result (HasRoom (tables draft.new)) }
+    ensures closed { OnOk result (KeepsClosed (sites text.now.nodes.now) (tables draft.old) (tables draft.new) (bodies_named (relations_in (relations text.now.relations.now) (form text.now.names.now (site_at (sites text.now.nodes.now) place))))) }
     ensures equational { OnOk result (are_equational_entries (tables draft.new).goals ≡ (are_equational_entries (tables draft.old).goals
         && list_all is_equational_body (relations_in (relations text.now.relations.now) (form text.now.names.now (site_at (sites text.now.nodes.now) place))))) }
 {
@@ -71,6 +75,7 @@ fn build_library(text: &Text, forms: &[u32], draft: &mut Draft) -> Result<(), Me
     ensures means { OnOk result ((qs : List AskedOf) → (rs : List model.Relation) → (asked : List model.Query) → Means (tables draft.old) qs rs asked → Means (tables draft.new) qs
         (rs ++ relations_of text.now.names.now (relations text.now.relations.now) (map (site_at (sites text.now.nodes.now)) forms.now)) asked) }
     ensures room { OnOk result (HasRoom (tables draft.new)) }
+    ensures closed { OnOk result (KeepsClosed (sites text.now.nodes.now) (tables draft.old) (tables draft.new) (bodies_named (relations_of text.now.names.now (relations text.now.relations.now) (map (site_at (sites text.now.nodes.now)) forms.now)))) }
     ensures equational { OnOk result (are_equational_entries (tables draft.new).goals ≡ (are_equational_entries (tables draft.old).goals
         && list_all is_equational_body (relations_of text.now.names.now (relations text.now.relations.now) (map (site_at (sites text.now.nodes.now)) forms.now)))) }
 {
@@ -92,6 +97,7 @@ fn build_text(
         (rs ++ relations_of text.now.names.now (relations text.now.relations.now) (map (site_at (sites text.now.nodes.now)) forms.now))
         (asked ++ queries_of text.now.names.now (relations text.now.relations.now) (map (site_at (sites text.now.nodes.now)) forms.now))) }
     ensures room { OnOk result (HasRoom (tables draft.new)) }
+    ensures closed { OnOk result (KeepsClosed (sites text.now.nodes.now) (tables draft.old) (tables draft.new) (all_named (relations_of text.now.names.now (relations text.now.relations.now) (map (site_at (sites text.now.nodes.now)) forms.now)) (queries_of text.now.names.now (relations text.now.relations.now) (map (site_at (sites text.now.nodes.now)) forms.now)))) }
     ensures equational { OnOk result (are_equational_entries (tables draft.new).goals ≡ (are_equational_entries (tables draft.old).goals
         && are_equational (relations_of text.now.names.now (relations text.now.relations.now) (map (site_at (sites text.now.nodes.now)) forms.now))
         (queries_of text.now.names.now (relations text.now.relations.now) (map (site_at (sites text.now.nodes.now)) forms.now)))) }
@@ -117,9 +123,10 @@ fn are_narrow(program: &Program) -> bool
     true
 }
 
-// Closes a draft with the goals of runs. Where that is refused, and where a goal is too wide, there is no memory for it.
+// Closes a draft with the goals of runs, in which nothing is open. Where a goal is too wide, there is no memory for it.
 fn close(draft: Draft, queries: Queries) -> Result<Compiled, Memory>
     requires room { HasRoom (tables draft) }
+    requires closed { nothing_open (tables draft) (map goal_place queries) ≡ true }
     ensures tables { IfOk result (λ made. programs.tables made.program ≡ tables draft) }
     ensures queries { IfOk result (λ made. made.queries ≡ queries) }
     ensures closed { IfOk result (λ made. nothing_open (tables draft) (map goal_place queries) ≡ true) }
@@ -136,6 +143,9 @@ fn close(draft: Draft, queries: Queries) -> Result<Compiled, Memory>
 
 // Builds the program and the runs of a text behind a library.
 fn build_program(text: &Text, library: &[u32], forms: &[u32]) -> Result<Compiled, Memory>
+    requires low { AreLow (sites text.now.nodes.now) }
+    requires alone { faults_of text.now.names.now [] (map (site_at (sites text.now.nodes.now)) library.now) ≡ [] }
+    requires accepted { faults_of text.now.names.now (map (site_at (sites text.now.nodes.now)) library.now) (map (site_at (sites text.now.nodes.now)) forms.now) ≡ [] }
     requires relations { relations text.now.relations.now ≡ defined text.now.names.now (map (site_at (sites text.now.nodes.now)) library.now) ++ defined text.now.names.now (map (site_at (sites text.now.nodes.now)) forms.now) }
     ensures { IfOk result (λ made. IsMeant (meant text.now.names.now (map (site_at (sites text.now.nodes.now)) library.now) (map (site_at (sites text.now.nodes.now)) forms.now)) made.program made.queries) }
 {
@@ -155,7 +165,9 @@ fn compile_forms(
     library: &[u32],
     forms: &[u32],
 ) -> Result<Compiled, SyntaxError>
-    requires { length library.now + length forms.now < 2 ^ 32 }
+    requires few { length library.now + length forms.now < 2 ^ 32 }
+    requires low { AreLow (sites nodes.now) }
+    requires alone { faults_of names.now [] (map (site_at (sites nodes.now)) library.now) ≡ [] }
     ensures { CompilesForms names.now (map (site_at (sites nodes.now)) library.now) (map (site_at (sites nodes.now)) forms.now) result }
 {
     let (relations, before) = define(alloc, nodes, names, library, forms)?;
@@ -182,6 +194,9 @@ fn compile_data(
 ) -> Result<Compiled, SyntaxError>
     requires numbered { AreNumbered names.now prefixes.now }
     requires few { length library.now + length text.now < 2 ^ 32 }
+    requires low_library { AreLow (map (meaning names.now) library.now) }
+    requires low_text { AreLow (map (meaning names.now) text.now) }
+    requires alone { IsAccepted names.now [] (map (written names.now) library.now) }
     ensures { CompilesForms names.now (map (sited names.now) (map (written names.now) library.now)) (map (sited names.now) (map (written names.now) text.now)) result }
 {
     let mut table = Nodes::new(alloc);
@@ -191,7 +206,8 @@ fn compile_data(
 }
 
 /// Compiles a text behind a library, whose data these are, to its program and its runs. A text with faults is refused by
-/// the one at the least offset, and of two at one offset by the one with the smaller number.
+/// the one at the least offset, and of two at one offset by the one with the smaller number. The data are those of texts, and
+/// the library is accepted by itself, so nothing is open in what is built of an accepted text.
 pub fn compile(
     alloc: Global,
     library: &[Datum],
@@ -200,6 +216,8 @@ pub fn compile(
 ) -> Result<Compiled, SyntaxError>
     requires names { length names.old + 3 < 2 ^ 32 }
     requires few { length library.now + length text.now < 2 ^ 32 }
+    requires texts { AreOfText names.old library.now × AreOfText names.old text.now }
+    requires library { IsAcceptedAlone names.old library.now }
     ensures compiled { Compiles names.new library.now text.now result }
     ensures names { Extends 3 names.old names.new }
 {

@@ -1,9 +1,13 @@
 //! Drafts that keep room for more.
 
-ghost use Rattle.std.specs.Prelude.{◌≡◌, ◌&&◌, ◌<◌, length, true, IfOk, OnOk};
-ghost use Rattle.kan_model.specs.Tables.{is_term_grown, is_goal_grown, template_of, goal_of, with_argument};
+ghost use Rattle.std.specs.Prelude.{List, ◌≡◌, ◌&&◌, ◌<◌, length, true, IfOk, OnOk};
+ghost use Rattle.kan_model.specs.Calls.{call_there};
+ghost use Rattle.goal_syntax.specs.Called.{are_there};
+ghost use Rattle.kan_model.specs.Tables.{RelationEntry, is_term_grown, is_goal_grown, template_of, goal_of, with_argument};
 ghost use Rattle.kan_model.specs.Nodes.{term_entry, goal_entry};
 ghost use Rattle.kan_model.specs.Drafts.{tables, templates, goals};
+ghost use Rattle.std.specs.List.{list_all};
+ghost use Rattle.kan_model.specs.Scope.{is_low};
 ghost use Rattle.goal_syntax.specs.Drafting.{HasTemplate, HasGoal, Grows, HasRoom};
 ghost use Rattle.goal_syntax.specs.Equational.{is_equational_entry, are_equational_entries};
 
@@ -21,6 +25,7 @@ pub(crate) fn add_term(draft: &mut Draft, node: TermNode) -> Result<u32, Memory>
     ensures grows { OnOk result (Grows (tables draft.old) (tables draft.new)) }
     ensures room { OnOk result (HasRoom (tables draft.new)) }
     ensures same { OnOk result ((tables draft.new).goals ≡ (tables draft.old).goals) }
+    ensures low { OnOk result (is_low (template_of (templates draft.old) (term_entry node)) ≡ true → list_all is_low (templates draft.old) ≡ true → list_all is_low (templates draft.new) ≡ true) }
 {
     let at = draft.term(node)?;
     if at < MOST_ENTRIES {
@@ -55,6 +60,8 @@ pub(crate) fn add_goal(draft: &mut Draft, node: GoalNode) -> Result<u32, Memory>
     ensures grows { OnOk result (Grows (tables draft.old) (tables draft.new)) }
     ensures room { OnOk result (HasRoom (tables draft.new)) }
     ensures equational { OnOk result (are_equational_entries (tables draft.new).goals ≡ (are_equational_entries (tables draft.old).goals && is_equational_entry (goal_entry node))) }
+    ensures terms { OnOk result ((tables draft.new).terms ≡ (tables draft.old).terms) }
+    ensures called { OnOk result ((rows : List RelationEntry) → are_there rows (tables draft.new).goals ≡ (are_there rows (tables draft.old).goals && call_there rows (goal_entry node))) }
 {
     let at = draft.goal(node)?;
     if at < MOST_ENTRIES {

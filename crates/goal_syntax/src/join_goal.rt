@@ -57,6 +57,7 @@ pub(crate) fn make(node: GoalNode, draft: &mut Draft, places: &mut Vec<u32>) -> 
     ensures below { OnOk result (are_below (length (tables draft.new).goals) places.new.items ≡ true) }
     ensures grows { OnOk result (Grows (tables draft.old) (tables draft.new)) }
     ensures room { OnOk result (HasRoom (tables draft.new)) }
+    ensures terms { OnOk result ((tables draft.new).terms ≡ (tables draft.old).terms) }
 {
     let place = add_goal(draft, node)?;
     places.push(place)?;
@@ -71,6 +72,7 @@ pub(crate) fn join_two(row: Row, draft: &mut Draft, places: &mut Vec<u32>) -> Re
     ensures below { OnOk result (are_below (length (tables draft.new).goals) places.new.items ≡ true) }
     ensures grows { OnOk result (Grows (tables draft.old) (tables draft.new)) }
     ensures room { OnOk result (HasRoom (tables draft.new)) }
+    ensures terms { OnOk result ((tables draft.new).terms ≡ (tables draft.old).terms) }
 {
     let Some(right) = places.pop() else {
         return Ok(());
@@ -90,6 +92,7 @@ pub(crate) fn add_slots(count: u32, draft: &mut Draft, places: &mut Vec<u32>) ->
     ensures below { OnOk result (are_below (length (tables draft.new).goals) places.new.items ≡ true) }
     ensures grows { OnOk result (Grows (tables draft.old) (tables draft.new)) }
     ensures room { OnOk result (HasRoom (tables draft.new)) }
+    ensures terms { OnOk result ((tables draft.new).terms ≡ (tables draft.old).terms) }
 {
     let Some(goal) = places.pop() else {
         return Ok(());

@@ -7,7 +7,10 @@ ghost use Rattle.kan_terms.specs.Table.{IsDistinct, name_of, number_of};
 ghost use Rattle.sexpr.specs.Meaning.{prefix_of};
 ghost use Rattle.sexpr.specs.Seen.{Table, symbol_atom, written};
 ghost use Rattle.goal_syntax.specs.Parts.{sites, site_at, part_site};
+ghost use Rattle.std.specs.List.{list_all};
+ghost use Rattle.goal_syntax.specs.Low.{AreLow, is_low_datum};
 ghost use Rattle.goal_syntax.specs.Rows.{is_there};
+ghost use Rattle.goal_syntax.specs.TurnLow.{WorksLow};
 ghost use Rattle.goal_syntax.specs.TurnWorks.{AreNumbered, finish, meaning, work_size, works_size};
 ghost use Rattle.goal_syntax.specs.declared.turn.Work.TheVariants as works_of;
 ghost use Rattle.std.specs.Option.{option_copied};
@@ -67,6 +70,7 @@ fn join(at: u32, table: &mut Nodes, places: &mut Vec<u32>) -> Result<(), Memory>
     requires { are_below (length (sites table.old)) places.old.items ≡ true }
     ensures made { OnOk result (kept (sites table.new) places.new.items ≡ joined at (kept (sites table.old) places.old.items)) }
     ensures below { OnOk result (are_below (length (sites table.new)) places.new.items ≡ true) }
+    ensures low { OnOk result (list_all is_low_datum (joined at (kept (sites table.old) places.old.items)) ≡ true → AreLow (sites table.old) → AreLow (sites table.new)) }
 {
     let Some(rest) = places.pop() else {
         return Ok(());
@@ -83,6 +87,7 @@ fn prefix(at: u32, symbol: u32, table: &mut Nodes, places: &mut Vec<u32>) -> Res
     requires { are_below (length (sites table.old)) places.old.items ≡ true }
     ensures made { OnOk result (kept (sites table.new) places.new.items ≡ prefixed_last at symbol (kept (sites table.old) places.old.items)) }
     ensures below { OnOk result (are_below (length (sites table.new)) places.new.items ≡ true) }
+    ensures low { OnOk result (list_all is_low_datum (prefixed_last at symbol (kept (sites table.old) places.old.items)) ≡ true → AreLow (sites table.old) → AreLow (sites table.new)) }
 {
     let Some(datum) = places.pop() else {
         return Ok(());
@@ -101,6 +106,7 @@ fn make(at: u32, part: Part, table: &mut Nodes, places: &mut Vec<u32>) -> Result
     requires below { are_below (length (sites table.old)) places.old.items ≡ true }
     ensures made { OnOk result (kept (sites table.new) places.new.items ≡ part_site (sites table.old) at part ∷ kept (sites table.old) places.old.items) }
     ensures below { OnOk result (are_below (length (sites table.new)) places.new.items ≡ true) }
+    ensures low { OnOk result (is_low_datum (part_site (sites table.old) at part) ≡ true → AreLow (sites table.old) → AreLow (sites table.new)) }
 {
     put(at, part, table, places)?;
     Ok(())
@@ -141,6 +147,7 @@ fn turn_datum<'a>(
     ensures made { OnOk result (finish names.now (reverse works.new.items) (kept (sites table.new) places.new.items)
         ≡ finish names.now (works_of.Datum datum.entry ∷ reverse works.old.items) (kept (sites table.old) places.old.items)) }
     ensures below { OnOk result (are_below (length (sites table.new)) places.new.items ≡ true) }
+    ensures low { OnOk result (WorksLow names.now (works_of.Datum datum.entry ∷ reverse works.old.items) (sites table.old) places.old.items → WorksLow names.now (reverse works.new.items) (sites table.new) places.new.items) }
     ensures falls { OnOk result (works_size names.now works.new.items < work_size names.now (works_of.Datum datum.entry) + works_size names.now works.old.items) }
 {
     match &datum.kind {
@@ -174,6 +181,7 @@ fn turn_rest<'a>(
     ensures made { OnOk result (finish names.now (reverse works.new.items) (kept (sites table.new) places.new.items)
         ≡ finish names.now (works_of.Rest items.entry last.entry at ∷ reverse works.old.items) (kept (sites table.old) places.old.items)) }
     ensures below { OnOk result (are_below (length (sites table.new)) places.new.items ≡ true) }
+    ensures low { OnOk result (WorksLow names.now (works_of.Rest items.entry last.entry at ∷ reverse works.old.items) (sites table.old) places.old.items → WorksLow names.now (reverse works.new.items) (sites table.new) places.new.items) }
     ensures falls { OnOk result (works_size names.now works.new.items < work_size names.now (works_of.Rest items.entry last.entry at) + works_size names.now works.old.items) }
 {
     if let Some((first, rest)) = items.split_first() {
@@ -203,14 +211,16 @@ fn turn_work<'a>(
     ensures made { OnOk result (finish names.now (reverse works.new.items) (kept (sites table.new) places.new.items)
         ≡ finish names.now (work.entry ∷ reverse works.old.items) (kept (sites table.old) places.old.items)) }
     ensures below { OnOk result (are_below (length (sites table.new)) places.new.items ≡ true) }
+    ensures low { OnOk result (WorksLow names.now (work.entry ∷ reverse works.old.items) (sites table.old) places.old.items → WorksLow names.now (reverse works.new.items) (sites table.new) places.new.items) }
     ensures falls { OnOk result (works_size names.now works.new.items < work_size names.now work.entry + works_size names.now works.old.items) }
 {
     match work {
-        Work::Datum(datum) => turn_datum(datum, names, prefixes, table, places, works),
-        Work::Rest(items, last, at) => turn_rest(items, last, at, names, table, places, works),
-        Work::Pair(at) => join(at, table, places),
-        Work::Prefixed(at, symbol) => prefix(at, symbol, table, places),
+        Work::Datum(datum) => turn_datum(datum, names, prefixes, table, places, works)?,
+        Work::Rest(items, last, at) => turn_rest(items, last, at, names, table, places, works)?,
+        Work::Pair(at) => join(at, table, places)?,
+        Work::Prefixed(at, symbol) => prefix(at, symbol, table, places)?,
     }
+    Ok(())
 }
 
 // Turns a datum: its place is the last of those that were made.
@@ -227,6 +237,7 @@ fn turn_one(
     ensures made { OnOk result (kept (sites table.new) places.new.items
         ≡ sited names.now (written names.now datum.now) ∷ kept (sites table.old) places.old.items) }
     ensures below { OnOk result (are_below (length (sites table.new)) places.new.items ≡ true) }
+    ensures low { OnOk result (is_low_datum (sited names.now (written names.now datum.now)) ≡ true → list_all is_low_datum (kept (sites table.old) places.old.items) ≡ true → AreLow (sites table.old) → AreLow (sites table.new)) }
 {
     let mut works = Vec::new(alloc);
     works.push(Work::Datum(datum))?;
@@ -250,6 +261,7 @@ fn turn(
     ensures made { OnOk result (kept (sites table.new) places.new.items
         ≡ reverse (map (meaning names.now) forms.now) ++ kept (sites table.old) places.old.items) }
     ensures below { OnOk result (are_below (length (sites table.new)) places.new.items ≡ true) }
+    ensures low { OnOk result (AreLow (map (meaning names.now) forms.now) → list_all is_low_datum (kept (sites table.old) places.old.items) ≡ true → AreLow (sites table.old) → AreLow (sites table.new)) }
 {
     for datum in forms {
         turn_one(alloc, datum, names, prefixes, table, places)?;
@@ -267,7 +279,8 @@ pub(crate) fn turn_both(
     table: &mut Nodes,
 ) -> Result<Vec<u32>, Memory>
     requires { AreNumbered names.now prefixes.now }
-    ensures { IfOk result (λ places. map (site_at (sites table.new)) places.items ≡ map (meaning names.now) library.now ++ map (meaning names.now) text.now) }
+    ensures made { IfOk result (λ places. map (site_at (sites table.new)) places.items ≡ map (meaning names.now) library.now ++ map (meaning names.now) text.now) }
+    ensures low { OnOk result (AreLow (map (meaning names.now) library.now) → AreLow (map (meaning names.now) text.now) → AreLow (sites table.old) → AreLow (sites table.new)) }
 {
     let mut places = Vec::new(alloc);
     turn(alloc, library, names, prefixes, table, &mut places)?;

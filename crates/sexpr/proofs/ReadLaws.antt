@@ -1,6 +1,6 @@
 -- How a reading goes on piece by piece, and what it comes to.
 use Rattle.std.proofs.Common.{◌≡◌, ℕ, suc, ◌+◌, ◌-◌, ◌<◌, ◌≤◌, Bool, true, false, List, [], ◌∷◌, ◌++◌, length, drop, refl, sym, ap, ◌∙◌, subst, arith, append_assoc, append-nil}
-use Rattle.std.specs.Prelude.{None, Some, Result, Ok, Err, IfErr}
+use Rattle.std.specs.Prelude.{None, Some, Result, Ok, Err, IfErr, IfOk}
 use Rattle.std.specs.Result.{IsErrAnd}
 use Rattle.std.specs.Str.{IsUtf8, is_utf8}
 use Rattle.std.specs.Str.Lossy.{utf8_valid_len}
@@ -147,6 +147,13 @@ left_none names o at rest bytes answer h ends left =
     answers_same names (cut_off (open_of names o)) (read_text as_kept bytes) answer
     (ap (λ ts. finish (run as_kept (going (open_of names o)) ts)) (sym (no_tokens at rest h)) ∙ left_here names o at rest bytes left)
     (ends names)
+
+-- data that were read are those of the text under each table that goes on where the names end
+pub left_later : (names : Table) (o : stacks.Open) (at : ℕ) (rest bytes : List ℕ) (answer : Result (List Datum) ReadError) → length rest ≡ 0 → ((t : Table) → Answers t (cut_off (open_of t o)) answer) → Left names o at rest bytes →
+    IfOk answer (λ data_read. (more : Table) → Reads bytes (names ++ more) (Ok data_read))
+left_later names o at rest bytes (Ok ds) h ends left = λ more.
+    left_none (names ++ more) o at rest bytes (Ok ds) h ends (left_more names (names ++ more) (length more) o at rest bytes left (more, refl, omega arith))
+left_later names o at rest bytes (Err e) h ends left = tt
 
 -- an error that is handed on
 pub reads_error : (bytes : List ℕ) (names : Table) (r : Result (List Datum) ReadError) (e : ReadError) → IsErrAnd r (λ x. x ≡ e) → Reads bytes names (Err e) → Reads bytes names r

@@ -1,6 +1,6 @@
 //! Reading a text into its data.
 
-ghost use Rattle.std.specs.Prelude.{List, ◌≡◌, ◌-◌, ◌^◌, ◌<◌, ◌≤◌, ◌++◌, length, IfErr, OnOk};
+ghost use Rattle.std.specs.Prelude.{IfOk, Ok, List, ◌≡◌, ◌-◌, ◌^◌, ◌<◌, ◌≤◌, ◌++◌, length, IfErr, OnOk};
 ghost use Rattle.kan_model.specs.Tokens.{Placed, placed_before};
 ghost use Rattle.kan_model.specs.Faults.{refusal, run, going, finish};
 ghost use Rattle.kan_model.specs.Words as words;
@@ -22,6 +22,7 @@ pub fn read(alloc: Global, bytes: &[u8], names: &mut Names) -> Result<Data, Read
     requires size { length bytes.now ≤ 1048576 }
     requires names { length names.old < 2 ^ 31 }
     ensures reads { Reads bytes.now names.new result }
+    ensures later { IfOk result (λ data_read. (more : Table) → Reads bytes.now (names.new ++ more) (Ok data_read)) }
     ensures names { Extends (length bytes.now) names.old names.new }
 {
     let text = match std::str::from_utf8(bytes) {

@@ -5,6 +5,7 @@ use Rattle.kan_model.specs.Resolved.{conjunction, goals_in}
 use Rattle.goal_syntax.specs.Built.{built, with_goal}
 use Rattle.goal_syntax.specs.Drafting.{Grows, HasRoom}
 use Rattle.goal_syntax.specs.GoalWorks.{finish, works_size}
+use Rattle.goal_syntax.specs.Low.{KeepsLow}
 use Rattle.goal_syntax.specs.Parts.{sites, site_at}
 use Rattle.goal_syntax.specs.Tabled.{relations}
 use Rattle.goal_syntax.specs.Turning.{are_below}
@@ -18,6 +19,7 @@ invariant-loop-work l = record {
   below : are_below (length (tables l.draft).goals) l.places.items ≡ true;
   grows : Grows (tables l.fn.draft) (tables l.draft);
   room : HasRoom (tables l.draft);
+  low : KeepsLow (sites l.text.nodes.now) (tables l.fn.draft) (tables l.draft);
 }
 
 abbrev pub decreases-loop-work : goal.decreases-loop-work

@@ -2,6 +2,12 @@ use Rattle.std.proofs.Common.{length}
 use Rattle.std.proofs.lemmas.Bool.{lt-ltb}
 use Rattle.kan_model.specs.Drafts.{tables}
 use Rattle.goal_syntax.proofs.DraftLaws.{grows_on}
+use Rattle.std.proofs.Common.{ap, ◌∙◌}
+use Rattle.kan_model.specs.GoalForms.{goal_forms}
+use Rattle.kan_model.specs.Resolved.{within}
+use Rattle.goal_syntax.specs.Parts.{sites, site_at}
+use Rattle.goal_syntax.specs.Tabled.{relations}
+use Rattle.goal_syntax.proofs.CalledLaws.{run_closed}
 use Rattle.goal_syntax.proofs.build_run.build_list.Goals as goal
 
 pub add_goal-requires-clause-there : goal.add_goal-requires-clause-there
@@ -9,3 +15,11 @@ add_goal-requires-clause-there c = lt-ltb _ (length (tables c.build_behind.new.d
 
 pub returns-clause-grows : goal.returns-clause-grows
 returns-clause-grows c = grows_on _ _ _ c.in_ok-first.ensures.grows (grows_on _ _ _ c.in_ok-goal.ensures.grows c.in_ok-fresh.ensures.grows)
+
+pub returns-clause-closed : goal.returns-clause-closed
+returns-clause-closed c =
+    let text = c.args.text.now in
+    run_closed (sites text.nodes.now) text.names.now c.args.binder (relations text.relations.now) (goal_forms text.names.now (site_at (sites text.nodes.now) c.args.goals))
+    c.in_ok-bound.bound.items c.in_ok-scope.scope.items _ (tables c.args.draft.now) (tables c.build_equation.new.draft) (tables c.build_behind.new.draft) (tables c.add_goal.new.draft)
+    c.in_ok-scope.ensures (c.in_ok-enter.ensures ∙ ap (within c.in_ok-scope.scope.items) c.deref.ensures.value) c.in_ok-bound.ensures.bound
+    (rw c.deref-2.ensures.value at c.in_ok-first.ensures.low) c.in_ok-first.ensures.called c.in_ok-goal.ensures.closed c.in_ok-fresh.ensures.terms c.in_ok-fresh.ensures.called

@@ -1,5 +1,7 @@
-use Rattle.std.proofs.Common.{◌+◌, ◌≤◌, drop, length}
-use Rattle.kan_model.specs.Drafts.{tables}
+use Rattle.std.proofs.Common.{◌≡◌, true, ◌+◌, ◌≤◌, drop, length}
+use Rattle.kan_model.specs.Drafts.{tables, templates}
+use Rattle.kan_model.specs.Scope.{is_low}
+use Rattle.std.specs.List.{list_all}
 use Rattle.kan_model.specs.ProgramText.{slot_list}
 use Rattle.goal_syntax.specs.Building.{AddsTerms}
 use Rattle.goal_syntax.specs.Drafting.{HasTemplate}
@@ -11,6 +13,7 @@ invariant-loop-slot l = record {
   within : l.slot ≤ length l.bound;
   made : HasTemplate (tables l.draft) l.list (slot_list (l.slot + 1) (drop l.slot l.bound));
   adds : AddsTerms (tables l.fn.draft) (tables l.draft);
+  low : length l.bound ≤ 2048 → list_all is_low (templates l.fn.draft) ≡ true → list_all is_low (templates l.draft) ≡ true;
 }
 
 abbrev pub decreases-loop-slot : goal.decreases-loop-slot

@@ -2,6 +2,10 @@ use Rattle.std.proofs.Common.{◌≡◌, ◌∷◌, [], reverse, length, true}
 use Rattle.kan_model.specs.Drafts.{tables, templates}
 use Rattle.kan_model.specs.Resolved.{template_in}
 use Rattle.goal_syntax.specs.Building.{AddsTerms, built, finish, works_size}
+use Rattle.std.specs.List.{list_all}
+use Rattle.kan_model.specs.Scope.{is_low}
+use Rattle.goal_syntax.specs.BuildLow.{WorksLow}
+use Rattle.goal_syntax.specs.Low.{AreLow}
 use Rattle.goal_syntax.specs.Parts.{sites}
 use Rattle.goal_syntax.specs.TermSteps.{task_form}
 use Rattle.goal_syntax.specs.Turning.{are_below}
@@ -13,6 +17,8 @@ invariant-loop-work l = record {
   made : finish (sites l.text.nodes.now) l.text.names.now l.scope (reverse l.works.items) (built (templates l.draft) l.places.items) ≡ template_in l.scope (task_form (sites l.text.nodes.now) l.text.names.now l.fn.task) ∷ [];
   below : are_below (length (tables l.draft).terms) l.places.items ≡ true;
   adds : AddsTerms (tables l.fn.draft) (tables l.draft);
+  low : AreLow (sites l.text.nodes.now) → list_all is_low (templates l.fn.draft) ≡ true →
+      WorksLow (sites l.text.nodes.now) l.text.names.now l.scope (reverse l.works.items) (templates l.draft) l.places.items;
 }
 
 abbrev pub decreases-loop-work : goal.decreases-loop-work

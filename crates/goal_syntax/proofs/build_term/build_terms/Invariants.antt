@@ -4,6 +4,7 @@ use Rattle.kan_model.specs.GoalForms.{term_forms}
 use Rattle.kan_model.specs.Resolved.{template_in}
 use Rattle.kan_model.specs.Tables.{template_at}
 use Rattle.goal_syntax.specs.Building.{AddsTerms}
+use Rattle.goal_syntax.specs.Low.{KeepsLow}
 use Rattle.goal_syntax.specs.Parts.{sites, site_at}
 use Rattle.goal_syntax.specs.Turning.{are_below}
 use Rattle.goal_syntax.proofs.build_term.build_terms.Given as goal
@@ -15,6 +16,7 @@ invariant-loop-first l = record {
       ≡ map (template_in l.scope) (term_forms l.text.names.now (site_at (sites l.text.nodes.now) l.fn.place));
   below : are_below (length (tables l.draft).terms) l.places.items ≡ true;
   adds : AddsTerms (tables l.fn.draft) (tables l.draft);
+  low : KeepsLow (sites l.text.nodes.now) (tables l.fn.draft) (tables l.draft);
 }
 
 abbrev pub decreases-loop-first : goal.decreases-loop-first

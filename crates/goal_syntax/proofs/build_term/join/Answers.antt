@@ -1,6 +1,7 @@
 use Rattle.std.specs.Prelude.{length}
 use Rattle.kan_model.specs.Drafts.{tables, templates}
 use Rattle.goal_syntax.proofs.BuildLaws.{pair_there, rest_below, join_made}
+use Rattle.goal_syntax.proofs.BuildLowLaws.{join_low}
 use Rattle.goal_syntax.proofs.build_term.join.Goals as goal
 
 pub put-requires-clause-there : goal.put-requires-clause-there
@@ -11,3 +12,6 @@ put-requires-clause-below c = rest_below (length (tables c.args.draft.now).terms
 
 pub returns-clause-made : goal.returns-clause-made
 returns-clause-made c = join_made (templates c.args.draft.now) c.args.places.now.items _ _ _ _ _ c.in-Some.ensures.items c.in-Some-pop.ensures.items c.in_ok-put.ensures.made
+
+pub returns-clause-low : goal.returns-clause-low
+returns-clause-low c = join_low (templates c.args.draft.now) (templates c.put.new.draft) c.args.places.now.items _ _ _ _ c.in-Some.ensures.items c.in-Some-pop.ensures.items c.in_ok-put.ensures.low

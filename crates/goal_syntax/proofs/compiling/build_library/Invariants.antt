@@ -6,6 +6,7 @@ use Rattle.kan_model.specs.Goals as model
 use Rattle.kan_model.specs.ProgramText.{relations_of}
 use Rattle.kan_model.specs.declared.nodes.Query.{Query}
 use Rattle.goal_syntax.specs.BuiltText.{Means}
+use Rattle.goal_syntax.specs.Called.{KeepsClosed, bodies_named}
 use Rattle.goal_syntax.specs.Drafting.{HasRoom}
 use Rattle.goal_syntax.specs.Equational.{are_equational_entries, is_equational_body}
 use Rattle.goal_syntax.specs.Parts.{sites, site_at}
@@ -20,4 +21,5 @@ invariant-loop-place l = record {
   equational : are_equational_entries (tables l.draft).goals ≡ (are_equational_entries (tables l.fn.draft).goals
       && list_all is_equational_body (relations_of l.text.names.now (relations l.text.relations.now) (map (site_at (sites l.text.nodes.now)) (take l.place-index l.forms))));
   room : HasRoom (tables l.draft);
+  closed : KeepsClosed (sites l.text.nodes.now) (tables l.fn.draft) (tables l.draft) (bodies_named (relations_of l.text.names.now (relations l.text.relations.now) (map (site_at (sites l.text.nodes.now)) (take l.place-index l.forms))));
 }

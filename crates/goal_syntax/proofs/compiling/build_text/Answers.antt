@@ -4,6 +4,7 @@ use Rattle.kan_model.specs.Drafts.{tables}
 use Rattle.goal_syntax.specs.Parts.{sites}
 use Rattle.goal_syntax.specs.Tabled.{relations}
 use Rattle.goal_syntax.proofs.CompilingLaws.{text_means, text_equational}
+use Rattle.goal_syntax.proofs.CalledLaws.{text_closed}
 use Rattle.goal_syntax.proofs.compiling.build_text.Goals as goal
 
 pub loop-place-preserved : goal.loop-place-preserved
@@ -16,6 +17,8 @@ loop-place-preserved c =
           c.loop-place.invariant.means (rw c.open.ensures at c.in_ok-build_form.ensures.means);
       equational = text_equational t rules ds c.args.forms.now c.loop-place.place-index _ _ _ (omega arith) c.loop-place.invariant.equational (rw c.open.ensures at c.in_ok-build_form.ensures.equational);
       room = c.in_ok-build_form.ensures.room;
+      closed = text_closed t rules ds c.args.forms.now c.loop-place.place-index (tables c.args.draft.now) (tables c.loop-place.draft) (tables c.build_form.new.draft) (omega arith)
+          c.loop-place.invariant.closed (rw c.open.ensures at c.in_ok-build_form.ensures.closed);
     }
 
 pub returns-clause-means : goal.returns-clause-means

@@ -4,6 +4,7 @@ use Rattle.kan_model.specs.Drafts.{tables}
 use Rattle.kan_model.specs.Goals as model
 use Rattle.kan_model.specs.ProgramText.{relations_of, queries_of}
 use Rattle.goal_syntax.specs.BuiltText.{Means}
+use Rattle.goal_syntax.specs.Called.{KeepsClosed, all_named}
 use Rattle.goal_syntax.specs.Drafting.{HasRoom}
 use Rattle.goal_syntax.specs.Equational.{are_equational, are_equational_entries}
 use Rattle.goal_syntax.specs.Parts.{sites, site_at}
@@ -21,4 +22,6 @@ invariant-loop-place l = record {
       && are_equational (relations_of l.text.names.now (relations l.text.relations.now) (map (site_at (sites l.text.nodes.now)) (take l.place-index l.forms)))
       (queries_of l.text.names.now (relations l.text.relations.now) (map (site_at (sites l.text.nodes.now)) (take l.place-index l.forms))));
   room : HasRoom (tables l.draft);
+  closed : KeepsClosed (sites l.text.nodes.now) (tables l.fn.draft) (tables l.draft) (all_named (relations_of l.text.names.now (relations l.text.relations.now) (map (site_at (sites l.text.nodes.now)) (take l.place-index l.forms)))
+      (queries_of l.text.names.now (relations l.text.relations.now) (map (site_at (sites l.text.nodes.now)) (take l.place-index l.forms))));
 }

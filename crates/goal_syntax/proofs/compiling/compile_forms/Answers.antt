@@ -3,6 +3,7 @@ use Rattle.std.specs.Prelude.{option_map}
 use Rattle.goal_syntax.specs.FaultLists.{fault_of}
 use Rattle.goal_syntax.specs.Parts.{sites, site_at}
 use Rattle.goal_syntax.proofs.FormLaws.{first_is}
+use Rattle.goal_syntax.proofs.ClosingLaws.{no_faults}
 use Rattle.goal_syntax.proofs.compiling.compile_forms.Goals as goal
 
 pub returns-in-Some : goal.returns-in-Some
@@ -18,3 +19,9 @@ returns c =
           c.in_ok-relations.ensures.relations c.in_ok-relations.ensures.before c.in_ok-fault.ensures),
       c.in_ok-compiled.ensures,
     )
+
+pub build_program-requires-clause-accepted : goal.build_program-requires-clause-accepted
+build_program-requires-clause-accepted c =
+    let ds = sites c.args.nodes.now in
+    no_faults _ (sym (sym (ap (option_map fault_of) c.in_default.is) ∙ first_is c.args.names.now (map (site_at ds) c.args.library.now) (map (site_at ds) c.args.forms.now) _ _ _
+    c.in_ok-relations.ensures.relations c.in_ok-relations.ensures.before c.in_ok-fault.ensures))

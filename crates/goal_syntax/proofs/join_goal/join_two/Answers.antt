@@ -2,6 +2,7 @@ use Rattle.std.proofs.Common.{length}
 use Rattle.kan_model.specs.Drafts.{tables}
 use Rattle.kan_model.specs.Nodes.{goal_entry}
 use Rattle.goal_syntax.proofs.BuiltLaws.{top_two, join_grown}
+use Rattle.goal_syntax.proofs.BuiltLaws.{two_joined}
 use Rattle.goal_syntax.proofs.join_goal.join_two.Goals as goal
 
 pub make-requires-clause-there : goal.make-requires-clause-there
@@ -11,3 +12,7 @@ make-requires-clause-there c =
 
 pub make-requires-clause-below : goal.make-requires-clause-below
 make-requires-clause-below c = (top_two (length (tables c.args.draft.now).goals) _ _ _ _ _ c.in-Some.ensures.items c.in-Some-pop.ensures.items c.requires.below).0
+
+pub returns-clause-made : goal.returns-clause-made
+returns-clause-made c =
+    two_joined (tables c.args.draft.now) c.args.row c.args.places.now.items _ _ _ _ (goal_entry c.join.result) _ c.in-Some.ensures.items c.in-Some-pop.ensures.items c.join.ensures c.in_ok-make.ensures.made

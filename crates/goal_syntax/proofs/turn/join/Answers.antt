@@ -1,5 +1,6 @@
 use Rattle.goal_syntax.proofs.TurnLaws.{pair_there, join_made, join_below}
 use Rattle.goal_syntax.specs.Parts.{sites}
+use Rattle.goal_syntax.proofs.TurnLowLaws.{join_low}
 use Rattle.goal_syntax.proofs.turn.join.Goals as goal
 
 pub put-requires : goal.put-requires
@@ -10,3 +11,6 @@ returns-clause-made c = join_made c.args.at (sites c.args.table.now) _ c.args.pl
 
 pub returns-clause-below : goal.returns-clause-below
 returns-clause-below c = join_below c.args.at (sites c.args.table.now) _ c.args.places.now.items _ _ _ _ _ c.in-Some.ensures.items c.in-Some-pop.ensures.items c.requires c.in_ok-put.ensures.table c.in_ok-put.ensures.places
+
+pub returns-clause-low : goal.returns-clause-low
+returns-clause-low c = λ low there. join_low c.args.at (sites c.args.table.now) _ c.args.places.now.items _ _ _ _ c.in-Some.ensures.items c.in-Some-pop.ensures.items c.in_ok-put.ensures.table low there

@@ -1,5 +1,6 @@
 use Rattle.goal_syntax.proofs.TurnLaws.{prefix_made, prefix_below, put_below}
 use Rattle.goal_syntax.specs.Parts.{sites}
+use Rattle.goal_syntax.proofs.TurnLowLaws.{prefix_low}
 use Rattle.goal_syntax.proofs.turn.prefix.Goals as goal
 
 pub join-requires : goal.join-requires
@@ -12,3 +13,10 @@ returns-clause-made c =
     prefix_made c.args.at c.args.symbol (sites c.args.table.now) (sites c.put.new.table) (sites c.put-2.new.table) (sites c.join.new.table) (sites c.join-2.new.table)
     c.args.places.now.items _ _ _ c.put-2.new.places.items c.join.new.places.items c.join-2.new.places.items c.in-Some.datum
     c.in-Some.ensures.items c.requires c.in_ok-put.ensures.table c.in_ok-put.ensures.places c.in_ok-push.ensures.items c.in_ok-put-2.ensures.table c.in_ok-put-2.ensures.places c.in_ok-join.ensures.made c.in_ok-join-2.ensures.made
+
+pub returns-clause-low : goal.returns-clause-low
+returns-clause-low c = λ low there.
+    prefix_low c.args.at c.args.symbol (sites c.args.table.now) (sites c.put.new.table) (sites c.put-2.new.table) (sites c.join.new.table) (sites c.join-2.new.table)
+    c.args.places.now.items _ _ _ c.put-2.new.places.items c.join.new.places.items c.in-Some.datum
+    c.in-Some.ensures.items c.requires c.in_ok-put.ensures.table c.in_ok-put.ensures.places c.in_ok-push.ensures.items c.in_ok-put-2.ensures.table c.in_ok-put-2.ensures.places c.in_ok-join.ensures.made
+    c.in_ok-join.ensures.low c.in_ok-join-2.ensures.low low there

@@ -1,4 +1,6 @@
 use Rattle.std.proofs.Common.{◌≡◌, ◌++◌, map, take, reverse, length, true}
+use Rattle.std.specs.List.{list_all}
+use Rattle.goal_syntax.specs.Low.{is_low_datum, AreLow}
 use Rattle.goal_syntax.specs.Parts.{sites}
 use Rattle.goal_syntax.specs.Turning.{are_below, kept}
 use Rattle.goal_syntax.specs.TurnWorks.{meaning}
@@ -9,4 +11,6 @@ abbrev pub invariant-loop-datum : goal.invariant-loop-datum
 invariant-loop-datum l = record {
   made : kept (sites l.table) l.places.items ≡ reverse (map (meaning l.names) (take l.datum-index l.forms)) ++ kept (sites l.fn.table) l.fn.places.items;
   below : are_below (length (sites l.table)) l.places.items ≡ true;
+  low : AreLow (map (meaning l.names) l.forms) → list_all is_low_datum (kept (sites l.fn.table) l.fn.places.items) ≡ true → AreLow (sites l.fn.table) →
+      (list_all is_low_datum (kept (sites l.table) l.places.items) ≡ true) × AreLow (sites l.table);
 }

@@ -1,4 +1,5 @@
 use Rattle.goal_syntax.proofs.TurnWorkLaws.{list_falls, prefixed_falls, prefixed_finish}
+use Rattle.goal_syntax.proofs.TurnLowLaws.{list_low, prefixed_low}
 use Rattle.goal_syntax.proofs.turn.turn_datum.Goals as goal
 
 pub returns-in_ok-push-in-List-clause-falls : goal.returns-in_ok-push-in-List-clause-falls
@@ -14,3 +15,12 @@ pub returns-in_ok-push-in-Prefixed-2-clause-falls : goal.returns-in_ok-push-in-P
 returns-in_ok-push-in-Prefixed-2-clause-falls c =
     prefixed_falls c.args.names.now c.args.datum.now c.in-Prefixed.prefix c.in-Prefixed.inner c.get.result _ _ c.args.works.now.items _ c.push-in-Prefixed-2.new.self.items
     c.in-Prefixed.is c.get.ensures c.in_ok-push-in-Prefixed.ensures.items c.in_ok-push-in-Prefixed-2.ensures.items
+
+pub returns-in_ok-push-in-List-clause-low : goal.returns-in_ok-push-in-List-clause-low
+returns-in_ok-push-in-List-clause-low c = λ low.
+    list_low c.args.names.now c.args.datum.now c.in-List.items c.in-List.last c.as_slice.result c.lent.result c.args.works.now.items _ _ _ c.in-List.is c.as_slice.ensures c.lent.ensures c.in_ok-push-in-List.ensures.items low.left low.there
+
+pub returns-in_ok-push-in-Prefixed-2-clause-low : goal.returns-in_ok-push-in-Prefixed-2-clause-low
+returns-in_ok-push-in-Prefixed-2-clause-low c = λ low.
+    prefixed_low c.args.names.now c.args.datum.now c.in-Prefixed.prefix c.in-Prefixed.inner c.get.result _ c.args.works.now.items _ c.push-in-Prefixed-2.new.self.items _ _
+    c.in-Prefixed.is c.get.ensures (c.prefix_symbol.ensures c.args.names.now c.requires.numbered) c.in_ok-push-in-Prefixed.ensures.items c.in_ok-push-in-Prefixed-2.ensures.items low.left low.there

@@ -1,4 +1,5 @@
 use Rattle.goal_syntax.proofs.TurnWorkLaws.{work_done, work_falls}
+use Rattle.goal_syntax.proofs.TurnLowLaws.{work_low}
 use Rattle.goal_syntax.proofs.turn.turn_one.Goals as goal
 
 pub loop-work-smaller : goal.loop-work-smaller
@@ -8,4 +9,6 @@ pub loop-work-preserved : goal.loop-work-preserved
 loop-work-preserved c = record {
   made = work_done c.args.names.now _ _ c.turn_work.new.works.items c.in-Some.work _ _ _ c.in-Some.ensures.items c.in_ok-turn_work.ensures.made c.loop-work.invariant.made;
   below = c.in_ok-turn_work.ensures.below;
+  low = λ datum made there.
+      work_low c.args.names.now _ _ c.turn_work.new.works.items c.in-Some.work _ _ _ _ c.in-Some.ensures.items c.in_ok-turn_work.ensures.low (c.loop-work.invariant.low datum made there);
 }

@@ -1,6 +1,9 @@
 use Rattle.std.proofs.Common.{◌≡◌, ◌∷◌, reverse, length, true}
 use Rattle.kan_model.specs.Sited.{sited}
 use Rattle.sexpr.specs.Seen.{written}
+use Rattle.std.specs.List.{list_all}
+use Rattle.goal_syntax.specs.Low.{is_low_datum, AreLow}
+use Rattle.goal_syntax.specs.TurnLow.{WorksLow}
 use Rattle.goal_syntax.specs.Parts.{sites}
 use Rattle.goal_syntax.specs.Turning.{are_below, kept}
 use Rattle.goal_syntax.specs.TurnWorks.{finish, works_size}
@@ -11,6 +14,8 @@ abbrev pub invariant-loop-work : goal.invariant-loop-work
 invariant-loop-work l = record {
   made : finish l.names (reverse l.works.items) (kept (sites l.table) l.places.items) ≡ sited l.names (written l.names l.datum) ∷ kept (sites l.fn.table) l.fn.places.items;
   below : are_below (length (sites l.table)) l.places.items ≡ true;
+  low : is_low_datum (sited l.names (written l.names l.datum)) ≡ true → list_all is_low_datum (kept (sites l.fn.table) l.fn.places.items) ≡ true → AreLow (sites l.fn.table) →
+      WorksLow l.names (reverse l.works.items) (sites l.table) l.places.items;
 }
 
 abbrev pub decreases-loop-work : goal.decreases-loop-work

@@ -1,4 +1,5 @@
 use Rattle.goal_syntax.proofs.TurnWorkLaws.{rest_falls, last_falls}
+use Rattle.goal_syntax.proofs.TurnLowLaws.{rest_low}
 use Rattle.goal_syntax.proofs.turn.turn_rest.Goals as goal
 
 pub returns-in-Some-clause-falls : goal.returns-in-Some-clause-falls
@@ -8,3 +9,8 @@ returns-in-Some-clause-falls c =
 pub returns-in_ok-push-in-Some-last-clause-falls : goal.returns-in_ok-push-in-Some-last-clause-falls
 returns-in_ok-push-in-Some-last-clause-falls c =
     last_falls c.args.names.now c.args.items c.in-Some-last.datum c.args.last c.args.works.now.items _ c.in_default.ensures.cases c.in-Some-last.is c.in_ok-push-in-Some-last.ensures.items
+
+pub returns-in-Some-clause-low : goal.returns-in-Some-clause-low
+returns-in-Some-clause-low c = λ low.
+    rest_low c.args.names.now c.args.items c.in-Some.rest c.in-Some.first c.args.last _ c.args.works.now.items _ _ c.push-in-Some-2.new.self.items _ _ c.in-Some.ensures.cases.0
+    c.in_ok-push.ensures.items c.in_ok-push-2.ensures.items c.in_ok-push-3.ensures.items low.left low.there

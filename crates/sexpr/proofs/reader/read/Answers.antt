@@ -4,7 +4,7 @@ use Rattle.std.specs.Str.{IsUtf8}
 use Rattle.std.proofs.lemmas.Bool.Decides.{nat_tests}
 use Rattle.kan_model.specs.Faults.{refused, fault}
 use Rattle.sexpr.specs.Meaning.{piece_of}
-use Rattle.sexpr.proofs.ReadLaws.{not_a_text, left_first, left_more, left_next, left_refused, left_none, extends_same, extends_on, reads_error}
+use Rattle.sexpr.proofs.ReadLaws.{not_a_text, left_first, left_more, left_next, left_refused, left_none, left_later, extends_same, extends_on, reads_error}
 use Rattle.sexpr.proofs.reader.read.Goals as goal
 
 pub returns-in-Err-clause-reads : goal.returns-in-Err-clause-reads
@@ -43,3 +43,6 @@ loop-rest-preserved c =
 
 pub returns-clause-reads : goal.returns-clause-reads
 returns-clause-reads c = left_none c.loop-rest.names c.loop-rest.opened c.loop-rest.at c.loop-rest.rest.now c.args.bytes.now c.finish.result (grind (arith, nat_tests)) c.finish.ensures c.loop-rest.invariant.1.left
+
+pub returns-clause-later : goal.returns-clause-later
+returns-clause-later c = left_later c.loop-rest.names c.loop-rest.opened c.loop-rest.at c.loop-rest.rest.now c.args.bytes.now c.finish.result (grind (arith, nat_tests)) c.finish.ensures c.loop-rest.invariant.1.left
