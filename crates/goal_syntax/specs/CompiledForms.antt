@@ -11,6 +11,7 @@ use Rattle.kan_model.specs.Nodes.{goal_place}
 use Rattle.kan_model.specs.Programs as programs
 use Rattle.kan_model.specs.declared.program.Program.{Program}
 use Rattle.kan_model.specs.declared.nodes.Query.{Query}
+use Rattle.goal_syntax.specs.Named.{are_named}
 use Rattle.goal_syntax.specs.Compiles.{query_of}
 use Rattle.goal_syntax.specs.Drafting.{HasRoom}
 use Rattle.goal_syntax.specs.Equational.{are_equational, are_equational_entries}
@@ -29,6 +30,6 @@ pub record IsMeant (m : Meant) (program : Program) (queries : List Query) : Type
 
 -- the forms of a text behind those of a library give their program and runs, or the fault that is answered
 abbrev pub CompilesForms : Table → List Sited → List Sited → Result Compiled SyntaxError → Type 0
-CompilesForms names library text (Ok c) = (least (faults_of names library text) ≡ None) × IsMeant (meant names library text) c.program c.queries
+CompilesForms names library text (Ok c) = (least (faults_of names library text) ≡ None) × IsMeant (meant names library text) c.program c.queries × (are_named names (programs.tables c.program) ≡ true)
 CompilesForms names library text (Err (Fault at number)) = least (faults_of names library text) ≡ Some (faults.fault at number)
 CompilesForms names library text (Err Memory) = Unit {0}

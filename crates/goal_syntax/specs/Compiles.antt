@@ -16,6 +16,7 @@ use Rattle.sexpr.specs.Seen.{written, as_kept}
 use Rattle.sexpr.specs.declared.data.Datum.{Datum}
 use Rattle.goal_syntax.specs.Checks.{NamesPrefixes}
 use Rattle.goal_syntax.specs.Drafting.{HasRoom}
+use Rattle.goal_syntax.specs.Named.{are_named}
 use Rattle.goal_syntax.specs.Equational.{are_equational, are_equational_entries}
 use Rattle.goal_syntax.specs.declared.check.SyntaxError.{SyntaxError}
 use Rattle.goal_syntax.specs.declared.check.SyntaxError.TheVariants.{Fault, Memory}
@@ -46,6 +47,8 @@ pub record IsCompiled (names : Table) (library text : List Datum) (program : Pro
   pub small : is_small (programs.meaning program) ≡ true
   -- each of its tables has fewer than 2^24 entries
   pub room : HasRoom (programs.tables program)
+  -- each symbol in it has a name
+  pub named : are_named names (programs.tables program) ≡ true
   -- its goals are equational exactly where those of the text are
   pub equational : are_equational_entries (programs.tables program).goals ≡ are_equational (relations_meant names library text) (queries_meant names library text)
 

@@ -22,6 +22,7 @@ ghost use Rattle.goal_syntax.specs.CompiledForms.{CompilesForms, IsMeant};
 ghost use Rattle.goal_syntax.specs.Compiles.{AreOfText, Compiles, IsAcceptedAlone};
 ghost use Rattle.goal_syntax.specs.Drafting.{HasRoom};
 ghost use Rattle.goal_syntax.specs.Equational.{are_equational, are_equational_entries, is_equational_body};
+ghost use Rattle.goal_syntax.specs.Named.{are_named};
 ghost use Rattle.goal_syntax.specs.Parts.{sites, site_at};
 ghost use Rattle.goal_syntax.specs.Tabled.{relations};
 ghost use Rattle.goal_syntax.specs.TurnWorks.{AreNumbered, meaning};
@@ -31,6 +32,7 @@ use crate::check::{SyntaxError, number_prefixes};
 use crate::form::{Form, open};
 use crate::judge_goal::Text;
 use crate::judge_text::{define, first_of_forms};
+use crate::named::are_named;
 use crate::node::Nodes;
 use crate::turn::{Prefixes, turn_both};
 use kan_model::{Draft, Program, Query};
@@ -123,19 +125,21 @@ fn are_narrow(program: &Program) -> bool
     true
 }
 
-// Closes a draft with the goals of runs, in which nothing is open. Where a goal is too wide, there is no memory for it.
-fn close(draft: Draft, queries: Queries) -> Result<Compiled, Memory>
+// Closes a draft with the goals of runs, in which nothing is open. Where a goal is too wide or a symbol has no name, there is
+// no memory for it; no text comes to that.
+fn close(draft: Draft, queries: Queries, names: &Names) -> Result<Compiled, Memory>
     requires room { HasRoom (tables draft) }
     requires closed { nothing_open (tables draft) (map goal_place queries) ≡ true }
     ensures tables { IfOk result (λ made. programs.tables made.program ≡ tables draft) }
     ensures queries { IfOk result (λ made. made.queries ≡ queries) }
     ensures closed { IfOk result (λ made. nothing_open (tables draft) (map goal_place queries) ≡ true) }
     ensures small { IfOk result (λ made. is_small (programs.meaning made.program) ≡ true) }
+    ensures named { IfOk result (λ made. are_named names.now (programs.tables made.program) ≡ true) }
 {
     let Ok(program) = draft.close(queries.items()) else {
         return Err(Memory);
     };
-    if !are_narrow(&program) {
+    if !are_narrow(&program) || !are_named(names, &program) {
         return Err(Memory);
     }
     Ok(Compiled { program, queries })
@@ -147,13 +151,14 @@ fn build_program(text: &Text, library: &[u32], forms: &[u32]) -> Result<Compiled
     requires alone { faults_of text.now.names.now [] (map (site_at (sites text.now.nodes.now)) library.now) ≡ [] }
     requires accepted { faults_of text.now.names.now (map (site_at (sites text.now.nodes.now)) library.now) (map (site_at (sites text.now.nodes.now)) forms.now) ≡ [] }
     requires relations { relations text.now.relations.now ≡ defined text.now.names.now (map (site_at (sites text.now.nodes.now)) library.now) ++ defined text.now.names.now (map (site_at (sites text.now.nodes.now)) forms.now) }
-    ensures { IfOk result (λ made. IsMeant (meant text.now.names.now (map (site_at (sites text.now.nodes.now)) library.now) (map (site_at (sites text.now.nodes.now)) forms.now)) made.program made.queries) }
+    ensures meant { IfOk result (λ made. IsMeant (meant text.now.names.now (map (site_at (sites text.now.nodes.now)) library.now) (map (site_at (sites text.now.nodes.now)) forms.now)) made.program made.queries) }
+    ensures named { IfOk result (λ made. are_named text.now.names.now (programs.tables made.program) ≡ true) }
 {
     let mut draft = Draft::new(text.alloc);
     let mut queries = ListOf::new(text.alloc);
     build_library(text, library, &mut draft)?;
     build_text(text, forms, &mut draft, &mut queries)?;
-    let compiled = close(draft, queries)?;
+    let compiled = close(draft, queries, text.names)?;
     Ok(compiled)
 }
 

@@ -5,7 +5,7 @@ ghost use Rattle.kan_model.specs.Faults.{read_text, data_are};
 ghost use Rattle.kan_model.specs.Nodes.{goal_entry};
 ghost use Rattle.kan_model.specs.Programs as programs;
 ghost use Rattle.sexpr.specs.Seen.{written, as_kept};
-ghost use Rattle.goal_syntax.specs.Compiles.{Compiles};
+ghost use Rattle.goal_syntax.specs.Compiles.{AreOfText, Compiles};
 ghost use Rattle.goal_syntax.specs.Equational.{is_equational_entry, are_equational_entries};
 ghost use Rattle.kanren_run.specs.Replies.{ComesTo, EquationsAlone};
 
@@ -64,7 +64,8 @@ fn equations_alone(compiled: Compiled) -> Result<Compiled, NotRun>
 
 // The program and the runs of a text's data. No text has more data than a u32 counts.
 fn compile_data(alloc: Global, forms: &[Datum], names: &mut Names) -> Result<Compiled, NotRun>
-    requires { length names.old + 3 < 2 ^ 32 }
+    requires few { length names.old + 3 < 2 ^ 32 }
+    requires texts { AreOfText names.old forms.now }
     ensures { (bytes : List ℕ) → read_text as_kept bytes ≡ data_are (map (written names.old) forms.now) → ComesTo bytes names.new result }
 {
     if u32::try_from(forms.len()).is_err() {

@@ -6,8 +6,8 @@ use Rattle.goal_syntax.proofs.CompilingLaws.{program_meant}
 use Rattle.goal_syntax.proofs.ClosingLaws.{nothing_is_open}
 use Rattle.goal_syntax.proofs.compiling.build_program.Goals as goal
 
-pub returns : goal.returns
-returns c =
+pub returns-clause-meant : goal.returns-clause-meant
+returns-clause-meant c =
     let ds = sites c.args.text.now.nodes.now in
     program_meant c.args.text.now.names.now (map (site_at ds) c.args.library.now) (map (site_at ds) c.args.forms.now) (relations c.args.text.now.relations.now)
     (tables c.new-draft.result) (tables c.build_library.new.draft) (tables c.build_text.new.draft) c.in_ok-compiled.compiled.program c.new-queries.result c.build_text.new.queries c.in_ok-compiled.compiled.queries

@@ -17,7 +17,8 @@ returns c =
     let ds = sites c.args.nodes.now in (
       sym (sym (ap (option_map fault_of) c.in_default.is) ∙ first_is c.args.names.now (map (site_at ds) c.args.library.now) (map (site_at ds) c.args.forms.now) _ _ _
           c.in_ok-relations.ensures.relations c.in_ok-relations.ensures.before c.in_ok-fault.ensures),
-      c.in_ok-compiled.ensures,
+      c.in_ok-compiled.ensures.meant,
+      c.in_ok-compiled.ensures.named,
     )
 
 pub build_program-requires-clause-accepted : goal.build_program-requires-clause-accepted
