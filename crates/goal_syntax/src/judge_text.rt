@@ -133,26 +133,3 @@ pub(crate) fn first_of_forms(
     judge_forms(text, before, forms, &mut faults)?;
     Ok(least(faults))
 }
-
-/// The fault of a text behind a library that comes first, where it has one.
-pub(crate) fn first_fault(
-    alloc: Global,
-    nodes: &Nodes,
-    names: &Names,
-    library: &[u32],
-    text: &[u32],
-) -> Result<Option<Fault>, Memory>
-    requires { length library.now + length text.now < 2 ^ 32 }
-    ensures { IfOk result (λ fault. option_map fault_of fault ≡ least (faults_of names.now
-        (map (site_at (sites nodes.now)) library.now) (map (site_at (sites nodes.now)) text.now))) }
-{
-    let (relations, before) = define(alloc, nodes, names, library, text)?;
-    let judged = Text {
-        alloc,
-        nodes,
-        names,
-        relations: &relations,
-    };
-    let fault = first_of_forms(&judged, before, text)?;
-    Ok(fault)
-}

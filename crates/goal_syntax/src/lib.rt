@@ -27,5 +27,5 @@ mod term;
 mod turn;
 mod word;
 
-pub use check::{SyntaxError, check_text};
+pub use check::SyntaxError;
 pub use compiling::{Compiled, Queries, compile};

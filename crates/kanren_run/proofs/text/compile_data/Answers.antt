@@ -6,3 +6,9 @@ returns-in-Ok c bytes read = data_come bytes _ _ _ _ c.equations_alone.result re
 
 pub returns-in-Err-Fault : goal.returns-in-Err-Fault
 returns-in-Err-Fault c bytes read = data_refused bytes _ _ _ _ _ _ c.in-Err-Fault.field-0-is read c.in-Err-Fault.ensures.names c.in-Err-Fault.ensures.compiled
+
+pub compile-requires-clause-texts : goal.compile-requires-clause-texts
+compile-requires-clause-texts c = (none_of_text _ _ refl, c.requires.texts)
+
+pub compile-requires-clause-library : goal.compile-requires-clause-library
+compile-requires-clause-library c = none_accepted _ _ refl
