@@ -10,36 +10,29 @@ use std::test::Fail;
 
 const LONGEST: usize = 1_048_576;
 
-// Compiles a text behind a library.
+// Compiles a text.
 fn compiled(
     rt: &(impl Abort + Alloc<A = Global>),
-    library: &[u8],
     text: &[u8],
 ) -> Result<Result<Compiled, SyntaxError>, Fail> {
-    assert!(rt; library.len() <= LONGEST);
     assert!(rt; text.len() <= LONGEST);
     let alloc = rt.alloc();
     let mut names = Names::new(alloc);
-    let Ok(before) = read(alloc, library, &mut names) else {
-        return Err(Fail::from("a fault in the library"));
-    };
     let Ok(data) = read(alloc, text, &mut names) else {
         return Err(Fail::from("a fault in the text"));
     };
-    assert!(rt; before.len() < 1000);
     assert!(rt; data.len() < 1000);
-    Ok(compile(alloc, before.as_slice(), data.as_slice(), &mut names))
+    Ok(compile(alloc, &[], data.as_slice(), &mut names))
 }
 
-// Compiles a text behind a library, and demands how many relations and runs it has.
+// Compiles a text, and demands how many relations and runs it has.
 fn demand_counts(
     rt: &(impl Abort + Alloc<A = Global>),
-    library: &[u8],
     text: &[u8],
     relations: u32,
     runs: usize,
 ) -> Result<(), Fail> {
-    let Ok(made) = compiled(rt, library, text)? else {
+    let Ok(made) = compiled(rt, text)? else {
         return Err(Fail::from("no program"));
     };
     assert_eq!(rt; made.queries.len(), runs);
@@ -50,19 +43,12 @@ fn demand_counts(
 
 #[test]
 fn counts(rt: HostRuntime) -> Result<(), Fail> {
-    demand_counts(&rt, b"", b"", 0, 0)?;
-    demand_counts(&rt, b"(defrel (f x) (== x 'a))", b"", 1, 0)?;
+    demand_counts(&rt, b"", 0, 0)?;
+    demand_counts(&rt, b"(defrel (f x) (== x 'a))", 1, 0)?;
+    demand_counts(&rt, b"(defrel (f x) (== x 'a)) (run 3 (q) (f q))", 1, 1)?;
     demand_counts(
         &rt,
-        b"(defrel (f x) (== x 'a)) (run* (q) (f q))",
-        b"(run 3 (q) (f q))",
-        1,
-        1,
-    )?;
-    demand_counts(
-        &rt,
-        b"(defrel (f x) (conde ((== x 'a)) ((fresh (y z) (== x (cons y z)) (=/= y 'b)))))",
-        b"(defrel (g x y) (f x) (disj (symbolo y) (numbero y) (absento 'c y))) (run* (q r) (g q r)) (run 2 q (f q) succeed)",
+        b"(defrel (f x) (conde ((== x 'a)) ((fresh (y z) (== x (cons y z)) (=/= y 'b))))) (defrel (g x y) (f x) (disj (symbolo y) (numbero y) (absento 'c y))) (run* (q r) (g q r)) (run 2 q (f q) succeed)",
         2,
         2,
     )
@@ -70,7 +56,7 @@ fn counts(rt: HostRuntime) -> Result<(), Fail> {
 
 #[test]
 fn nodes(rt: HostRuntime) -> Result<(), Fail> {
-    let Ok(made) = compiled(&rt, b"", b"(defrel (f x) (== x 'a)) (run 3 q (f q))")? else {
+    let Ok(made) = compiled(&rt, b"(defrel (f x) (== x 'a)) (run 3 q (f q))")? else {
         return Err(Fail::from("no program"));
     };
     let Some(run) = made.queries.get(0) else {
