@@ -26,3 +26,4 @@ pub mod TurnLowLaws
 pub mod BuildLowLaws
 pub mod CalledLaws
 pub mod ClosingLaws
+pub mod OfTextLaws
