@@ -1,3 +1,5 @@
+use Rattle.std.proofs.Common.{refl}
+use Rattle.goal_syntax.proofs.OfTextLaws.{none_of_text, none_accepted}
 use Rattle.kanren_run.proofs.TextLaws.{data_come, data_refused}
 use Rattle.kanren_run.proofs.text.compile_data.Goals as goal
 
@@ -8,7 +10,7 @@ pub returns-in-Err-Fault : goal.returns-in-Err-Fault
 returns-in-Err-Fault c bytes read = data_refused bytes _ _ _ _ _ _ c.in-Err-Fault.field-0-is read c.in-Err-Fault.ensures.names c.in-Err-Fault.ensures.compiled
 
 pub compile-requires-clause-texts : goal.compile-requires-clause-texts
-compile-requires-clause-texts c = (none_of_text _ _ refl, c.requires.texts)
+compile-requires-clause-texts c = (none_of_text c.args.names.now _ refl, c.requires.texts)
 
 pub compile-requires-clause-library : goal.compile-requires-clause-library
-compile-requires-clause-library c = none_accepted _ _ refl
+compile-requires-clause-library c = none_accepted c.args.names.now _ refl
