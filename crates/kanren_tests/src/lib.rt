@@ -22,6 +22,8 @@ mod refusals;
 #[cfg(test)]
 mod relations;
 #[cfg(test)]
+mod searching;
+#[cfg(test)]
 mod spelling;
 #[cfg(test)]
 mod stores;
