@@ -28,6 +28,8 @@ mod spelling;
 #[cfg(test)]
 mod stores;
 #[cfg(test)]
+mod streams;
+#[cfg(test)]
 mod top;
 #[cfg(test)]
 mod unifying;
