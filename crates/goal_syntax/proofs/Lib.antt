@@ -16,3 +16,4 @@ pub mod BuiltLaws
 pub mod GoalWorkLaws
 pub mod BuiltTextLaws
 pub mod CompilingLaws
+pub mod EachLaws

@@ -22,3 +22,4 @@ pub mod Built
 pub mod GoalWorks
 pub mod BuiltText
 pub mod CompiledForms
+pub mod Named

@@ -18,6 +18,7 @@ mod judge_form;
 mod judge_goal;
 mod judge_term;
 mod judge_text;
+mod named;
 mod node;
 mod relations;
 mod scope;

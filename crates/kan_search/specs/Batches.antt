@@ -1,7 +1,8 @@
 -- What an advance of a search gives, compared with what was left before it and what is left after it.
-use Rattle.std.specs.Prelude.{◌≡◌, ℕ, ◌+◌, ◌≤◌, ◌⊎◌, List, ◌++◌, length, Option, Some, None}
+use Rattle.std.specs.Prelude.{◌≡◌, ℕ, ◌+◌, ◌≤◌, ◌⊎◌, List, [], ◌++◌, length, Option, Some, None}
 use Rattle.kan_model.specs.Goals as model
 use Rattle.kan_model.specs.Stores.{Store}
+use Rattle.kan_model.specs.Streams.{Stream, heads}
 use Rattle.kan_model.specs.Taking.{Taken, Ending, nothing_more}
 use Rattle.kan_model.specs.Programs as programs
 use Rattle.kan_model.specs.declared.program.Program.{Program}
@@ -30,6 +31,11 @@ greatest_batch = 1024
 abbrev pub EndsSo : ℕ → ℕ → ℕ → Option Ended → Taken → Type 0
 EndsSo round answers pulls (Some e) after = after ≡ nothing_more (ending_of e)
 EndsSo round answers pulls None after = (answers ≡ greatest_batch) ⊎ (pulls ≡ round)
+
+-- a batch that doesn't end its run is full, or gave all stores that the stream had
+abbrev pub GaveAll : ℕ → Option Ended → Stream → Type 0
+GaveAll answers (Some e) rest = Unit {0}
+GaveAll answers None rest = (answers ≡ greatest_batch) ⊎ (heads rest ≡ [])
 
 -- what was left before a batch is the batch joined with what is left after it, and the pulls are counted
 pub record Advances (round : ℕ) (before : Taken) (pulls : ℕ) (answers : List Store) (ended : Option Ended) (after : Taken) (pulls_after : ℕ) : Type 0 where

@@ -48,8 +48,8 @@ impl<'a, St: Store> Search<'a, St> {
     ghost use Rattle.std.specs.Prelude.{ℕ, false, [], ◌∷◌, ◌<◌, length, map, IfOk, IfNone, OnOk, OnErr, IsErr};
     ghost use Rattle.kan_model.specs.Tables.{nothing_open};
     ghost use Rattle.kan_model.specs.Taking.{taken, nothing_more, with_answer, with_pull};
-    ghost use Rattle.kan_search.specs.Batches.{Advances, query_of, ending_of, joined, greatest_batch};
-    ghost use Rattle.kan_search.specs.Searches.{left};
+    ghost use Rattle.kan_search.specs.Batches.{Advances, GaveAll, query_of, ending_of, joined, greatest_batch};
+    ghost use Rattle.kan_search.specs.Searches.{left, stream_left};
     ghost use Rattle.kan_search.specs.Waiting.{GivesNone, WantsPull};
 
     /// The search of a run at a fuel from 1 to 1,000,000. A batch makes at most so many pulls as a round has, from 1 to 65,536.
@@ -174,6 +174,7 @@ impl<'a, St: Store> Search<'a, St> {
     // The next answers, where no memory was wanting before.
     fn next_batch(&mut self, alloc: Global) -> Result<Batch<St>, Memory>
         ensures batch { IfOk result (λ batch. Advances self.old.round (left St.meaning self.old) self.old.pulls (map St.meaning batch.answers) batch.ended (left St.meaning self.new) self.new.pulls) }
+        ensures gave_all { IfOk result (λ batch. GaveAll (length batch.answers) batch.ended (stream_left St.meaning self.new)) }
         ensures round { self.new.round ≡ self.old.round }
         ensures spent { self.new.spent ≡ self.old.spent }
     {
@@ -200,6 +201,7 @@ impl<'a, St: Store> Search<'a, St> {
     /// and ends again as it did. After want of memory nothing is known of what is left, and memory is wanted again.
     pub fn advance_alone(&mut self, alloc: Global) -> Result<Batch<St>, Memory>
         ensures batch { IfOk result (λ batch. Advances self.old.round (left St.meaning self.old) self.old.pulls (map St.meaning batch.answers) batch.ended (left St.meaning self.new) self.new.pulls) }
+        ensures gave_all { IfOk result (λ batch. GaveAll (length batch.answers) batch.ended (stream_left St.meaning self.new)) }
         ensures round { self.new.round ≡ self.old.round }
         ensures spent { OnErr result (self.new.spent ≡ true) }
         ensures again { self.old.spent ≡ true → IsErr result }

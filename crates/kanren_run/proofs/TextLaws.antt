@@ -1,7 +1,6 @@
 -- What becomes of a text: its program, or its refusal.
 use Rattle.std.proofs.Common.{◌≡◌, ℕ, zero, suc, ◌+◌, true, false, List, [], ◌∷◌, map, drop, unwrap_or, Some, None, Result, Ok, Err, sym, ap, subst, ◌∙◌, arith}
 use Rattle.std.specs.Prelude.{◌&&◌, slice_get}
-use Rattle.std.proofs.Math.Seq.{drop-nil}
 use Rattle.kan_model.specs.Faults.{read_text, data_are}
 use Rattle.kan_model.specs.Tables.{GoalEntry}
 use Rattle.sexpr.specs.Seen.{Table, written, as_kept}
@@ -17,29 +16,6 @@ use Rattle.kanren_run.specs.Answers.{Answered, faulty, not_built, refusal, HasFa
 use Rattle.kanren_run.specs.Replies.{HasRuns, ComesTo, EquationsAlone, IsRefused}
 use Rattle.kanren_run.specs.declared.text.NotRun.{NotRun}
 use Rattle.kanren_run.specs.declared.text.NotRun.TheVariants.{Fault, Memory}
-
--- the entries from a place on, and those from the next one on
-alone_from : (es : List GoalEntry) (i : ℕ) (e : GoalEntry) → Some e ≡ slice_get es i → are_equational_entries (drop i es) ≡ (is_equational_entry e && are_equational_entries (drop (suc i) es))
-alone_from [] i e is = absurd cc
-alone_from (x ∷ es) zero e is = let same : x ≡ e = sym (ap (λ o. unwrap_or o x) is) in ap (λ y. is_equational_entry y && are_equational_entries es) same
-alone_from (x ∷ es) (suc i) e is = alone_from es i e is
-
-alone_past : (es : List GoalEntry) (i : ℕ) → None ≡ slice_get es i → are_equational_entries (drop i es) ≡ true
-alone_past [] i is = ap are_equational_entries (drop-nil i)
-alone_past (x ∷ es) zero is = absurd cc
-alone_past (x ∷ es) (suc i) is = alone_past es i is
-
--- one entry that isn't equational, one that is, and the end
-pub one_not : (es : List GoalEntry) (i : ℕ) (e : GoalEntry) → Some e ≡ slice_get es i → is_equational_entry e ≡ false → are_equational_entries (drop i es) ≡ are_equational_entries es → false ≡ are_equational_entries es
-one_not es i e is alone all = ap (λ b. b && are_equational_entries (drop (suc i) es)) (sym alone) ∙ sym (alone_from es i e is) ∙ all
-
-pub one_more : (es : List GoalEntry) (i : ℕ) (e : GoalEntry) → Some e ≡ slice_get es i → is_equational_entry e ≡ true → are_equational_entries (drop i es) ≡ are_equational_entries es → are_equational_entries (drop (i + 1) es) ≡ are_equational_entries es
-one_more es i e is alone all =
-    let next : i + 1 ≡ suc i = omega arith in
-    ap (λ k. are_equational_entries (drop k es)) next ∙ ap (λ b. b && are_equational_entries (drop (suc i) es)) (sym alone) ∙ sym (alone_from es i e is) ∙ all
-
-pub all_alone : (es : List GoalEntry) (i : ℕ) → None ≡ slice_get es i → are_equational_entries (drop i es) ≡ are_equational_entries es → true ≡ are_equational_entries es
-all_alone es i is all = sym (alone_past es i is) ∙ all
 
 -- what data that were read come to
 pub data_come : (bytes : List ℕ) (names later : Table) (ds : List Datum) (c : Compiled) (r : Result Compiled NotRun) →

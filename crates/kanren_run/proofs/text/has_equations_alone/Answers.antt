@@ -1,10 +1,11 @@
 use Rattle.std.proofs.Common.{arith, sym, ◌∙◌}
 use Rattle.std.proofs.lemmas.Option.{slice_get_within}
-use Rattle.kanren_run.proofs.TextLaws.{one_not, one_more, all_alone}
+use Rattle.goal_syntax.specs.Equational.{is_equational_entry}
+use Rattle.goal_syntax.proofs.EachLaws.{one_fails, one_passes, all_pass}
 use Rattle.kanren_run.proofs.text.has_equations_alone.Goals as goal
 
 pub returns-then-not-is_equational : goal.returns-then-not-is_equational
-returns-then-not-is_equational c = one_not _ c.loop-node.at _ c.in-Some.ensures (sym c.is_equational.ensures ∙ c.if-not-is_equational.true) c.loop-node.invariant.alone
+returns-then-not-is_equational c = one_fails is_equational_entry _ c.loop-node.at _ c.in-Some.ensures (sym c.is_equational.ensures ∙ c.if-not-is_equational.true) c.loop-node.invariant.alone
 
 pub loop-node-smaller : goal.loop-node-smaller
 loop-node-smaller c = let within = slice_get_within _ c.loop-node.at _ (sym c.in-Some.ensures) in omega (arith, within)
@@ -14,8 +15,8 @@ loop-node-preserved c =
     let inside = slice_get_within _ c.loop-node.at _ (sym c.in-Some.ensures) in
     record {
       within = omega (arith, inside);
-      alone = one_more _ c.loop-node.at _ c.in-Some.ensures (sym c.is_equational.ensures ∙ c.if-not-is_equational.false) c.loop-node.invariant.alone;
+      alone = one_passes is_equational_entry _ c.loop-node.at _ c.in-Some.ensures (sym c.is_equational.ensures ∙ c.if-not-is_equational.false) c.loop-node.invariant.alone;
     }
 
 pub returns : goal.returns
-returns c = all_alone _ c.loop-node.at c.in_default.ensures c.loop-node.invariant.alone
+returns c = all_pass is_equational_entry _ c.loop-node.at c.in_default.ensures c.loop-node.invariant.alone
