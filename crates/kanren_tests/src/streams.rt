@@ -56,6 +56,7 @@ fn forced<'a, St: Store>(
     ensures belong { IfOk result (λ made. IfSome made.tail (IsOf St.meaning nodes.new)) }
     ensures room { IfOk result (λ made. IfSome made.tail (λ next. top (tree_of St.meaning nodes.new next) ≤ top (tree_of St.meaning nodes.old id.now) + 2 ^ 21)) }
     ensures older { standing.Grows (IsOf St.meaning nodes.old) (tree_of St.meaning nodes.old) (IsOf St.meaning nodes.new) (tree_of St.meaning nodes.new) }
+    ensures same { programs.meaning nodes.new.program.now ≡ programs.meaning nodes.old.program.now }
 {
     let stream = force(alloc, program, id, nodes)?;
     Ok(stream)
@@ -184,6 +185,50 @@ fn what_was_forced_is_kept(rt: HostRuntime) -> Result<(), Fail> {
         return Err(Fail::from("an end"));
     };
     expect_kept(&rt, &made.program, &id, &mut nodes)
+}
+
+#[test]
+fn a_second_force_finds_what_the_first_one_gave(rt: HostRuntime) -> Result<(), Fail> {
+    let alloc = rt.alloc();
+    let mut names = Names::new(alloc);
+    let text = joined(alloc, &[ALWAYSO, "(run* q (alwayso))"])?;
+    let made = compiled(&rt, &text, &mut names)?;
+    let query = first_run(&made)?;
+    let mut nodes: PlainNodes<PlainStore> = PlainNodes::new(alloc, &made.program);
+    let stream = begin(alloc, &made.program, query.goal, &mut nodes)?;
+    let Some(id) = stream.tail else {
+        return Err(Fail::from("an end"));
+    };
+    expect_found(&rt, &made.program, &id, &mut nodes)
+}
+
+// Forces a suspension, then what its stream goes on with, and then the first one again, whose stream goes on with what was
+// forced already.
+fn expect_found<'a, St: Store>(
+    rt: &(impl Abort + Alloc<A = Global>),
+    program: &Program,
+    id: &PlainId,
+    nodes: &mut PlainNodes<'a, St>,
+) -> Result<(), Fail>
+    requires goals { programs.meaning nodes.old.program.now ≡ programs.meaning program.now }
+    requires small { is_small (programs.meaning program.now) ≡ true }
+    requires built { list_all is_built (programs.tables program.now).goals ≡ true }
+    requires belongs { IsOf St.meaning nodes.old id.now }
+    requires room { top (tree_of St.meaning nodes.old id.now) ≤ 2 ^ 61 }
+{
+    let alloc = rt.alloc();
+    let stream = forced(alloc, program, id, nodes)?;
+    let Some(next) = stream.tail else {
+        return Err(Fail::from("an end"));
+    };
+    let later = forced(alloc, program, &next, nodes)?;
+    expect_stream(rt, nodes, &later, 1, "call")?;
+    let second = forced(alloc, program, id, nodes)?;
+    let Some(found) = second.tail else {
+        return Err(Fail::from("an end"));
+    };
+    assert!(rt; nodes.found(alloc, &found)?.is_some());
+    Ok(())
 }
 
 // A suspension that waits for another one, with nothing behind it.
