@@ -22,9 +22,13 @@ mod refusals;
 #[cfg(test)]
 mod relations;
 #[cfg(test)]
+mod searching;
+#[cfg(test)]
 mod spelling;
 #[cfg(test)]
 mod stores;
+#[cfg(test)]
+mod streams;
 #[cfg(test)]
 mod top;
 #[cfg(test)]
