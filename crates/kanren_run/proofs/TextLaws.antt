@@ -1,14 +1,12 @@
 -- What becomes of a text: its program, or its refusal.
-use Rattle.std.proofs.Common.{◌≡◌, ℕ, zero, suc, ◌+◌, true, false, List, [], ◌∷◌, map, drop, unwrap_or, Some, None, Result, Ok, Err, sym, ap, subst, ◌∙◌, arith}
-use Rattle.std.specs.Prelude.{◌&&◌, slice_get}
+use Rattle.std.proofs.Common.{◌≡◌, ℕ, List, [], map, None, Result, Ok, Err, sym, ap, subst, ◌∙◌}
 use Rattle.kan_model.specs.Faults.{read_text, data_are}
-use Rattle.kan_model.specs.Tables.{GoalEntry}
 use Rattle.sexpr.specs.Seen.{Table, written, as_kept}
 use Rattle.sexpr.specs.Reads.{Extends}
 use Rattle.sexpr.specs.declared.data.Datum.{Datum}
 use Rattle.goal_syntax.specs.Checks.{NamesPrefixes}
 use Rattle.goal_syntax.specs.Compiles.{Compiles, IsCompiled, fault_found, relations_meant, queries_meant}
-use Rattle.goal_syntax.specs.Equational.{are_equational, is_equational_entry, are_equational_entries}
+use Rattle.goal_syntax.specs.Equational.{are_equational}
 use Rattle.goal_syntax.specs.declared.check.SyntaxError.{SyntaxError}
 use Rattle.goal_syntax.specs.declared.check.SyntaxError.TheVariants as syntax
 use Rattle.goal_syntax.specs.declared.compiling.Compiled.{Compiled}

@@ -1,4 +1,4 @@
-use Rattle.std.proofs.Common.{arith, sym, ◌∙◌, length}
+use Rattle.std.proofs.Common.{arith, sym, ◌∙◌}
 use Rattle.std.proofs.lemmas.Option.{slice_get_within}
 use Rattle.goal_syntax.specs.Named.{is_goal_named}
 use Rattle.goal_syntax.proofs.EachLaws.{one_fails, one_passes, all_pass}
