@@ -1,9 +1,10 @@
 //! Runs of relations: the order of answers, pulls, limits and fuel.
 
 use crate::asking::{
-    ALWAYSO, APPENDO, LISTO, MEMBERO, NEVERO, expect_done, expect_fueled, joined, repeated,
+    ALWAYSO, APPENDO, LISTO, MEMBERO, NEVERO, expect, expect_done, expect_fueled, joined, repeated,
 };
 use kan_base::Status;
+use std::alloc::{AllocError, Global};
 use std::test::Fail;
 
 const ALW: &str = "(defrel (alw q x) (conde ((== q x)) ((alw q x)))) ";
@@ -91,7 +92,7 @@ fn a_limit_of_none_pulls_nothing(rt: HostRuntime) -> Result<(), Fail> {
 #[test]
 fn fuel_is_a_hundred_thousand_where_nothing_is_said(rt: HostRuntime) -> Result<(), Fail> {
     let text = joined(rt.alloc(), &[NEVERO, "(run* q (nevero))"])?;
-    crate::asking::expect(
+    expect(
         &rt,
         text.as_bytes(),
         64,
@@ -181,7 +182,7 @@ fn relations_that_call_each_other(rt: HostRuntime) -> Result<(), Fail> {
 }
 
 // The text of a list of the numbers below a count.
-fn numbers(alloc: std::alloc::Global, count: u32) -> Result<String, std::alloc::AllocError> {
+fn numbers(alloc: Global, count: u32) -> Result<String, AllocError> {
     let mut text = String::new(alloc);
     text.push_str("(")?;
     for number in 0..count {
