@@ -24,6 +24,8 @@ mod relations;
 #[cfg(test)]
 mod searching;
 #[cfg(test)]
+mod solving;
+#[cfg(test)]
 mod spelling;
 #[cfg(test)]
 mod stores;

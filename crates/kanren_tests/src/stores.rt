@@ -34,8 +34,8 @@ fn expect_nothing_known<S: Store>(rt: &(impl Abort + Alloc<A = Global>)) -> Resu
     Ok(())
 }
 
-// The store with three variables and two equal terms, where there is one.
-fn equal<S: Store>(alloc: Global, prim: &Prim) -> Result<Option<S>, Memory>
+/// The store with three variables and two equal terms, where there is one.
+pub(crate) fn equal<S: Store>(alloc: Global, prim: &Prim) -> Result<Option<S>, Memory>
     requires below { sides_below 3 (primitive prim.now) ≡ true }
     requires equation { is_equation (primitive prim.now) ≡ true }
 {

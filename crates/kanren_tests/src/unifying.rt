@@ -9,8 +9,8 @@ use std::alloc::Global;
 use std::test::Fail;
 use unify_core::{occurs, unify, walk};
 
-// No bindings.
-fn none_bound<B: Bindings>(alloc: Global) -> Result<B, Memory>
+/// No bindings.
+pub(crate) fn none_bound<B: Bindings>(alloc: Global) -> Result<B, Memory>
     ensures { IfOk result (λ made. HasNoCycle (B.pairs made)) }
 {
     let made = B::empty(alloc)?;
