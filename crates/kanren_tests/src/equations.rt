@@ -226,24 +226,25 @@ fn limits_of_answers(rt: HostRuntime) -> Result<(), Fail> {
 }
 
 #[test]
-fn high_terms(rt: HostRuntime) -> Result<(), Fail> {
+fn a_term_high_in_its_first_parts(rt: HostRuntime) -> Result<(), Fail> {
     let alloc = rt.alloc();
     let opened = repeated(alloc, "(cons ", 1_000)?;
     let closed = repeated(alloc, " 2)", 1_000)?;
     let text = joined(alloc, &["(run* q (== q ", &opened, "1", &closed, "))"])?;
-    let value = joined(
-        alloc,
-        &[
-            &repeated(alloc, "(", 1_000)?,
-            "1",
-            &repeated(alloc, " . 2)", 1_000)?,
-        ],
-    )?;
-    expect_value(&rt, &text, &value)?;
+    let firsts = repeated(alloc, "(", 1_000)?;
+    let rests = repeated(alloc, " . 2)", 1_000)?;
+    let value = joined(alloc, &[&firsts, "1", &rests])?;
+    expect_value(&rt, &text, &value)
+}
+
+#[test]
+fn a_term_high_in_its_rests(rt: HostRuntime) -> Result<(), Fail> {
+    let alloc = rt.alloc();
     let opened = repeated(alloc, "(cons 1 ", 680)?;
     let closed = repeated(alloc, ")", 680)?;
     let text = joined(alloc, &["(run* q (== q ", &opened, "()", &closed, "))"])?;
-    let value = joined(alloc, &["(1", &repeated(alloc, " 1", 679)?, ")"])?;
+    let ones = repeated(alloc, " 1", 679)?;
+    let value = joined(alloc, &["(1", &ones, ")"])?;
     expect_value(&rt, &text, &value)
 }
 

@@ -5,6 +5,7 @@ use crate::asking::{
 };
 use kan_base::Status;
 use std::alloc::{AllocError, Global};
+use std::process::Abort;
 use std::test::Fail;
 
 const ALW: &str = "(defrel (alw q x) (conde ((== q x)) ((alw q x)))) ";
@@ -192,19 +193,28 @@ fn numbers(alloc: Global, count: u32) -> Result<String, AllocError> {
     Ok(text)
 }
 
+// Demands the output of a search in all splits of a list of so many numbers, none of which has what is looked for.
+fn expect_load(
+    rt: &(impl Abort + Alloc<A = Global>),
+    count: u32,
+    output: &str,
+) -> Result<(), Fail> {
+    let list = numbers(rt.alloc(), count)?;
+    let run = joined(
+        rt.alloc(),
+        &[
+            "(run* q (fresh (x y) (appendo x y '",
+            &list,
+            ") (membero 'none x)))",
+        ],
+    )?;
+    expect_done(rt, &[APPENDO, MEMBERO, &run], output)
+}
+
 #[test]
 fn pulls_of_a_search_that_finds_nothing(rt: HostRuntime) -> Result<(), Fail> {
-    let alloc = rt.alloc();
-    let before = "(run* q (fresh (x y) (appendo x y '";
-    let after = ") (membero 'none x)))";
-    for (count, output) in [
-        (3, "; 0 answers, 14 pulls, end\n"),
-        (20, "; 0 answers, 252 pulls, end\n"),
-    ] {
-        let list = numbers(alloc, count)?;
-        expect_done(&rt, &[APPENDO, MEMBERO, before, &list, after], output)?;
-    }
-    Ok(())
+    expect_load(&rt, 3, "; 0 answers, 14 pulls, end\n")?;
+    expect_load(&rt, 20, "; 0 answers, 252 pulls, end\n")
 }
 
 #[test]
