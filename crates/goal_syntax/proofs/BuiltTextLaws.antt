@@ -8,9 +8,9 @@ use Rattle.std.proofs.lemmas.List.Folds.{list_all-append}
 use Rattle.kan_model.specs.Goals as model
 use Rattle.kan_model.specs.Goals.{Template, Goal}
 use Rattle.kan_model.specs.Tables.{Tables, RelationEntry, goals_of, with_relation}
-use Rattle.kan_model.specs.GoalForms.{GoalForms}
-use Rattle.kan_model.specs.TopForms.{Defined}
-use Rattle.kan_model.specs.Resolved.{conjunction, goals_in, within}
+use Rattle.kan_grammar.specs.GoalForms.{GoalForms}
+use Rattle.kan_grammar.specs.TopForms.{Defined}
+use Rattle.kan_grammar.specs.Resolved.{conjunction, goals_in, within}
 use Rattle.kan_model.specs.declared.nodes.Query.{Query}
 use Rattle.goal_syntax.specs.BuiltText.{Means, query_asked, query_made, relation_made, relation_meant}
 use Rattle.goal_syntax.specs.Drafting.{HasTemplate, HasGoal, Grows}

@@ -3,9 +3,9 @@ use Rattle.std.specs.Prelude.{◌≡◌, ℕ, Bool, true, ◌&&◌, List, [], �
 use Rattle.std.specs.List.{list_all}
 use Rattle.kan_model.specs.Text.{Table}
 use Rattle.kan_model.specs.Goals.{Template}
-use Rattle.kan_model.specs.Sited.{Sited}
+use Rattle.kan_grammar.specs.Sited.{Sited}
 use Rattle.kan_model.specs.Scope.{is_low}
-use Rattle.kan_model.specs.Resolved.{Names, template_in}
+use Rattle.kan_grammar.specs.Resolved.{Names, template_in}
 use Rattle.goal_syntax.specs.Building.{built, paired}
 use Rattle.goal_syntax.specs.TermSteps.{task_form}
 use Rattle.goal_syntax.specs.declared.build_term.Work.{Work}

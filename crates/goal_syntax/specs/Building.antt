@@ -3,9 +3,9 @@ use Rattle.std.specs.Prelude.{◌≡◌, ℕ, ◌+◌, true, List, [], ◌∷◌
 use Rattle.kan_terms.specs.Tree.{Tree}
 use Rattle.kan_model.specs.Text.{Table}
 use Rattle.kan_model.specs.Goals.{Template}
-use Rattle.kan_model.specs.Sited.{Sited}
+use Rattle.kan_grammar.specs.Sited.{Sited}
 use Rattle.kan_model.specs.Tables.{Tables, template_at, templates_of}
-use Rattle.kan_model.specs.Resolved.{Names, template_in}
+use Rattle.kan_grammar.specs.Resolved.{Names, template_in}
 use Rattle.goal_syntax.specs.Drafting.{Grows, HasRoom}
 use Rattle.goal_syntax.specs.Turning.{are_below}
 use Rattle.goal_syntax.specs.TermSteps.{task_form, task_size}

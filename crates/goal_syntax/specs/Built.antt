@@ -1,10 +1,10 @@
 -- The goals that were built, and the entries that stand for goals.
 use Rattle.std.specs.Prelude.{◌≡◌, ℕ, Bool, true, ◌&&◌, List, ◌∷◌, Option, Some, None, map, length, reverse}
 use Rattle.kan_model.specs.Text.{Table}
-use Rattle.kan_model.specs.Sited.{Sited}
+use Rattle.kan_grammar.specs.Sited.{Sited}
 use Rattle.kan_model.specs.Goals.{Goal}
-use Rattle.kan_model.specs.TopForms.{Defined}
-use Rattle.kan_model.specs.Resolved.{Names, goal_in}
+use Rattle.kan_grammar.specs.TopForms.{Defined}
+use Rattle.kan_grammar.specs.Resolved.{Names, goal_in}
 use Rattle.kan_model.specs.Calls.{call_there}
 use Rattle.kan_model.specs.Tables.{GoalEntry, RelationEntry, Tables, templates_of, goal_at, goals_of, goal_of, is_goal_grown}
 use Rattle.kan_model.specs.Nodes.{goal_entry}

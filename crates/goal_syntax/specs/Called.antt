@@ -3,7 +3,7 @@ use Rattle.std.specs.Prelude.{◌≡◌, Bool, true, ◌&&◌, List, length, sli
 use Rattle.std.specs.List.{list_all}
 use Rattle.kan_model.specs.Goals.{Goal, Relation, Query}
 use Rattle.kan_model.specs.Calls.{call_there, entry_takes}
-use Rattle.kan_model.specs.Sited.{Sited}
+use Rattle.kan_grammar.specs.Sited.{Sited}
 use Rattle.kan_model.specs.Tables.{GoalEntry, RelationEntry, Tables}
 use Rattle.goal_syntax.specs.Low.{KeepsLow}
 

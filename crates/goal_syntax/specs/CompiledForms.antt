@@ -1,10 +1,10 @@
 -- What compiling the top forms of a text answers.
 use Rattle.std.specs.Prelude.{◌≡◌, List, map, true, Some, None, Result, Ok, Err}
-use Rattle.kan_model.specs.Faults as faults
+use Rattle.kan_grammar.specs.Faults as faults
 use Rattle.kan_model.specs.Text.{Table}
-use Rattle.kan_model.specs.Sited.{Sited}
-use Rattle.kan_model.specs.TextFaults.{faults_of, least}
-use Rattle.kan_model.specs.ProgramText.{Meant, meant}
+use Rattle.kan_grammar.specs.Sited.{Sited}
+use Rattle.kan_grammar.specs.TextFaults.{faults_of, least}
+use Rattle.kan_grammar.specs.ProgramText.{Meant, meant}
 use Rattle.kan_model.specs.Scope.{is_small}
 use Rattle.kan_model.specs.Tables.{nothing_open}
 use Rattle.kan_model.specs.Nodes.{goal_place}

@@ -1,11 +1,11 @@
 -- What compiling a text answers.
 use Rattle.std.specs.Prelude.{◌≡◌, ℕ, ◌++◌, [], List, map, true, Option, Some, None, Result, Ok, Err}
-use Rattle.kan_model.specs.Faults as faults
+use Rattle.kan_grammar.specs.Faults as faults
 use Rattle.kan_model.specs.Goals as model
 use Rattle.kan_model.specs.Text.{Table}
-use Rattle.kan_model.specs.TextFaults.{fault_of_text, IsAccepted}
-use Rattle.kan_model.specs.Faults.{read_text, data_are}
-use Rattle.kan_model.specs.ProgramText.{program_of_text, queries_of_text}
+use Rattle.kan_grammar.specs.TextFaults.{fault_of_text, IsAccepted}
+use Rattle.kan_grammar.specs.Faults.{read_text, data_are}
+use Rattle.kan_grammar.specs.ProgramText.{program_of_text, queries_of_text}
 use Rattle.kan_model.specs.Scope.{is_small}
 use Rattle.kan_model.specs.Tables.{nothing_open}
 use Rattle.kan_model.specs.Nodes.{goal_place}

@@ -1,7 +1,7 @@
 -- How many pairs high data are, and which of them and of templates are low.
 use Rattle.std.specs.Prelude.{◌≡◌, ℕ, suc, max, Bool, true, nat_le, List}
 use Rattle.std.specs.List.{list_all}
-use Rattle.kan_model.specs.Sited.{Sited}
+use Rattle.kan_grammar.specs.Sited.{Sited}
 use Rattle.kan_model.specs.Scope.{is_low}
 use Rattle.kan_model.specs.Tables.{Tables, templates_of}
 

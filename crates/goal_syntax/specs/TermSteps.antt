@@ -2,8 +2,8 @@
 use Rattle.std.specs.Prelude.{ℕ, ◌+◌, true, false, List}
 use Rattle.kan_terms.specs.Tree.{Tree}
 use Rattle.kan_model.specs.Text.{Table}
-use Rattle.kan_model.specs.Sited.{Sited, is_proper, constant}
-use Rattle.kan_model.specs.TermForms.{Use, TermForm, bad_term, term_form, list_form, template_form}
+use Rattle.kan_grammar.specs.Sited.{Sited, is_proper, constant}
+use Rattle.kan_grammar.specs.TermForms.{Use, TermForm, bad_term, term_form, list_form, template_form}
 use Rattle.goal_syntax.specs.Parts.{site_at}
 use Rattle.goal_syntax.specs.declared.term.Task.{Task}
 use Rattle.goal_syntax.specs.declared.term.Task.TheVariants.{Term, Terms, Template, Constant}

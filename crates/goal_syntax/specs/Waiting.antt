@@ -2,8 +2,8 @@
 use Rattle.std.specs.Prelude.{ℕ, ◌+◌, List, [], ◌∷◌, ◌++◌}
 use Rattle.kan_terms.specs.Tree.{leaves}
 use Rattle.kan_model.specs.Text.{Table}
-use Rattle.kan_model.specs.Sited.{Sited}
-use Rattle.kan_model.specs.TermForms.{Use, variable, misshapen}
+use Rattle.kan_grammar.specs.Sited.{Sited}
+use Rattle.kan_grammar.specs.TermForms.{Use, variable, misshapen}
 use Rattle.goal_syntax.specs.TermSteps.{task_form, task_size}
 use Rattle.goal_syntax.specs.declared.term.Task.{Task}
 use Rattle.goal_syntax.specs.declared.term.Step.{Step}

@@ -2,10 +2,10 @@
 
 ghost use Rattle.std.specs.Prelude.{◌≡◌, ◌&&◌, ◌<◌, ◌∷◌, ◌++◌, [], List, length, IfOk, OnOk};
 ghost use Rattle.kan_model.specs.Goals as model;
-ghost use Rattle.kan_model.specs.TopForms.{head as head_of, head_name};
-ghost use Rattle.kan_model.specs.GoalForms.{goal_forms};
-ghost use Rattle.kan_model.specs.ProgramText.{relations_in, queries_in};
-ghost use Rattle.kan_model.specs.Resolved.{conjunction, goals_in, within};
+ghost use Rattle.kan_grammar.specs.TopForms.{head as head_of, head_name};
+ghost use Rattle.kan_grammar.specs.GoalForms.{goal_forms};
+ghost use Rattle.kan_grammar.specs.ProgramText.{relations_in, queries_in};
+ghost use Rattle.kan_grammar.specs.Resolved.{conjunction, goals_in, within};
 ghost use Rattle.kan_model.specs.Drafts.{tables};
 ghost use Rattle.kan_model.specs.Nodes.{relation_entry};
 ghost use Rattle.kan_model.specs.Tables.{with_relation};

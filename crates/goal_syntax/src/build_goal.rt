@@ -1,9 +1,9 @@
 //! Building goals.
 
 ghost use Rattle.std.specs.Prelude.{List, ◌≡◌, ◌&&◌, ◌<◌, ◌≤◌, ◌+◌, ◌∷◌, ◌++◌, [], length, reverse, true, IfOk, OnOk};
-ghost use Rattle.kan_model.specs.Binders.{binder as binder_of};
-ghost use Rattle.kan_model.specs.GoalForms.{goal_forms};
-ghost use Rattle.kan_model.specs.Resolved.{Names, conjunction, goals_in, within};
+ghost use Rattle.kan_grammar.specs.Binders.{binder as binder_of};
+ghost use Rattle.kan_grammar.specs.GoalForms.{goal_forms};
+ghost use Rattle.kan_grammar.specs.Resolved.{Names, conjunction, goals_in, within};
 ghost use Rattle.kan_model.specs.Drafts.{tables};
 ghost use Rattle.goal_syntax.specs.Low.{KeepsLow};
 ghost use Rattle.kan_model.specs.Tables.{RelationEntry};

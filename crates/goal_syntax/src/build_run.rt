@@ -3,10 +3,10 @@
 ghost use Rattle.std.specs.Prelude.{true, ◌≤◌, ◌≡◌, ◌&&◌, ◌<◌, ◌∷◌, [], None, ℕ, List, length, IfOk, OnOk};
 ghost use Rattle.kan_terms.specs.Tree.{leaf};
 ghost use Rattle.kan_model.specs.Goals as model;
-ghost use Rattle.kan_model.specs.Binders.{binder as binder_of};
-ghost use Rattle.kan_model.specs.GoalForms.{goal_forms};
-ghost use Rattle.kan_model.specs.ProgramText.{slot_list};
-ghost use Rattle.kan_model.specs.Resolved.{conjunction, goals_in, within};
+ghost use Rattle.kan_grammar.specs.Binders.{binder as binder_of};
+ghost use Rattle.kan_grammar.specs.GoalForms.{goal_forms};
+ghost use Rattle.kan_grammar.specs.ProgramText.{slot_list};
+ghost use Rattle.kan_grammar.specs.Resolved.{conjunction, goals_in, within};
 ghost use Rattle.kan_model.specs.Drafts.{tables, templates};
 ghost use Rattle.goal_syntax.specs.Called.{KeepsClosed, are_there, calls_named};
 ghost use Rattle.std.specs.List.{list_all};

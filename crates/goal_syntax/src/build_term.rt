@@ -1,9 +1,9 @@
 //! Building templates of terms.
 
 ghost use Rattle.std.specs.Prelude.{◌≡◌, ◌∷◌, ◌+◌, ◌<◌, ◌≤◌, map, length, reverse, unwrap_or, true, IfOk, OnOk, List, ℕ};
-ghost use Rattle.kan_model.specs.GoalForms.{term_forms};
-ghost use Rattle.kan_model.specs.ProgramText.{slot_list};
-ghost use Rattle.kan_model.specs.Resolved.{template_in, slot_of};
+ghost use Rattle.kan_grammar.specs.GoalForms.{term_forms};
+ghost use Rattle.kan_grammar.specs.ProgramText.{slot_list};
+ghost use Rattle.kan_grammar.specs.Resolved.{template_in, slot_of};
 ghost use Rattle.kan_model.specs.Tables.{is_term_grown, template_at, template_of};
 ghost use Rattle.kan_model.specs.Nodes.{term_entry};
 ghost use Rattle.kan_model.specs.Drafts.{tables, templates};

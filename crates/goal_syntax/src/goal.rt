@@ -2,9 +2,9 @@
 
 ghost use Rattle.std.specs.Prelude.{◌≡◌, ◌+◌, ◌<◌, ◌≤◌, List, true};
 ghost use Rattle.kan_model.specs.Text.{Table};
-ghost use Rattle.kan_model.specs.Sited.{Sited, name, pair, count};
-ghost use Rattle.kan_model.specs.GoalForms.{goal_form, fresh_form, is_count, parts_of, atom_goal};
-ghost use Rattle.kan_model.specs.Language.{word};
+ghost use Rattle.kan_grammar.specs.Sited.{Sited, name, pair, count};
+ghost use Rattle.kan_grammar.specs.GoalForms.{goal_form, fresh_form, is_count, parts_of, atom_goal};
+ghost use Rattle.kan_grammar.specs.Language.{word};
 ghost use Rattle.goal_syntax.specs.Meaning.{word_of};
 ghost use Rattle.goal_syntax.specs.Parts.{sites, site_at};
 ghost use Rattle.goal_syntax.specs.TermSteps.{site_size};

@@ -1,8 +1,5 @@
 pub mod OutputExamples
 pub mod LettersLaws
-pub mod SolvingLaws
-pub mod SolvingSteps
-pub mod PlainLaws
 pub mod RunExamples
 pub mod ConstraintExamples
 pub mod MeaningExamples
@@ -21,27 +18,9 @@ pub mod FormLaws
 pub mod ByteOrder
 pub mod AnswerLaws
 pub mod OwnForm
-pub mod Carried
-mod Complete
-mod CutExamples
-pub mod Cutting
-mod DeepExamples
-pub mod Exactly
-mod Examples
-mod First
-mod LongExamples
-mod OrderExamples
-mod PrintExamples
-mod RefusalExamples
-mod Sound
-mod TokenExamples
-mod WordExamples
 pub mod TableLaws
 pub mod NoteLaws
 pub mod RowLaws
 pub mod ScopeLaws
 pub mod EntryLaws
 pub mod EnvironmentLaws
-mod TextExamples
-mod FaultExamples
-mod ProgramExamples

@@ -3,7 +3,6 @@ pub mod Stores
 pub mod Prims
 pub mod Solve
 pub mod Letters
-pub mod Solving
 pub mod Kept
 pub mod Streams
 pub mod Running
@@ -23,14 +22,6 @@ pub mod InForm
 pub mod Covers
 pub mod Tables
 pub mod Unifiers
-pub mod Words
-pub mod Tokens
-pub mod Written
-pub mod Open
-pub mod Faults
-pub mod Printed
-pub mod Made
-pub mod Laws
 pub mod Needs
 pub mod Nodes
 pub mod Notes
@@ -39,12 +30,3 @@ pub mod Programs
 pub mod Calls
 pub mod Flat
 pub mod Environments
-pub mod Sited
-pub mod Language
-pub mod Binders
-pub mod TermForms
-pub mod GoalForms
-pub mod TopForms
-pub mod Resolved
-pub mod ProgramText
-pub mod TextFaults

@@ -2,9 +2,9 @@
 use Rattle.std.specs.Prelude.{◌≡◌, ℕ, Bool, true, false, List, [], ◌++◌, map, Option, Some, None}
 use Rattle.std.specs.List.{list_any}
 use Rattle.kan_model.specs.Goals.{Program, Query}
-use Rattle.kan_model.specs.Open.{as_written}
-use Rattle.kan_model.specs.Faults.{Fault, fault, Reading, data_are, refused, read_text}
-use Rattle.kan_model.specs.ProgramText.{program_of_text, queries_of_text}
+use Rattle.kan_grammar.specs.Open.{as_written}
+use Rattle.kan_grammar.specs.Faults.{Fault, fault, Reading, data_are, refused, read_text}
+use Rattle.kan_grammar.specs.ProgramText.{program_of_text, queries_of_text}
 use Rattle.kan_model.specs.Taking.{Ending, taken}
 use Rattle.kan_model.specs.Output.{runs_output}
 use Rattle.sexpr.specs.Seen.{Table, written, as_kept}

@@ -1,7 +1,7 @@
 //! Texts: their program and their runs.
 
 ghost use Rattle.std.specs.Prelude.{◌≡◌, ◌+◌, ◌<◌, ◌≤◌, ◌^◌, [], length, map, List, ℕ};
-ghost use Rattle.kan_model.specs.Faults.{read_text, data_are};
+ghost use Rattle.kan_grammar.specs.Faults.{read_text, data_are};
 ghost use Rattle.kan_model.specs.Nodes.{goal_entry};
 ghost use Rattle.kan_model.specs.Programs as programs;
 ghost use Rattle.sexpr.specs.Seen.{written, as_kept};

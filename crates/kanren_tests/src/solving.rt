@@ -7,7 +7,8 @@ ghost use Rattle.kan_terms.specs.Terms.{tree};
 
 use crate::stores::equal;
 use crate::unifying::none_bound;
-use kan_model::{PlainStore, Prim};
+use kan_model::Prim;
+use kan_plain::PlainStore;
 use kan_subst::ListBindings;
 use kan_terms::Term;
 use std::alloc::Global;

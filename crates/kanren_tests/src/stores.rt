@@ -6,7 +6,8 @@ ghost use Rattle.kan_model.specs.Prims.{prim as primitive};
 ghost use Rattle.kan_model.specs.Scope.{sides_below};
 ghost use Rattle.kan_model.specs.StoreCalls.{is_equation};
 
-use kan_model::{PlainStore, Prim, Store};
+use kan_model::{Prim, Store};
+use kan_plain::PlainStore;
 use kan_terms::{Memory, Term};
 use std::alloc::Global;
 use std::process::Abort;

@@ -12,7 +12,8 @@ ghost use Rattle.kan_search.specs.Suspensions.{tree_of, IsOf, LeavesRoom};
 
 use crate::asking::{ALWAYSO, NEVERO, joined};
 use crate::compiled::{compiled, first_run};
-use kan_model::{Env, PlainStore, Program, Store};
+use kan_model::{Env, Program, Store};
+use kan_plain::PlainStore;
 use kan_terms::{ListOf, Memory, Names};
 use std::alloc::Global;
 use std::process::Abort;

@@ -1,6 +1,6 @@
 use Rattle.std.proofs.Common.{◌≡◌, ◌∷◌, [], reverse, length, true}
 use Rattle.kan_model.specs.Drafts.{tables, templates}
-use Rattle.kan_model.specs.Resolved.{template_in}
+use Rattle.kan_grammar.specs.Resolved.{template_in}
 use Rattle.goal_syntax.specs.Building.{AddsTerms, built, finish, works_size}
 use Rattle.std.specs.List.{list_all}
 use Rattle.kan_model.specs.Scope.{is_low}

@@ -1,7 +1,7 @@
 use Rattle.std.proofs.Common.{◌≡◌, ◌++◌, map, length, true}
 use Rattle.kan_model.specs.Drafts.{tables, templates}
-use Rattle.kan_model.specs.GoalForms.{term_forms}
-use Rattle.kan_model.specs.Resolved.{template_in}
+use Rattle.kan_grammar.specs.GoalForms.{term_forms}
+use Rattle.kan_grammar.specs.Resolved.{template_in}
 use Rattle.kan_model.specs.Tables.{template_at}
 use Rattle.goal_syntax.specs.Building.{AddsTerms}
 use Rattle.goal_syntax.specs.Low.{KeepsLow}

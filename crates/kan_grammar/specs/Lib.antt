@@ -1,0 +1,17 @@
+pub mod Words
+pub mod Tokens
+pub mod Written
+pub mod Open
+pub mod Faults
+pub mod Made
+pub mod Printed
+pub mod Laws
+pub mod Sited
+pub mod Language
+pub mod Binders
+pub mod TermForms
+pub mod GoalForms
+pub mod TopForms
+pub mod Resolved
+pub mod ProgramText
+pub mod TextFaults
