@@ -1,6 +1,6 @@
 //! The laws that tie the grammar of data to the reading of tokens. Each function has its law for its contract, and does nothing.
 
-ghost use Rattle.kan_grammar.specs.Laws.{CutsBefore, EndsAtLine, ReadsExactly, RefusesFirst};
+ghost use Rattle.kan_grammar.specs.Data.Laws.{CutsBefore, EndsAtLine, ReadsExactly, RefusesFirst};
 
 /// Tokens are read as data exactly where they spell these data and they are allowed: so they spell at most one row of them.
 pub fn reads_exactly()

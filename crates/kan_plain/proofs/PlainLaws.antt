@@ -7,23 +7,23 @@ use Rattle.kan_terms.specs.Tree.{Tree, Tm, term_eq}
 use Rattle.kan_terms.proofs.TreeLaws.{term_eq-true, eq-term_eq}
 use Rattle.std.proofs.lemmas.Bool.{eqb-true, eq-eqb}
 use Rattle.kan_terms.specs.declared.terms.TermPair.{TermPair}
-use Rattle.kan_model.specs.Goals.{Primitive}
-use Rattle.kan_model.specs.Stores.{Equation, equations}
-use Rattle.kan_model.specs.Solve.{Replaced, Replacement, solve, apply, left_first}
-use Rattle.kan_model.specs.Scope.{all_below, sides_below}
-use Rattle.kan_model.proofs.SolveLaws.{solve_by-nothing}
-use Rattle.kan_model.proofs.ReplacedLaws.{applied_twice}
+use Rattle.kan_model.specs.Programs.Goals.{Primitive}
+use Rattle.kan_model.specs.Stores.Store.{Equation, equations}
+use Rattle.kan_model.specs.Stores.Solve.{Replaced, Replacement, solve, apply, left_first}
+use Rattle.kan_model.specs.Programs.Scope.{all_below, sides_below}
+use Rattle.kan_model.proofs.Solving.SolveLaws.{solve_by-nothing}
+use Rattle.kan_model.proofs.Solving.ReplacedLaws.{applied_twice}
 use Rattle.kan_terms.specs.Terms.{tree}
 use Rattle.kan_terms.specs.declared.terms.Term.{Term}
 use Rattle.std.specs.Borrow.{Bor}
 use Rattle.std.proofs.lemmas.List.Elements.{All-nil}
-use Rattle.kan_model.specs.Prims.{prim as primitive}
+use Rattle.kan_model.specs.Stores.Prims.{prim as primitive}
 use Rattle.kan_model.specs.declared.prims.Asserted.{Asserted}
-use Rattle.kan_model.specs.Kept.{is_kept, holds_with, holds_under, allows, gives_one_type, makes_symbol, makes_number}
-use Rattle.kan_model.specs.Answers.{same_form, same_pair, has_absence}
-use Rattle.kan_model.specs.StoreCalls.{is_equation, is_answer, answer, kind_at, AreTags, AreDifferences, differences, IsFoundFor, WalksTo}
+use Rattle.kan_model.specs.Stores.Kept.{is_kept, holds_with, holds_under, allows, gives_one_type, makes_symbol, makes_number}
+use Rattle.kan_model.specs.Answers.Answer.{same_form, same_pair, has_absence}
+use Rattle.kan_model.specs.Stores.Calls.{is_equation, is_answer, answer, kind_at, AreTags, AreDifferences, differences, IsFoundFor, WalksTo}
 use Rattle.kan_plain.specs.Solving.{backwards, stacked, IsImage}
-use Rattle.kan_model.specs.Prims.{equation}
+use Rattle.kan_model.specs.Stores.Prims.{equation}
 
 -- the equations of two lists
 pub equations-append : (ps qs : List (Primitive Tm)) → equations (ps ++ qs) ≡ equations ps ++ equations qs

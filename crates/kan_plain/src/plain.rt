@@ -2,14 +2,14 @@
 
 ghost use Rattle.std.specs.Prelude.{◌≡◌, ◌^◌, ◌≤◌, ◌++◌, ◌∷◌, [], true, map, IfOk, OnOk, IsTrue, option_map};
 ghost use Rattle.std.specs.List.{list_all};
-ghost use Rattle.kan_model.specs.Solve.{solve as solved_by};
-ghost use Rattle.kan_model.specs.Kept.{is_kept};
-ghost use Rattle.kan_model.specs.Scope.{is_counted};
-ghost use Rattle.kan_model.specs.StoreCalls.{is_equation, is_answer, Gives};
-ghost use Rattle.kan_model.specs.Stores.{equations};
-ghost use Rattle.kan_model.specs.Prims.{prim as primitive};
+ghost use Rattle.kan_model.specs.Stores.Solve.{solve as solved_by};
+ghost use Rattle.kan_model.specs.Stores.Kept.{is_kept};
+ghost use Rattle.kan_model.specs.Programs.Scope.{is_counted};
+ghost use Rattle.kan_model.specs.Stores.Calls.{is_equation, is_answer, Gives};
+ghost use Rattle.kan_model.specs.Stores.Store.{equations};
+ghost use Rattle.kan_model.specs.Stores.Prims.{prim as primitive};
 ghost use Rattle.kan_plain.specs.Solving.{replaced_by, stacked};
-ghost use Rattle.kan_model.specs.Prims.{equation};
+ghost use Rattle.kan_model.specs.Stores.Prims.{equation};
 
 use kan_model::{Kind, Prim as Asserted, Store, copied};
 use crate::solving::{Replaced, copied_answer, found, solve};

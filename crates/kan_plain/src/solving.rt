@@ -4,10 +4,10 @@ ghost use Rattle.std.specs.Prelude.{◌≡◌, [], ◌∷◌, ◌++◌, map, IfO
 ghost use Rattle.std.specs.List.{flat_map};
 ghost use Rattle.kan_terms.specs.Terms.{tree};
 ghost use Rattle.kan_terms.specs.Tree.{Tree};
-ghost use Rattle.kan_model.specs.Letters.{spelling, spliced};
-ghost use Rattle.kan_model.specs.Solve as spec;
+ghost use Rattle.kan_model.specs.Terms.Letters.{spelling, spliced};
+ghost use Rattle.kan_model.specs.Stores.Solve as spec;
 ghost use Rattle.kan_plain.specs.Solving.{replaced_by, IsImage, work_of, apply_sides, finished, stacked, StepTo};
-ghost use Rattle.kan_model.specs.Prims.{equation};
+ghost use Rattle.kan_model.specs.Stores.Prims.{equation};
 
 use kan_model::{Letter, build, occurs_in, same_terms, spell};
 use kan_terms::{Memory, Term, TermPair};

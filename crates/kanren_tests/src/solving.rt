@@ -1,8 +1,8 @@
 //! The plain store beside unification over bindings: two ways to one answer.
 
 ghost use Rattle.std.specs.Prelude.{◌≡◌, true};
-ghost use Rattle.kan_model.specs.Goals.{Primitive};
-ghost use Rattle.kan_model.specs.Scope.{sides_below};
+ghost use Rattle.kan_model.specs.Programs.Goals.{Primitive};
+ghost use Rattle.kan_model.specs.Programs.Scope.{sides_below};
 ghost use Rattle.kan_terms.specs.Terms.{tree};
 
 use crate::stores::equal;

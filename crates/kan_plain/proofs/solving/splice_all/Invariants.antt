@@ -1,5 +1,5 @@
 use Rattle.std.proofs.Common.{◌≡◌, take, map, flat_map}
-use Rattle.kan_model.specs.Letters.{spliced}
+use Rattle.kan_model.specs.Terms.Letters.{spliced}
 use Rattle.kan_plain.specs.Solving.{replaced_by}
 use Rattle.kan_plain.proofs.solving.splice_all.Given as goal
 
