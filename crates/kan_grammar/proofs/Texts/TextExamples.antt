@@ -4,8 +4,8 @@ use Rattle.kan_model.specs.Answers.Text.{Table}
 use Rattle.kan_grammar.specs.Data.Written.{Written}
 use Rattle.kan_grammar.specs.Data.Faults.{Fault, Reading, data_are, refused}
 use Rattle.kan_grammar.specs.Texts.Language.{Spelled, spelled, form_names, goal_names, constraint_names, term_names, word}
-use Rattle.kan_grammar.specs.Texts.Sited.{sited}
-use Rattle.kan_grammar.specs.Texts.ProgramText.{Meant, meant}
+use Rattle.kan_grammar.specs.Texts.Sited.{with_sites}
+use Rattle.kan_grammar.specs.Texts.ProgramText.{Meant, text_meaning}
 use Rattle.kan_grammar.specs.Texts.TextFaults.{fault_of_text, faults_of}
 use Rattle.kan_grammar.proofs.Data.Examples.{read_ascii}
 use lib.Chars.{codes}
@@ -38,5 +38,5 @@ fault_behind library bytes = fault_of_text table (text library) (text bytes)
 
 -- what a text means without the library
 unfoldable pub meaning : List ℕ → Meant
-unfolding meant word text
-meaning bytes = meant table [] (map (sited table) (text bytes))
+unfolding text_meaning word text
+meaning bytes = text_meaning table [] (map (with_sites table) (text bytes))

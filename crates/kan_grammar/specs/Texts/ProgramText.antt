@@ -5,8 +5,8 @@ use Rattle.kan_terms.specs.Tree.{Tree}
 use Rattle.kan_model.specs.Programs.Goals.{Template, Primitive, Goal, Relation, Program, Query}
 use Rattle.kan_model.specs.Answers.Text.{Table}
 use Rattle.kan_grammar.specs.Data.Written.{Written}
-use Rattle.kan_grammar.specs.Texts.Sited.{Sited, sited}
-use Rattle.kan_grammar.specs.Texts.TopForms.{Form, relation, run_of_one, run_of_list, misshapen, unknown, form, Defined, defined}
+use Rattle.kan_grammar.specs.Texts.Sited.{Sited, with_sites}
+use Rattle.kan_grammar.specs.Texts.TopForms.{Form, relation, run_of_one, run_of_list, misshapen, unknown, form, Defined, definitions}
 use Rattle.kan_grammar.specs.Texts.Binders.{Checked}
 use Rattle.kan_grammar.specs.Texts.Resolved.{within, conjunction, goals_in}
 
@@ -41,15 +41,15 @@ pub record Meant : Type 0 where
   pub queries : List Query
 
 -- what the data of a text mean behind those of a library
-unfoldable pub meant : Table → List Sited → List Sited → Meant
-meant t library text = record { relations = relations_of t (defined t (library ++ text)) (library ++ text); queries = queries_of t (defined t (library ++ text)) text }
+unfoldable pub text_meaning : Table → List Sited → List Sited → Meant
+text_meaning t library text = record { relations = relations_of t (definitions t (library ++ text)) (library ++ text); queries = queries_of t (definitions t (library ++ text)) text }
 
 -- the program of a text behind a library: its relations, with their bodies and the goals of the runs
 abbrev pub program_of_text : Table → List Written → List Written → Program
 program_of_text t library text =
-    let m = meant t (map (sited t) library) (map (sited t) text) in
+    let m = text_meaning t (map (with_sites t) library) (map (with_sites t) text) in
     record { relations = m.relations; goals = map (λ r. r.body) m.relations ++ map (λ q. q.goal) m.queries }
 
 -- the runs of a text
 abbrev pub queries_of_text : Table → List Written → List Written → List Query
-queries_of_text t library text = (meant t (map (sited t) library) (map (sited t) text)).queries
+queries_of_text t library text = (text_meaning t (map (with_sites t) library) (map (with_sites t) text)).queries

@@ -28,24 +28,24 @@ abbrev pub symbol_number : Table → List ℕ → ℕ
 symbol_number table text = unwrap_or (number_of table text) (length table)
 
 -- an atom at an offset; those that no datum may be stand for nothing
-abbrev pub sited_atom : Table → ℕ → Atom → Sited
-sited_atom table at (symbol s) = Sited.name at (symbol_number table s)
-sited_atom table at (number n) = Sited.num at n
-sited_atom table at (truth b) = Sited.bool at b
-sited_atom table at out_of_range = Sited.nil at
-sited_atom table at reserved = Sited.nil at
+abbrev pub atom_with_site : Table → ℕ → Atom → Sited
+atom_with_site table at (symbol s) = Sited.name at (symbol_number table s)
+atom_with_site table at (number n) = Sited.num at n
+atom_with_site table at (truth b) = Sited.bool at b
+atom_with_site table at out_of_range = Sited.nil at
+atom_with_site table at reserved = Sited.nil at
 
 -- a datum as it is written; a prefixed one is a list of two, which begins at the prefix, as the symbol does that the prefix stands for
 abbrev mutual
-  pub sited : Table → Written → Sited
-  sited table (single at a) = sited_atom table at a
-  sited table (list at s inner) = sited_within table at inner
-  sited table (prefixed at p d) = Sited.pair at (Sited.name at (symbol_number table (prefix_name p))) (Sited.pair at (sited table d) (Sited.nil at))
+  pub with_sites : Table → Written → Sited
+  with_sites table (single at a) = atom_with_site table at a
+  with_sites table (list at s inner) = within_sites table at inner
+  with_sites table (prefixed at p d) = Sited.pair at (Sited.name at (symbol_number table (prefix_name p))) (Sited.pair at (with_sites table d) (Sited.nil at))
 
-  pub sited_within : Table → ℕ → Within → Sited
-  sited_within table at (close end) = Sited.nil at
-  sited_within table at (dotted point d end) = sited table d
-  sited_within table at (element d inner) = Sited.pair at (sited table d) (sited_within table at inner)
+  pub within_sites : Table → ℕ → Within → Sited
+  within_sites table at (close end) = Sited.nil at
+  within_sites table at (dotted point d end) = with_sites table d
+  within_sites table at (element d inner) = Sited.pair at (with_sites table d) (within_sites table at inner)
 
 -- the datum as a constant: all its symbols stand for themselves
 abbrev pub constant : {V : Type 0} → Sited → Tree V
