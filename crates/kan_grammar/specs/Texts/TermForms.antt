@@ -1,7 +1,7 @@
 -- Terms as they are written: trees whose leaves are uses of variables, and spots of bad shape.
 use Rattle.std.specs.Prelude.{ℕ, Bool, true, false}
 use Rattle.kan_terms.specs.Tree.{Tree}
-use Rattle.kan_model.specs.Answers.Text.{Table}
+use Rattle.kan_terms.specs.Table.{Table}
 use Rattle.kan_grammar.specs.Texts.Sited.{Sited, constant, is_proper}
 use Rattle.kan_grammar.specs.Texts.Language.{Word, head_word}
 
@@ -28,6 +28,7 @@ quote_form at _ = bad_term at
 abbrev mutual
   pub term_form : Table → Sited → TermForm
   term_form t (Sited.name at s) = Tree.leaf (Use.variable at s)
+  term_form t (Sited.text at s) = Tree.str s
   term_form t (Sited.num at n) = Tree.num n
   term_form t (Sited.bool at b) = Tree.truth b
   term_form t (Sited.nil at) = Tree.nil
@@ -56,6 +57,7 @@ abbrev mutual
 
   pub template_form : Table → Sited → TermForm
   template_form t (Sited.name at s) = Tree.sym s
+  template_form t (Sited.text at s) = Tree.str s
   template_form t (Sited.num at n) = Tree.num n
   template_form t (Sited.bool at b) = Tree.truth b
   template_form t (Sited.nil at) = Tree.nil

@@ -2,7 +2,7 @@
 use Rattle.std.specs.Prelude.{◌≡◌, ℕ, Bool, true, false, ◌==◌, ◌&&◌, ◌||◌, nat_lt, nat_le, List, [], ◌∷◌, ◌++◌, Option, Some, None, map, length, is_some, if◌then◌else◌}
 use Rattle.std.specs.List.{flat_map}
 use Rattle.kan_terms.specs.Tree.{leaves}
-use Rattle.kan_model.specs.Answers.Text.{Table}
+use Rattle.kan_terms.specs.Table.{Table}
 use Rattle.kan_grammar.specs.Data.Written.{Written}
 use Rattle.kan_grammar.specs.Data.Faults.{Fault, fault}
 use Rattle.kan_grammar.specs.Texts.Sited.{Sited, with_sites}
@@ -41,10 +41,12 @@ abbrev mutual
   goal_faults ds ns (GoalForm.differ u v) = term_faults ns u ++ term_faults ns v
   goal_faults ds ns (GoalForm.symbol u) = term_faults ns u
   goal_faults ds ns (GoalForm.number u) = term_faults ns u
+  goal_faults ds ns (GoalForm.text u) = term_faults ns u
   goal_faults ds ns (GoalForm.absent tag u) = tag.faults ++ term_faults ns u
   goal_faults ds ns (GoalForm.fresh b gs) = b.faults ++ goals_faults ds (within ns b.value) gs
   goal_faults ds ns (GoalForm.all_of gs) = goals_faults ds ns gs
   goal_faults ds ns (GoalForm.one_of gs) = goals_faults ds ns gs
+  goal_faults ds ns (GoalForm.clauses gs) = goals_faults ds ns gs
   goal_faults ds ns (GoalForm.call at s args) = call_faults (arity ds s) at (length args) ++ flat_map (term_faults ns) args
   goal_faults ds ns (GoalForm.misshapen at) = fault at 10 ∷ []
 
