@@ -2,9 +2,9 @@
 use Rattle.std.proofs.Common.{◌≡◌, ℕ, zero, suc, ◌+◌, ◌-◌, ◌≤◌, Bool, true, false, cond, List, [], ◌∷◌, ◌++◌, length, take, drop, refl, sym, ap, ◌∙◌, arith}
 use Rattle.std.proofs.lemmas.List.{take-append-le}
 use Rattle.std.proofs.lemmas.List.Sums.{prefix_len-le-length}
-use Rattle.std.specs.Prelude.{not, take_while, ◌==◌, if◌then◌else◌, Option, None, Some, option_map, IfSome}
+use Rattle.std.specs.Prelude.{not, take_while, ◌==◌, if◌then◌else◌, Option, None, Some, option_map}
 use Rattle.std.specs.List.{prefix_len}
-use Rattle.kan_grammar.specs.Data.Words.{Token, prefix, unquote, bad, bad_string, atom, string, is_word_byte, word_token}
+use Rattle.kan_grammar.specs.Data.Words.{Token, prefix, unquote, bad, atom, string, is_word_byte, word_token}
 use Rattle.kan_grammar.specs.Data.Tokens.{Placed, placed, Piece, blank, spelled, piece, more, placed_before, tokens_from, tokens, Start, separator, comment, whole, comma, hash, quotation, in_word, string_piece, start, piece_of, hash_token}
 use Rattle.kan_grammar.specs.Data.Strings.{Role, role, begins_escape, length_by, string_length, string_meaning}
 use Rattle.kan_grammar.specs.Data.Laws.{EndsAtLine, CutsBefore}

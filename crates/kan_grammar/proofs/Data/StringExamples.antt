@@ -1,8 +1,8 @@
 -- Strings: their tokens, what no string may hold, and their printing.
-use Rattle.std.specs.Prelude.{◌≡◌, ℕ, List, [], ◌∷◌, ◌++◌, map, refl}
-use Rattle.kan_grammar.specs.Data.Tokens.{Placed, placed}
+use Rattle.std.specs.Prelude.{◌≡◌, ℕ, List, [], ◌∷◌, map, refl}
+use Rattle.kan_grammar.specs.Data.Tokens.{placed}
 use Rattle.kan_grammar.specs.Data.Words.{symbol, string, opening, closing, round, prefix, quote, atom, bad, bad_string}
-use Rattle.kan_grammar.specs.Data.Faults.{Reading, data_are, refused, fault}
+use Rattle.kan_grammar.specs.Data.Faults.{Reading, refused, fault}
 use Rattle.kan_grammar.specs.Data.Written.{Written}
 use Rattle.kan_grammar.proofs.Data.Examples.{cut, read, reprinted}
 use lib.Chars.{codes}

@@ -1,5 +1,5 @@
 -- What the examples of texts share: a table of names, and the readings of texts over it.
-use Rattle.std.specs.Prelude.{ℕ, List, [], ◌∷◌, ◌++◌, Option, Some, None, map}
+use Rattle.std.specs.Prelude.{ℕ, List, [], ◌∷◌, ◌++◌, Option, map}
 use Rattle.kan_terms.specs.Table.{Table}
 use Rattle.kan_grammar.specs.Data.Written.{Written}
 use Rattle.kan_grammar.specs.Data.Faults.{Fault, Reading, data_are, refused}

@@ -1,5 +1,5 @@
 -- Goals as they are written: trees of goals, in which spots of bad shape are marked.
-use Rattle.std.specs.Prelude.{ℕ, Bool, true, false, ◌==◌, nat_le, List, [], ◌∷◌, Option, Some, None}
+use Rattle.std.specs.Prelude.{ℕ, Bool, true, false, ◌==◌, nat_le, List, [], ◌∷◌, Option, Some}
 use Rattle.kan_terms.specs.Table.{Table}
 use Rattle.kan_grammar.specs.Texts.Sited.{Sited, site, is_proper, count, first, rest}
 use Rattle.kan_grammar.specs.Texts.Language.{Word, word}

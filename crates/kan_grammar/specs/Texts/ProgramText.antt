@@ -1,5 +1,5 @@
 -- The program and the runs that an accepted text gives.
-use Rattle.std.specs.Prelude.{ℕ, suc, List, [], ◌∷◌, ◌++◌, Option, Some, None, map, length}
+use Rattle.std.specs.Prelude.{ℕ, suc, List, [], ◌∷◌, ◌++◌, None, map, length}
 use Rattle.std.specs.List.{flat_map}
 use Rattle.kan_terms.specs.Tree.{Tree}
 use Rattle.kan_model.specs.Programs.Goals.{Template, Primitive, Goal, Relation, Program, Query}
@@ -7,8 +7,7 @@ use Rattle.kan_terms.specs.Table.{Table}
 use Rattle.kan_grammar.specs.declared.dialect.Dialect.{Dialect}
 use Rattle.kan_grammar.specs.Data.Written.{Written}
 use Rattle.kan_grammar.specs.Texts.Sited.{Sited, with_sites}
-use Rattle.kan_grammar.specs.Texts.TopForms.{Form, relation, run_of_one, run_of_list, misshapen, unknown, form, Defined, definitions}
-use Rattle.kan_grammar.specs.Texts.Binders.{Checked}
+use Rattle.kan_grammar.specs.Texts.TopForms.{Form, relation, run_of_one, run_of_list, form, Defined, definitions}
 use Rattle.kan_grammar.specs.Texts.Resolved.{within, conjunction, suspended_in, goals_in}
 
 -- the list of as many slots as there are names, from one on

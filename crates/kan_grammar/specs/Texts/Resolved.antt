@@ -1,10 +1,9 @@
 -- What names stand for: the slots of variables, the numbers of relations, and the goals that goals as they are written stand for.
-use Rattle.std.specs.Prelude.{ℕ, suc, Bool, true, false, ◌==◌, List, [], ◌∷◌, ◌++◌, Option, Some, None, map, length, option_map, unwrap_or, if◌then◌else◌}
+use Rattle.std.specs.Prelude.{ℕ, suc, Bool, false, ◌==◌, List, [], ◌∷◌, ◌++◌, Option, Some, None, map, length, option_map, unwrap_or, if◌then◌else◌}
 use Rattle.kan_terms.specs.Tree.{Tree, fill}
 use Rattle.kan_model.specs.Programs.Goals.{Template, Primitive, Goal}
 use Rattle.kan_grammar.specs.declared.dialect.Dialect.{Dialect}
 use Rattle.kan_grammar.specs.declared.dialect.Dialect.TheVariants.{Book, All}
-use Rattle.kan_grammar.specs.Texts.Binders.{Checked}
 use Rattle.kan_grammar.specs.Texts.TermForms.{Use, variable, misshapen, TermForm}
 use Rattle.kan_grammar.specs.Texts.GoalForms.{GoalForm, GoalForms, none, more}
 use Rattle.kan_grammar.specs.Texts.TopForms.{Defined}

@@ -1,5 +1,5 @@
 -- Data as trees of pairs, where each part has its offset, and symbols and strings are numbers of a table of names.
-use Rattle.std.specs.Prelude.{ℕ, ℤ, Bool, true, false, List, [], ◌∷◌, Option, Some, None, is_some, length, unwrap_or, option_map}
+use Rattle.std.specs.Prelude.{ℕ, ℤ, Bool, List, [], ◌∷◌, Option, Some, None, is_some, length, unwrap_or, option_map}
 use Rattle.kan_terms.specs.Tree.{Tree}
 use Rattle.kan_terms.specs.Table.{Table, number_of}
 use Rattle.kan_grammar.specs.Data.Words.{Atom, symbol, string, number, truth, out_of_range, reserved}

@@ -7,7 +7,6 @@ use Rattle.kan_grammar.specs.Data.Written.{Written}
 use Rattle.kan_grammar.specs.Data.Faults.{Fault, fault}
 use Rattle.kan_grammar.specs.Texts.Sited.{Sited, with_sites}
 use Rattle.kan_grammar.specs.Texts.Language.{word, is_other}
-use Rattle.kan_grammar.specs.Texts.Binders.{Checked}
 use Rattle.kan_grammar.specs.Texts.TermForms.{Use, variable, misshapen, TermForm}
 use Rattle.kan_grammar.specs.Texts.GoalForms.{GoalForm, GoalForms, none, more}
 use Rattle.kan_grammar.specs.Texts.TopForms.{NameAt, name_at, Form, relation, run_of_one, run_of_list, unknown, form, Defined, definitions_of, definitions}

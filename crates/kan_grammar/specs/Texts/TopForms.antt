@@ -1,5 +1,5 @@
 -- Top forms as they are written, and the relations that they define.
-use Rattle.std.specs.Prelude.{ℕ, ◌^◌, pos, Bool, true, false, nat_lt, nat_le, ◌&&◌, List, [], ◌∷◌, ◌++◌, Option, Some, None, length, if◌then◌else◌}
+use Rattle.std.specs.Prelude.{ℕ, ◌^◌, pos, false, nat_lt, List, [], ◌∷◌, ◌++◌, Option, Some, None, length, if◌then◌else◌}
 use Rattle.std.specs.List.{flat_map}
 use Rattle.kan_terms.specs.Table.{Table}
 use Rattle.kan_grammar.specs.Data.Faults.{Fault, fault}
