@@ -8,7 +8,7 @@ use Rattle.goal_syntax.specs.declared.relations.Defined.{Defined as Row}
 use Rattle.kan_model.specs.Answers.Text.{Table}
 use Rattle.kan_grammar.specs.Texts.Sited.{Sited, elements}
 use Rattle.kan_grammar.specs.Data.Faults.{Fault}
-use Rattle.kan_grammar.specs.Texts.TopForms.{Defined, form, defined, defined_by, defined_by_head}
+use Rattle.kan_grammar.specs.Texts.TopForms.{Defined, form, definitions, definitions_of, definitions_of_head}
 use Rattle.kan_grammar.specs.Texts.Language.{Word, word, head_word, is_other}
 use Rattle.std.proofs.lemmas.Grind.{flat_map-append}
 use Rattle.kan_grammar.specs.Texts.TextFaults.{form_faults, forms_faults, faults_of, least}
@@ -24,36 +24,36 @@ passed rs front ours theirs split =
     ap (take (length front + length ours)) split ∙ take-append-add front (ours ++ theirs) (length ours) ∙ ap (λ l. front ++ l) (take-append_seam ours theirs)
 
 -- a form is passed: its relations come behind those before it
-pub before_step : (t : Table) (ds : List Sited) (rs : List Defined) (forms : List ℕ) (i b k : ℕ) → i < length forms → b ≤ length rs → rs ≡ take b rs ++ defined t (map (site_at ds) (drop i forms)) →
-    k ≡ length (defined_by t (site_at ds (get_or forms i 0))) → take (b + k) rs ≡ take b rs ++ defined_by t (site_at ds (get_or forms i 0))
+pub before_step : (t : Table) (ds : List Sited) (rs : List Defined) (forms : List ℕ) (i b k : ℕ) → i < length forms → b ≤ length rs → rs ≡ take b rs ++ definitions t (map (site_at ds) (drop i forms)) →
+    k ≡ length (definitions_of t (site_at ds (get_or forms i 0))) → take (b + k) rs ≡ take b rs ++ definitions_of t (site_at ds (get_or forms i 0))
 before_step t ds rs forms i b k here within later count =
-    let ours = defined_by t (site_at ds (get_or forms i 0)) in
-    let theirs = defined t (map (site_at ds) (drop (i + 1) forms)) in
-    let split : rs ≡ take b rs ++ (ours ++ theirs) = later ∙ ap (λ l. take b rs ++ defined t (map (site_at ds) l)) (next_place forms i here) in
+    let ours = definitions_of t (site_at ds (get_or forms i 0)) in
+    let theirs = definitions t (map (site_at ds) (drop (i + 1) forms)) in
+    let split : rs ≡ take b rs ++ (ours ++ theirs) = later ∙ ap (λ l. take b rs ++ definitions t (map (site_at ds) l)) (next_place forms i here) in
     let size : length (take b rs) ≡ b = length-take-le b rs within in
     let place : b + k ≡ length (take b rs) + length ours = omega arith in
     ap (λ n. take n rs) place ∙ passed rs (take b rs) ours theirs split
 
-pub within_step : (t : Table) (ds : List Sited) (rs : List Defined) (forms : List ℕ) (i b k : ℕ) → i < length forms → b ≤ length rs → rs ≡ take b rs ++ defined t (map (site_at ds) (drop i forms)) →
-    k ≡ length (defined_by t (site_at ds (get_or forms i 0))) → b + k ≤ length rs
+pub within_step : (t : Table) (ds : List Sited) (rs : List Defined) (forms : List ℕ) (i b k : ℕ) → i < length forms → b ≤ length rs → rs ≡ take b rs ++ definitions t (map (site_at ds) (drop i forms)) →
+    k ≡ length (definitions_of t (site_at ds (get_or forms i 0))) → b + k ≤ length rs
 within_step t ds rs forms i b k here within later count =
-    let ours = defined_by t (site_at ds (get_or forms i 0)) in
-    let theirs = defined t (map (site_at ds) (drop (i + 1) forms)) in
-    let split : rs ≡ take b rs ++ (ours ++ theirs) = later ∙ ap (λ l. take b rs ++ defined t (map (site_at ds) l)) (next_place forms i here) in
+    let ours = definitions_of t (site_at ds (get_or forms i 0)) in
+    let theirs = definitions t (map (site_at ds) (drop (i + 1) forms)) in
+    let split : rs ≡ take b rs ++ (ours ++ theirs) = later ∙ ap (λ l. take b rs ++ definitions t (map (site_at ds) l)) (next_place forms i here) in
     let size : length (take b rs) ≡ b = length-take-le b rs within in
     let all : length rs ≡ length (take b rs) + (length ours + length theirs) = ap length split ∙ length-append (take b rs) (ours ++ theirs) ∙ ap (λ n. length (take b rs) + n) (length-append ours theirs) in
     omega arith
 
-pub later_step : (t : Table) (ds : List Sited) (rs : List Defined) (forms : List ℕ) (i b k : ℕ) → i < length forms → b ≤ length rs → rs ≡ take b rs ++ defined t (map (site_at ds) (drop i forms)) →
-    k ≡ length (defined_by t (site_at ds (get_or forms i 0))) → rs ≡ take (b + k) rs ++ defined t (map (site_at ds) (drop (i + 1) forms))
+pub later_step : (t : Table) (ds : List Sited) (rs : List Defined) (forms : List ℕ) (i b k : ℕ) → i < length forms → b ≤ length rs → rs ≡ take b rs ++ definitions t (map (site_at ds) (drop i forms)) →
+    k ≡ length (definitions_of t (site_at ds (get_or forms i 0))) → rs ≡ take (b + k) rs ++ definitions t (map (site_at ds) (drop (i + 1) forms))
 later_step t ds rs forms i b k here within later count =
-    let ours = defined_by t (site_at ds (get_or forms i 0)) in
-    let theirs = defined t (map (site_at ds) (drop (i + 1) forms)) in
-    let split : rs ≡ take b rs ++ (ours ++ theirs) = later ∙ ap (λ l. take b rs ++ defined t (map (site_at ds) l)) (next_place forms i here) in
+    let ours = definitions_of t (site_at ds (get_or forms i 0)) in
+    let theirs = definitions t (map (site_at ds) (drop (i + 1) forms)) in
+    let split : rs ≡ take b rs ++ (ours ++ theirs) = later ∙ ap (λ l. take b rs ++ definitions t (map (site_at ds) l)) (next_place forms i here) in
     split ∙ sym (append_assoc (take b rs) ours theirs) ∙ ap (λ l. l ++ theirs) (sym (before_step t ds rs forms i b k here within later count))
 
 pub faults_step : (t : Table) (ds : List Sited) (rs : List Defined) (forms : List ℕ) (i b k : ℕ) (noted more whole : List Fault) → i < length forms → b ≤ length rs →
-    rs ≡ take b rs ++ defined t (map (site_at ds) (drop i forms)) → k ≡ length (defined_by t (site_at ds (get_or forms i 0))) →
+    rs ≡ take b rs ++ definitions t (map (site_at ds) (drop i forms)) → k ≡ length (definitions_of t (site_at ds (get_or forms i 0))) →
     more ≡ noted ++ form_faults t rs (take b rs) (form t (site_at ds (get_or forms i 0))) → noted ++ forms_faults t rs (take b rs) (map (site_at ds) (drop i forms)) ≡ whole →
     more ++ forms_faults t rs (take (b + k) rs) (map (site_at ds) (drop (i + 1) forms)) ≡ whole
 faults_step t ds rs forms i b k noted more whole here within later count judged kept =
@@ -64,7 +64,7 @@ faults_step t ds rs forms i b k noted more whole here within later count judged 
     ∙ sym (ap (λ l. noted ++ forms_faults t rs (take b rs) (map (site_at ds) l)) (next_place forms i here)) ∙ kept
 
 -- a top form defines one relation at most
-head_at_most_one : (t : Table) (parts : Option (List Sited)) → length (defined_by_head t parts) ≤ 1
+head_at_most_one : (t : Table) (parts : Option (List Sited)) → length (definitions_of_head t parts) ≤ 1
 head_at_most_one t None = omega arith
 head_at_most_one t (Some []) = omega arith
 head_at_most_one t (Some (Sited.name at s ∷ params)) = by_test (is_other (word t s))
@@ -77,7 +77,7 @@ head_at_most_one t (Some (Sited.bool at b ∷ params)) = omega arith
 head_at_most_one t (Some (Sited.nil at ∷ params)) = omega arith
 head_at_most_one t (Some (Sited.pair at a d ∷ params)) = omega arith
 
-at_most_one : (t : Table) (d : Sited) → length (defined_by t d) ≤ 1
+at_most_one : (t : Table) (d : Sited) → length (definitions_of t d) ≤ 1
 at_most_one t (Sited.name at s) = omega arith
 at_most_one t (Sited.num at n) = omega arith
 at_most_one t (Sited.bool at b) = omega arith
@@ -88,27 +88,27 @@ at_most_one t (Sited.pair at h (Sited.bool end b)) = omega arith
 at_most_one t (Sited.pair at h (Sited.nil end)) = omega arith
 at_most_one t (Sited.pair at h (Sited.pair later hd parts)) = by_word (head_word t h)
   where
-    by_word : (w : Word) → length (elim w as (λ x. List Defined) [ Word.defrel ↦ defined_by_head t (elements hd) | _ ↦ [] ]) ≤ 1
+    by_word : (w : Word) → length (elim w as (λ x. List Defined) [ Word.defrel ↦ definitions_of_head t (elements hd) | _ ↦ [] ]) ≤ 1
     by_word Word.defrel = head_at_most_one t (elements hd)
     by_word w = omega arith
 
 -- there are no more relations than forms
-pub few_defined : (t : Table) (ds : List Sited) → length (defined t ds) ≤ length ds
+pub few_defined : (t : Table) (ds : List Sited) → length (definitions t ds) ≤ length ds
 few_defined t [] = omega arith
 few_defined t (d ∷ ds) =
-    let all : length (defined t (d ∷ ds)) ≡ length (defined_by t d) + length (defined t ds) = length-append (defined_by t d) (defined t ds) in
+    let all : length (definitions t (d ∷ ds)) ≡ length (definitions_of t d) + length (definitions t ds) = length-append (definitions_of t d) (definitions t ds) in
     let one = at_most_one t d in
     let others = few_defined t ds in
     omega arith
 
 -- rows to which the relations of forms were added
-pub few_rows : (t : Table) (ds : List Sited) (forms : List ℕ) (old new : List Row) → related new ≡ related old ++ defined t (map (site_at ds) forms) → length new ≤ length old + length forms
+pub few_rows : (t : Table) (ds : List Sited) (forms : List ℕ) (old new : List Row) → related new ≡ related old ++ definitions t (map (site_at ds) forms) → length new ≤ length old + length forms
 few_rows t ds forms old new added =
     let few = few_defined t (map (site_at ds) forms) in
     let forms_size : length (map (site_at ds) forms) ≡ length forms = simp length-map in
     let new_size : length (related new) ≡ length new = simp length-map in
     let old_size : length (related old) ≡ length old = simp length-map in
-    let all : length (related new) ≡ length (related old) + length (defined t (map (site_at ds) forms)) = ap length added ∙ length-append (related old) (defined t (map (site_at ds) forms)) in
+    let all : length (related new) ≡ length (related old) + length (definitions t (map (site_at ds) forms)) = ap length added ∙ length-append (related old) (definitions t (map (site_at ds) forms)) in
     omega arith
 
 -- the relations of a library stand before those of a text
@@ -116,9 +116,9 @@ pub before_text : (rs library text : List Defined) (n : ℕ) → rs ≡ library 
 before_text rs library text n split size = ap (take n) split ∙ ap (λ k. take k (library ++ text)) size ∙ take-append_seam library text
 
 -- the first fault of the forms of a text is that of the text behind its library
-pub first_is : (t : Table) (library text : List Sited) (rs : List Defined) (n : ℕ) (r : Option Fault) → rs ≡ defined t library ++ defined t text → n ≡ length (defined t library) →
+pub first_is : (t : Table) (library text : List Sited) (rs : List Defined) (n : ℕ) (r : Option Fault) → rs ≡ definitions t library ++ definitions t text → n ≡ length (definitions t library) →
     r ≡ least (forms_faults t rs (take n rs) text) → r ≡ least (faults_of t library text)
 unfolding faults_of
 first_is t library text rs n r split size found =
-    let all : rs ≡ defined t (library ++ text) = split ∙ sym (flat_map-append (defined_by t) library text) in
-    found ∙ ap (λ b. least (forms_faults t rs b text)) (before_text rs (defined t library) (defined t text) n split size) ∙ ap (λ l. least (forms_faults t l (defined t library) text)) all
+    let all : rs ≡ definitions t (library ++ text) = split ∙ sym (flat_map-append (definitions_of t) library text) in
+    found ∙ ap (λ b. least (forms_faults t rs b text)) (before_text rs (definitions t library) (definitions t text) n split size) ∙ ap (λ l. least (forms_faults t l (definitions t library) text)) all

@@ -1,7 +1,7 @@
 //! The faults of texts, and the one that comes first.
 
 ghost use Rattle.std.specs.Prelude.{◌≡◌, ◌<◌, ◌≤◌, ◌+◌, ◌^◌, ◌++◌, length, take, map, IfOk, OnOk, option_map};
-ghost use Rattle.kan_grammar.specs.Texts.TopForms.{defined, defined_by as defined_by_form};
+ghost use Rattle.kan_grammar.specs.Texts.TopForms.{definitions, definitions_of as defined_by_form};
 ghost use Rattle.kan_grammar.specs.Texts.TextFaults.{is_before, first_of, least, forms_faults, faults_of};
 ghost use Rattle.goal_syntax.specs.FaultLists.{fault_of, fault_list};
 ghost use Rattle.goal_syntax.specs.Parts.{sites, site_at};
@@ -9,7 +9,7 @@ ghost use Rattle.goal_syntax.specs.Related.{related};
 ghost use Rattle.goal_syntax.specs.Tabled.{relations};
 
 use crate::fault::Fault;
-use crate::form::{defined_by, open};
+use crate::form::{definitions_of, open};
 use crate::judge_form::judge_form;
 use crate::judge_goal::Text;
 use crate::node::Nodes;
@@ -52,10 +52,10 @@ pub(crate) fn define_all(
     forms: &[u32],
     rows: &mut Vec<Defined>,
 ) -> Result<(), Memory>
-    ensures { OnOk result (related rows.new.items ≡ related rows.old.items ++ defined names.now (map (site_at (sites nodes.now)) forms.now)) }
+    ensures { OnOk result (related rows.new.items ≡ related rows.old.items ++ definitions names.now (map (site_at (sites nodes.now)) forms.now)) }
 {
     for place in forms {
-        if let Some(relation) = defined_by(nodes, names, *place) {
+        if let Some(relation) = definitions_of(nodes, names, *place) {
             rows.push(relation)?;
         }
     }
@@ -66,7 +66,7 @@ pub(crate) fn define_all(
 fn count_defined(nodes: &Nodes, names: &Names, place: u32) -> u32
     ensures { result ≡ length (defined_by_form names.now (site_at (sites nodes.now) place)) }
 {
-    match defined_by(nodes, names, place) {
+    match definitions_of(nodes, names, place) {
         Some(_) => 1,
         None => 0,
     }
@@ -82,7 +82,7 @@ pub(crate) fn judge_forms(
     requires few { length (relations text.now.relations.now) < 2 ^ 32 }
     requires before { before ≤ length (relations text.now.relations.now) }
     requires later { relations text.now.relations.now ≡ take before (relations text.now.relations.now)
-        ++ defined text.now.names.now (map (site_at (sites text.now.nodes.now)) forms.now) }
+        ++ definitions text.now.names.now (map (site_at (sites text.now.nodes.now)) forms.now) }
     ensures { OnOk result (fault_list faults.new.items ≡ fault_list faults.old.items
         ++ forms_faults text.now.names.now (relations text.now.relations.now) (take before (relations text.now.relations.now))
         (map (site_at (sites text.now.nodes.now)) forms.now)) }
@@ -104,8 +104,8 @@ pub(crate) fn define(
 ) -> Result<(Relations, u32), Memory>
     requires { length library.now + length text.now < 2 ^ 32 }
     ensures relations { IfOk result (λ made. relations made.0
-        ≡ defined names.now (map (site_at (sites nodes.now)) library.now) ++ defined names.now (map (site_at (sites nodes.now)) text.now)) }
-    ensures before { IfOk result (λ made. made.1 ≡ length (defined names.now (map (site_at (sites nodes.now)) library.now))) }
+        ≡ definitions names.now (map (site_at (sites nodes.now)) library.now) ++ definitions names.now (map (site_at (sites nodes.now)) text.now)) }
+    ensures before { IfOk result (λ made. made.1 ≡ length (definitions names.now (map (site_at (sites nodes.now)) library.now))) }
     ensures few { IfOk result (λ made. length (relations made.0) < 2 ^ 32) }
 {
     let mut rows = Vec::new(alloc);
@@ -125,7 +125,7 @@ pub(crate) fn first_of_forms(
     requires few { length (relations text.now.relations.now) < 2 ^ 32 }
     requires before { before ≤ length (relations text.now.relations.now) }
     requires later { relations text.now.relations.now ≡ take before (relations text.now.relations.now)
-        ++ defined text.now.names.now (map (site_at (sites text.now.nodes.now)) forms.now) }
+        ++ definitions text.now.names.now (map (site_at (sites text.now.nodes.now)) forms.now) }
     ensures { IfOk result (λ fault. option_map fault_of fault
         ≡ least (forms_faults text.now.names.now (relations text.now.relations.now) (take before (relations text.now.relations.now)) (map (site_at (sites text.now.nodes.now)) forms.now))) }
 {
