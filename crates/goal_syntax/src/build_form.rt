@@ -10,23 +10,21 @@ ghost use Rattle.kan_model.specs.Programs.Drafts.{tables};
 ghost use Rattle.kan_model.specs.Programs.Nodes.{relation_entry};
 ghost use Rattle.kan_model.specs.Programs.Tables.{with_relation};
 ghost use Rattle.kan_model.specs.declared.nodes.Query.{Query as AskedOf};
-ghost use Rattle.goal_syntax.specs.Called.{KeepsClosed, all_named, bodies_named, calls_named};
-ghost use Rattle.goal_syntax.specs.BuiltText.{Means, name_symbol, query_asked, relation_meant};
-ghost use Rattle.goal_syntax.specs.Drafting.{HasGoal, Grows, HasRoom};
-ghost use Rattle.goal_syntax.specs.Equational.{is_equational, is_equational_body, are_equational, are_equational_entries};
-ghost use Rattle.goal_syntax.specs.FormSteps.{limit_at, step_top};
-ghost use Rattle.goal_syntax.specs.Parts.{sites, site_at};
-ghost use Rattle.goal_syntax.specs.Tabled.{relations};
+ghost use Rattle.goal_syntax.specs.Building.CallsThere.{KeepsClosed, all_named, bodies_named, calls_named};
+ghost use Rattle.goal_syntax.specs.Building.FormsBuilt.{Means, name_symbol, query_asked, relation_meant};
+ghost use Rattle.goal_syntax.specs.Building.GrownTables.{HasGoal, Grows, HasRoom};
+ghost use Rattle.goal_syntax.specs.Building.Equations.{is_equational, is_equational_body, are_equational, are_equational_entries};
+ghost use Rattle.goal_forms.specs.FormSteps.{limit_at, step_top};
+ghost use Rattle.goal_forms.specs.Parts.{sites, site_at};
+ghost use Rattle.goal_forms.specs.RelationTables.{relations};
 
-use crate::binder::enter;
+use goal_forms::{Text, enter, head_name, head_params, limit};
 use crate::build_goal::build_goals;
 use crate::build_run::{build_list, build_one};
-use crate::compiling::Queries;
+use crate::compiler::Queries;
 use crate::drafting::MOST_ENTRIES;
-use crate::form::Form;
-use crate::judge_form::{bind_head, head_name, limit};
-use crate::judge_goal::Text;
-use crate::node::Nodes;
+use goal_forms::Form;
+use goal_forms::Nodes;
 use kan_model::{Draft, Query, Relation};
 use kan_terms::Memory;
 
@@ -86,8 +84,7 @@ pub(crate) fn build_relation(
     ensures equational { OnOk result (are_equational_entries (tables draft.new).goals ≡ (are_equational_entries (tables draft.old).goals
         && is_equational_body (relation_meant (relations text.now.relations.now) (head_of text.now.names.now (site_at (sites text.now.nodes.now) head)).value (goal_forms text.now.names.now (site_at (sites text.now.nodes.now) goals))))) }
 {
-    let mut faults = Vec::new(text.alloc);
-    let bound = bind_head(text, head, &mut faults)?;
+    let bound = head_params(text.alloc, text.nodes, head)?;
     let Ok(params) = u32::try_from(bound.len()) else {
         return Err(Memory);
     };

@@ -5,25 +5,24 @@ ghost use Rattle.kan_grammar.specs.Texts.Binders.{binder as binder_of};
 ghost use Rattle.kan_grammar.specs.Texts.GoalForms.{goal_forms};
 ghost use Rattle.kan_grammar.specs.Texts.Resolved.{Names, conjunction, goals_in, within};
 ghost use Rattle.kan_model.specs.Programs.Drafts.{tables};
-ghost use Rattle.goal_syntax.specs.Low.{KeepsLow};
+ghost use Rattle.goal_syntax.specs.Building.LowTemplates.{KeepsLow};
 ghost use Rattle.kan_model.specs.Programs.Tables.{RelationEntry};
-ghost use Rattle.goal_syntax.specs.Called.{are_there, calls_named};
-ghost use Rattle.goal_syntax.specs.Built.{built, own_goal, with_maybe};
-ghost use Rattle.goal_syntax.specs.Drafting.{HasGoal, Grows, HasRoom};
-ghost use Rattle.goal_syntax.specs.Equational.{is_equational, are_equational_entries};
-ghost use Rattle.goal_syntax.specs.GoalStack.{inner_names};
-ghost use Rattle.goal_syntax.specs.GoalWorks.{finish, first_work, inner_works, other_works, work_size, works_size};
-ghost use Rattle.goal_syntax.specs.Parts.{sites, site_at};
-ghost use Rattle.goal_syntax.specs.Shapes.{parts};
-ghost use Rattle.goal_syntax.specs.Tabled.{relations};
-ghost use Rattle.goal_syntax.specs.Turning.{are_below};
+ghost use Rattle.goal_syntax.specs.Building.CallsThere.{are_there, calls_named};
+ghost use Rattle.goal_syntax.specs.Building.GoalsBuilt.{built, own_goal, with_maybe};
+ghost use Rattle.goal_syntax.specs.Building.GrownTables.{HasGoal, Grows, HasRoom};
+ghost use Rattle.goal_syntax.specs.Building.Equations.{is_equational, are_equational_entries};
+ghost use Rattle.goal_forms.specs.GoalSteps.{inner_names};
+ghost use Rattle.goal_syntax.specs.Building.GoalsLeft.{finish, first_work, inner_works, other_works, work_size, works_size};
+ghost use Rattle.goal_forms.specs.Parts.{sites, site_at};
+ghost use Rattle.goal_forms.specs.Shapes.{parts};
+ghost use Rattle.goal_forms.specs.RelationTables.{relations};
+ghost use Rattle.goal_forms.specs.Places.{are_below};
 
-use crate::binder::{bind, enter};
+use goal_forms::{Text, binder_names, enter};
 use crate::build_node::build_node;
-use crate::goal::{Goal, open};
+use goal_forms::{Goal, parse_goal};
 use crate::join_goal::{Row, add_slots, join_two, make};
-use crate::judge_goal::Text;
-use crate::shape::{is_proper, pair_parts};
+use goal_forms::{is_proper, pair_parts};
 use kan_model::{Draft, GoalNode};
 use kan_terms::Memory;
 
@@ -79,8 +78,7 @@ fn enter_fresh(
     ensures works { OnOk result (works.new.items ≡ works.old.items
         ++ Work.Fresh (length (binder_of text.now.names.now (site_at (sites text.now.nodes.now) binder)).value) ∷ Work.Leave (length scope.old.items) ∷ Work.Row Row.All goals ∷ []) }
 {
-    let mut faults = Vec::new(text.alloc);
-    let bound = bind(text.alloc, text.nodes, text.names, binder, &mut faults)?;
+    let bound = binder_names(text.alloc, text.nodes, binder)?;
     let Ok(count) = u32::try_from(bound.len()) else {
         return Err(Memory);
     };
@@ -131,7 +129,7 @@ fn build_goal(
     ensures room { OnOk result (HasRoom (tables draft.new)) }
     ensures low { OnOk result (KeepsLow (sites text.now.nodes.now) (tables draft.old) (tables draft.new)) }
 {
-    let goal = open(text.nodes, text.names, place);
+    let goal = parse_goal(text.nodes, text.names, place);
     build_own(text, scope, goal, draft, places)?;
     wait_for(text, goal, scope, works)?;
     Ok(())

@@ -5,17 +5,17 @@ ghost use Rattle.kan_grammar.specs.Texts.Binders.{tag as tag_of};
 ghost use Rattle.kan_grammar.specs.Texts.TermForms.{term_form};
 ghost use Rattle.kan_grammar.specs.Texts.Resolved.{relation_number, template_in};
 ghost use Rattle.kan_model.specs.Programs.Drafts.{tables};
-ghost use Rattle.goal_syntax.specs.Low.{KeepsLow};
-ghost use Rattle.goal_syntax.specs.Built.{StandsFor, own_goal};
-ghost use Rattle.goal_syntax.specs.Drafting.{HasTemplate, Grows, HasRoom};
-ghost use Rattle.goal_syntax.specs.Parts.{sites, site_at};
-ghost use Rattle.goal_syntax.specs.Tabled.{relations};
+ghost use Rattle.goal_syntax.specs.Building.LowTemplates.{KeepsLow};
+ghost use Rattle.goal_syntax.specs.Building.GoalsBuilt.{StandsFor, own_goal};
+ghost use Rattle.goal_syntax.specs.Building.GrownTables.{HasTemplate, Grows, HasRoom};
+ghost use Rattle.goal_forms.specs.Parts.{sites, site_at};
+ghost use Rattle.goal_forms.specs.RelationTables.{relations};
 
-use crate::binder::quoted_symbol;
+use goal_forms::quoted_symbol;
 use crate::build_term::{build_arguments, build_term};
-use crate::goal::Goal;
-use crate::judge_goal::Text;
-use crate::term::Task;
+use goal_forms::Goal;
+use goal_forms::Text;
+use goal_forms::Task;
 use kan_model::{Draft, GoalNode};
 use kan_terms::Memory;
 

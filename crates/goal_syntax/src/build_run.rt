@@ -8,23 +8,21 @@ ghost use Rattle.kan_grammar.specs.Texts.GoalForms.{goal_forms};
 ghost use Rattle.kan_grammar.specs.Texts.ProgramText.{slot_list};
 ghost use Rattle.kan_grammar.specs.Texts.Resolved.{conjunction, goals_in, within};
 ghost use Rattle.kan_model.specs.Programs.Drafts.{tables, templates};
-ghost use Rattle.goal_syntax.specs.Called.{KeepsClosed, are_there, calls_named};
+ghost use Rattle.goal_syntax.specs.Building.CallsThere.{KeepsClosed, are_there, calls_named};
 ghost use Rattle.std.specs.List.{list_all};
 ghost use Rattle.kan_model.specs.Programs.Scope.{is_low};
 ghost use Rattle.kan_model.specs.Programs.Tables.{RelationEntry};
-ghost use Rattle.goal_syntax.specs.Drafting.{HasGoal, Grows, HasRoom};
-ghost use Rattle.goal_syntax.specs.Equational.{is_equational, are_equational_entries};
-ghost use Rattle.goal_syntax.specs.Parts.{sites, site_at};
-ghost use Rattle.goal_syntax.specs.Tabled.{relations};
-ghost use Rattle.goal_syntax.specs.BuiltText.{asked_equation, asked_list};
+ghost use Rattle.goal_syntax.specs.Building.GrownTables.{HasGoal, Grows, HasRoom};
+ghost use Rattle.goal_syntax.specs.Building.Equations.{is_equational, are_equational_entries};
+ghost use Rattle.goal_forms.specs.Parts.{sites, site_at};
+ghost use Rattle.goal_forms.specs.RelationTables.{relations};
+ghost use Rattle.goal_syntax.specs.Building.FormsBuilt.{asked_equation, asked_list};
 
-use crate::binder::{bind, enter};
+use goal_forms::{Text, binder_names, enter, unnamed};
 use crate::build_goal::build_goals;
 use crate::build_term::build_slots;
 use crate::drafting::{add_goal, add_term};
-use crate::judge_form::unnamed;
-use crate::judge_goal::Text;
-use crate::shape::pair_parts;
+use goal_forms::pair_parts;
 use kan_model::{Draft, GoalNode, TermNode};
 use kan_terms::Memory;
 
@@ -106,8 +104,7 @@ pub(crate) fn build_list(
     ensures equational { OnOk result (are_equational_entries (tables draft.new).goals ≡ (are_equational_entries (tables draft.old).goals
         && is_equational (asked_list (relations text.now.relations.now) (binder_of text.now.names.now (site_at (sites text.now.nodes.now) binder)).value (goal_forms text.now.names.now (site_at (sites text.now.nodes.now) goals))))) }
 {
-    let mut faults = Vec::new(text.alloc);
-    let bound = bind(text.alloc, text.nodes, text.names, binder, &mut faults)?;
+    let bound = binder_names(text.alloc, text.nodes, binder)?;
     let Ok(count) = u32::try_from(bound.len()) else {
         return Err(Memory);
     };

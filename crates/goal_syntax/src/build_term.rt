@@ -9,19 +9,20 @@ ghost use Rattle.kan_model.specs.Programs.Nodes.{term_entry};
 ghost use Rattle.kan_model.specs.Programs.Drafts.{tables, templates};
 ghost use Rattle.std.specs.List.{list_all};
 ghost use Rattle.kan_model.specs.Programs.Scope.{is_low};
-ghost use Rattle.goal_syntax.specs.BuildLow.{WorksLow, all_low};
-ghost use Rattle.goal_syntax.specs.Low.{AreLow, KeepsLow};
-ghost use Rattle.goal_syntax.specs.Building.{AddsTerms, HasTemplates, with_arguments, built, paired, finish, work_size, works_size};
-ghost use Rattle.goal_syntax.specs.Drafting.{HasTemplate, HasArguments, Grows, HasRoom};
-ghost use Rattle.goal_syntax.specs.Parts.{sites, site_at};
-ghost use Rattle.goal_syntax.specs.TermSteps.{task_form, step_form, step_size};
-ghost use Rattle.goal_syntax.specs.Turning.{are_below};
+ghost use Rattle.goal_syntax.specs.Building.TermHeights.{WorksLow, all_low};
+ghost use Rattle.goal_forms.specs.Heights.{AreLow};
+ghost use Rattle.goal_syntax.specs.Building.LowTemplates.{KeepsLow};
+ghost use Rattle.goal_syntax.specs.Building.TermsLeft.{AddsTerms, HasTemplates, with_arguments, built, paired, finish, work_size, works_size};
+ghost use Rattle.goal_syntax.specs.Building.GrownTables.{HasTemplate, HasArguments, Grows, HasRoom};
+ghost use Rattle.goal_forms.specs.Parts.{sites, site_at};
+ghost use Rattle.goal_forms.specs.TermSteps.{task_form, step_form, step_size};
+ghost use Rattle.goal_forms.specs.Places.{are_below};
 
 use crate::drafting::{add_argument, add_term};
-use crate::judge_goal::Text;
-use crate::scope::slot_of;
-use crate::shape::pair_parts;
-use crate::term::{Step, Task, open};
+use goal_forms::Text;
+use goal_forms::slot_of;
+use goal_forms::pair_parts;
+use goal_forms::{Step, Task, parse_task};
 use kan_model::{Draft, TermNode};
 use kan_terms::Memory;
 
@@ -140,7 +141,7 @@ fn build_work(
 {
     match work {
         Work::Term(task) => {
-            let step = open(text.nodes, text.names, task);
+            let step = parse_task(text.nodes, text.names, task);
             build_step(text, scope, step, draft, places, works)?;
         }
         Work::Pair => join(draft, places)?,

@@ -2,7 +2,7 @@
 
 ghost use Rattle.std.specs.Prelude.{◌≡◌, [], ◌∷◌, ◌++◌, OnOk};
 ghost use Rattle.kan_grammar.specs.Data.Faults.{fault};
-ghost use Rattle.goal_syntax.specs.FaultLists.{fault_list};
+ghost use Rattle.goal_syntax.specs.Judging.FaultLists.{fault_list};
 
 use kan_terms::Memory;
 

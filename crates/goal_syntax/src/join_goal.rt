@@ -4,10 +4,10 @@ ghost use Rattle.std.specs.Prelude.{◌≡◌, length, true, OnOk};
 ghost use Rattle.kan_model.specs.Programs.Drafts.{tables};
 ghost use Rattle.kan_model.specs.Programs.Nodes.{goal_entry};
 ghost use Rattle.kan_model.specs.Programs.Tables.{is_goal_grown};
-ghost use Rattle.goal_syntax.specs.Built.{built, with_entry};
-ghost use Rattle.goal_syntax.specs.Drafting.{Grows, HasRoom};
-ghost use Rattle.goal_syntax.specs.GoalWorks.{empty_entry, freshened, join_entry, joined};
-ghost use Rattle.goal_syntax.specs.Turning.{are_below};
+ghost use Rattle.goal_syntax.specs.Building.GoalsBuilt.{built, with_entry};
+ghost use Rattle.goal_syntax.specs.Building.GrownTables.{Grows, HasRoom};
+ghost use Rattle.goal_syntax.specs.Building.GoalsLeft.{empty_entry, freshened, join_entry, joined};
+ghost use Rattle.goal_forms.specs.Places.{are_below};
 
 use crate::drafting::add_goal;
 use kan_model::{Draft, GoalNode};

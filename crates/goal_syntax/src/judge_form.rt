@@ -5,19 +5,20 @@ ghost use Rattle.kan_grammar.specs.Texts.TopForms.{head as head_of, head_name as
 ghost use Rattle.kan_grammar.specs.Texts.GoalForms.{goal_forms};
 ghost use Rattle.kan_grammar.specs.Texts.Resolved.{arity, within};
 ghost use Rattle.kan_grammar.specs.Texts.TextFaults.{is_new, again_faults, goals_faults, form_faults};
-ghost use Rattle.goal_syntax.specs.FaultLists.{fault_list};
-ghost use Rattle.goal_syntax.specs.FormSteps.{step_top, limit_at, one_name, named, allowed_limit, small_number};
-ghost use Rattle.goal_syntax.specs.Parts.{sites, site_at};
-ghost use Rattle.goal_syntax.specs.Tabled.{relations as relations_of};
+ghost use Rattle.goal_syntax.specs.Judging.FaultLists.{fault_list};
+ghost use Rattle.goal_forms.specs.FormSteps.{step_top, limit_at, one_name, named, allowed_limit, small_number};
+ghost use Rattle.goal_forms.specs.Parts.{sites, site_at};
+ghost use Rattle.goal_forms.specs.RelationTables.{relations as relations_of};
 
-use crate::binder::{bind, bind_parts, enter, may_bind};
 use crate::fault::{Fault, report};
-use crate::form::Form;
-use crate::judge_goal::{Text, judge_goals};
-use crate::node::{Nodes, Part};
-use crate::relations::Relations;
-use crate::shape::{is_proper, pair_parts};
-use crate::word::{Word, word_of_symbol};
+use goal_forms::Form;
+use crate::judge_binder::{judge_binder, judge_names};
+use crate::judge_goal::judge_goals;
+use goal_forms::{Text, binder_names, enter, head_name, head_params, limit, may_bind, unnamed};
+use goal_forms::{Nodes, Part};
+use goal_forms::Relations;
+use goal_forms::{is_proper, pair_parts};
+use goal_forms::{Word, word_of_symbol};
 use kan_terms::Memory;
 use std::alloc::Global;
 
@@ -28,18 +29,6 @@ fn is_new(relations: &Relations, before: u32, symbol: u32) -> bool
     match relations.number(symbol) {
         Some(number) => before <= number,
         None => true,
-    }
-}
-
-/// The symbol of a relation's name, and its offset.
-pub(crate) fn head_name(nodes: &Nodes, head: u32) -> Option<(u32, u32)>
-    ensures { option_map named result ≡ name_of_head (site_at (sites nodes.now) head) }
-{
-    let (first, params) = pair_parts(nodes, head)?;
-    let node = nodes.read(first);
-    match node.part {
-        Part::Name(symbol) if is_proper(nodes, params) => Some((node.at, symbol)),
-        _ => None,
     }
 }
 
@@ -58,21 +47,17 @@ fn judge_again(text: &Text, before: u32, head: u32, faults: &mut Vec<Fault>) -> 
     Ok(())
 }
 
-/// The parameters of a relation; the faults of its head are noted.
-pub(crate) fn bind_head(text: &Text, head: u32, faults: &mut Vec<Fault>) -> Result<Vec<u32>, Memory>
-    ensures bound { IfOk result (λ bound. bound.items ≡ (head_of text.now.names.now (site_at (sites text.now.nodes.now) head)).value) }
-    ensures faults { OnOk result (fault_list faults.new.items
+// Notes the faults of a relation's head.
+fn judge_head(text: &Text, head: u32, faults: &mut Vec<Fault>) -> Result<(), Memory>
+    ensures { OnOk result (fault_list faults.new.items
         ≡ fault_list faults.old.items ++ (head_of text.now.names.now (site_at (sites text.now.nodes.now) head)).faults) }
 {
     match pair_parts(text.nodes, head) {
         Some((name, params)) if is_proper(text.nodes, params) => {
             judge_name(text.nodes, name, faults)?;
-            bind_parts(text.alloc, text.nodes, text.names, params, faults)
+            judge_names(text.alloc, text.nodes, text.names, params, faults)
         }
-        _ => {
-            report(faults, text.nodes.read(head).at, 10)?;
-            Ok(Vec::new(text.alloc))
-        }
+        _ => report(faults, text.nodes.read(head).at, 10),
     }
 }
 
@@ -85,27 +70,6 @@ fn judge_name(nodes: &Nodes, name: u32, faults: &mut Vec<Fault>) -> Result<(), M
         Part::Name(_) => Ok(()),
         _ => report(faults, node.at, 10),
     }
-}
-
-/// The limit of a run: a number or none, where it is allowed.
-pub(crate) fn limit(nodes: &Nodes, place: u32) -> Option<Option<u64>>
-    ensures { result ≡ allowed_limit (site_at (sites nodes.now) place) }
-{
-    match nodes.read(place).part {
-        Part::Truth(false) => Some(None),
-        Part::Number(number) => Some(Some(small_number(number)?)),
-        _ => None,
-    }
-}
-
-// A number from 0 to 2^63 - 1.
-fn small_number(number: i128) -> Option<u64>
-    ensures { result ≡ small_number number }
-{
-    if number < 0 || number >= 1 << 63 {
-        return None;
-    }
-    Some(number as u64)
 }
 
 // Notes the fault of a run's limit, where it has one.
@@ -150,15 +114,6 @@ fn judge_body(
     Ok(())
 }
 
-/// The scope of a run over a list of names: a slot without a name.
-pub(crate) fn unnamed(alloc: Global) -> Result<Vec<Option<u32>>, Memory>
-    ensures { IfOk result (λ scope. scope.items ≡ None ∷ []) }
-{
-    let mut scope = Vec::new(alloc);
-    scope.push(None)?;
-    Ok(scope)
-}
-
 /// Notes the faults of a top form before which this many relations are defined.
 pub(crate) fn judge_form(
     text: &Text,
@@ -173,7 +128,8 @@ pub(crate) fn judge_form(
     match form {
         Form::Relation(head, goals) => {
             judge_again(text, before, head, faults)?;
-            let bound = bind_head(text, head, faults)?;
+            judge_head(text, head, faults)?;
+            let bound = head_params(text.alloc, text.nodes, head)?;
             judge_body(text, &bound, goals, Vec::new(text.alloc), faults)
         }
         Form::RunOfOne(limit, at, symbol, goals) => {
@@ -183,7 +139,8 @@ pub(crate) fn judge_form(
         }
         Form::RunOfList(limit, binder, goals) => {
             judge_limit(text.nodes, limit, faults)?;
-            let bound = bind(text.alloc, text.nodes, text.names, binder, faults)?;
+            judge_binder(text.alloc, text.nodes, text.names, binder, faults)?;
+            let bound = binder_names(text.alloc, text.nodes, binder)?;
             judge_body(text, &bound, goals, unnamed(text.alloc)?, faults)
         }
         Form::Misshapen(at) => report(faults, at, 10),

@@ -8,31 +8,24 @@ ghost use Rattle.kan_grammar.specs.Texts.TextFaults.{term_faults, call_faults, g
 ghost use Rattle.kan_grammar.specs.Texts.TermForms.{term_form};
 ghost use Rattle.kan_grammar.specs.Texts.Binders.{binder as binder_of};
 ghost use Rattle.kan_grammar.specs.Texts.Resolved.{arity, within};
-ghost use Rattle.goal_syntax.specs.GoalStack.{own_faults, fresh_faults, inner_names, inner_waiting, stack_faults, stack_parts, waiting_parts};
-ghost use Rattle.goal_syntax.specs.FaultLists.{fault_list};
-ghost use Rattle.goal_syntax.specs.Parts.{sites, site_at};
-ghost use Rattle.goal_syntax.specs.Tabled.{relations};
-ghost use Rattle.goal_syntax.specs.TermSteps.{site_size};
+ghost use Rattle.goal_syntax.specs.Judging.GoalsLeft.{own_faults, fresh_faults, inner_waiting, stack_faults, stack_parts, waiting_parts};
+ghost use Rattle.goal_forms.specs.GoalSteps.{inner_names};
+ghost use Rattle.goal_syntax.specs.Judging.FaultLists.{fault_list};
+ghost use Rattle.goal_forms.specs.Parts.{sites, site_at};
+ghost use Rattle.goal_forms.specs.RelationTables.{relations};
+ghost use Rattle.goal_forms.specs.TermSteps.{site_size};
 
-use crate::binder::{bind, enter, judge_tag};
+use crate::judge_binder::{judge_binder, judge_tag};
+use goal_forms::{Text, binder_names, enter};
 use crate::fault::{Fault, report};
-use crate::goal::{Goal, open};
+use goal_forms::{Goal, parse_goal};
 use crate::judge_term::judge_term;
-use crate::node::Nodes;
-use crate::relations::Relations;
-use crate::shape::{is_proper, pair_parts};
-use crate::term::Task;
+use goal_forms::Nodes;
+use goal_forms::Relations;
+use goal_forms::{is_proper, pair_parts};
+use goal_forms::Task;
 use kan_terms::{Memory, Names};
 use std::alloc::Global;
-
-/// What a text is judged by: its data, the table of names, and the relations that are defined.
-#[derive(Drop)]
-pub(crate) struct Text<'a> {
-    pub(crate) alloc: Global,
-    pub(crate) nodes: &'a Nodes,
-    pub(crate) names: &'a Names,
-    pub(crate) relations: &'a Relations,
-}
 
 // How many terms a list has.
 fn count_terms(nodes: &Nodes, mut place: u32) -> u32
@@ -165,7 +158,8 @@ fn enter_fresh(
     ensures waiting { OnOk result (waiting.new.items ≡ waiting.old.items ++ Waiting.Leave (length scope.old.items) ∷ Waiting.Goals goals ∷ []) }
 {
     waiting.push(Waiting::Leave(scope.len()))?;
-    let bound = bind(text.alloc, text.nodes, text.names, binder, faults)?;
+    judge_binder(text.alloc, text.nodes, text.names, binder, faults)?;
+    let bound = binder_names(text.alloc, text.nodes, binder)?;
     enter(&bound, scope)?;
     waiting.push(Waiting::Goals(goals))?;
     Ok(())
@@ -213,7 +207,7 @@ fn judge_goal(
     ensures parts { OnOk result (stack_parts (sites text.now.nodes.now) waiting.new.items
         < site_size (site_at (sites text.now.nodes.now) place) + stack_parts (sites text.now.nodes.now) waiting.old.items) }
 {
-    let goal = open(text.nodes, text.names, place);
+    let goal = parse_goal(text.nodes, text.names, place);
     judge_own(text, scope, goal, faults)?;
     wait_for(text, goal, scope, waiting, faults)?;
     Ok(())

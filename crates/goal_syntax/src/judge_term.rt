@@ -3,15 +3,15 @@
 ghost use Rattle.std.specs.Prelude.{◌≡◌, ◌+◌, ◌++◌, OnOk};
 ghost use Rattle.std.specs.List.{flat_map};
 ghost use Rattle.kan_grammar.specs.Texts.TextFaults.{use_faults, term_faults};
-ghost use Rattle.goal_syntax.specs.FaultLists.{fault_list};
-ghost use Rattle.goal_syntax.specs.Parts.{sites};
-ghost use Rattle.goal_syntax.specs.TermSteps.{task_form, step_size};
-ghost use Rattle.goal_syntax.specs.Waiting.{own_uses, later_uses, waiting_uses, waiting_size};
+ghost use Rattle.goal_syntax.specs.Judging.FaultLists.{fault_list};
+ghost use Rattle.goal_forms.specs.Parts.{sites};
+ghost use Rattle.goal_forms.specs.TermSteps.{task_form, step_size};
+ghost use Rattle.goal_syntax.specs.Judging.TermsLeft.{own_uses, later_uses, waiting_uses, waiting_size};
 
 use crate::fault::{Fault, report};
-use crate::node::Nodes;
-use crate::scope::slot_of;
-use crate::term::{Step, Task, open};
+use goal_forms::Nodes;
+use goal_forms::slot_of;
+use goal_forms::{Step, Task, parse_task};
 use kan_terms::{Memory, Names};
 use std::alloc::Global;
 
@@ -64,7 +64,7 @@ pub(crate) fn judge_term(
     let mut waiting = Vec::new(alloc);
     waiting.push(task)?;
     while let Some(next) = waiting.pop() {
-        let step = open(nodes, names, next);
+        let step = parse_task(nodes, names, next);
         judge_step(scope, step, faults)?;
         wait_for(nodes, names, step, &mut waiting)?;
     }

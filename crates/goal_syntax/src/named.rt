@@ -4,8 +4,8 @@ ghost use Rattle.std.specs.Prelude.{◌≡◌, ◌<◌, ◌^◌, length};
 ghost use Rattle.std.specs.List.{list_all};
 ghost use Rattle.kan_model.specs.Programs.Nodes.{term_entry, goal_entry, relation_entry};
 ghost use Rattle.kan_model.specs.Programs.Closed as programs;
-ghost use Rattle.goal_syntax.specs.Drafting.{HasRoom};
-ghost use Rattle.goal_syntax.specs.Named as named;
+ghost use Rattle.goal_syntax.specs.Building.GrownTables.{HasRoom};
+ghost use Rattle.goal_syntax.specs.Compiling.SymbolNames as named;
 
 use kan_model::{GoalNode, Program, TermNode};
 use kan_terms::Names;

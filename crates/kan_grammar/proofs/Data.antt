@@ -5,12 +5,12 @@ mod CutExamples
 pub mod Cutting
 mod DeepExamples
 pub mod Exactly
-mod First
+pub mod First
 mod LongExamples
 mod PrintExamples
 mod RefusalExamples
 mod Sound
 mod TokenExamples
 mod WordExamples
-mod Examples
+pub mod Examples
 mod OrderExamples

@@ -1,5 +1,5 @@
 use Rattle.kan_model.specs.Programs.Drafts.{tables}
-use Rattle.goal_syntax.proofs.BuiltTextLaws.{query_means, none_asked}
+use Rattle.goal_syntax.proofs.Building.FormsBuiltLaws.{query_means, none_asked}
 use Rattle.goal_syntax.proofs.build_form.build_form.Goals as goal
 
 pub returns-in_ok-build_relation-in-Relation-clause-means : goal.returns-in_ok-build_relation-in-Relation-clause-means

@@ -1,9 +1,9 @@
 use Rattle.std.proofs.Common.{arith, ap, length}
 use Rattle.kan_model.specs.Programs.Drafts.{tables}
 use Rattle.kan_grammar.specs.Texts.GoalForms.{goal_forms}
-use Rattle.goal_syntax.specs.Parts.{sites, site_at}
-use Rattle.goal_syntax.specs.Tabled.{relations}
-use Rattle.goal_syntax.proofs.BuiltTextLaws.{relation_means}
+use Rattle.goal_forms.specs.Parts.{sites, site_at}
+use Rattle.goal_forms.specs.RelationTables.{relations}
+use Rattle.goal_syntax.proofs.Building.FormsBuiltLaws.{relation_means}
 use Rattle.goal_syntax.proofs.build_form.build_relation.Goals as goal
 
 pub returns-clause-means : goal.returns-clause-means

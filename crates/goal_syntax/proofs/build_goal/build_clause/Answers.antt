@@ -1,10 +1,10 @@
-use Rattle.goal_syntax.specs.Parts.{sites}
-use Rattle.goal_syntax.proofs.GoalWorkLaws.{clause_falls}
+use Rattle.goal_forms.specs.Parts.{sites}
+use Rattle.goal_syntax.proofs.Building.GoalsLeftLaws.{clause_falls}
 use Rattle.std.proofs.Common.{sym}
 use Rattle.kan_model.specs.Programs.Drafts.{tables}
-use Rattle.goal_syntax.specs.Built.{built}
-use Rattle.goal_syntax.specs.Tabled.{relations}
-use Rattle.goal_syntax.proofs.GoalWorkLaws.{clause_fails}
+use Rattle.goal_syntax.specs.Building.GoalsBuilt.{built}
+use Rattle.goal_forms.specs.RelationTables.{relations}
+use Rattle.goal_syntax.proofs.Building.GoalsLeftLaws.{clause_fails}
 use Rattle.goal_syntax.proofs.build_goal.build_clause.Goals as goal
 
 pub returns-in_ok-push-clause-falls : goal.returns-in_ok-push-clause-falls

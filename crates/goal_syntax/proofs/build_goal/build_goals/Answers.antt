@@ -1,12 +1,12 @@
-use Rattle.goal_syntax.specs.Parts.{sites}
-use Rattle.goal_syntax.specs.Tabled.{relations}
-use Rattle.goal_syntax.proofs.DraftLaws.{grows_on}
-use Rattle.goal_syntax.proofs.GoalWorkLaws.{work_done, work_falls}
-use Rattle.goal_syntax.proofs.BuildLowLaws.{low_on}
+use Rattle.goal_forms.specs.Parts.{sites}
+use Rattle.goal_forms.specs.RelationTables.{relations}
+use Rattle.goal_syntax.proofs.Building.TableLaws.{grows_on}
+use Rattle.goal_syntax.proofs.Building.GoalsLeftLaws.{work_done, work_falls}
+use Rattle.goal_syntax.proofs.Building.TermHeightLaws.{low_on}
 use Rattle.kan_model.specs.Programs.Drafts.{tables}
 use Rattle.std.proofs.Common.{arith}
-use Rattle.goal_syntax.proofs.BuiltLaws.{goal_called}
-use Rattle.goal_syntax.proofs.GoalWorkLaws.{works_done}
+use Rattle.goal_syntax.proofs.Building.GoalsBuiltLaws.{goal_called}
+use Rattle.goal_syntax.proofs.Building.GoalsLeftLaws.{works_done}
 use Rattle.goal_syntax.proofs.build_goal.build_goals.Goals as goal
 
 pub loop-work-smaller : goal.loop-work-smaller

@@ -2,13 +2,13 @@ use Rattle.std.proofs.Common.{◌≡◌, [], reverse, length, true}
 use Rattle.kan_model.specs.Programs.Drafts.{tables}
 use Rattle.kan_grammar.specs.Texts.GoalForms.{goal_forms}
 use Rattle.kan_grammar.specs.Texts.Resolved.{conjunction, goals_in}
-use Rattle.goal_syntax.specs.Built.{built, with_goal}
-use Rattle.goal_syntax.specs.Drafting.{Grows, HasRoom}
-use Rattle.goal_syntax.specs.GoalWorks.{finish, works_size}
-use Rattle.goal_syntax.specs.Low.{KeepsLow}
-use Rattle.goal_syntax.specs.Parts.{sites, site_at}
-use Rattle.goal_syntax.specs.Tabled.{relations}
-use Rattle.goal_syntax.specs.Turning.{are_below}
+use Rattle.goal_syntax.specs.Building.GoalsBuilt.{built, with_goal}
+use Rattle.goal_syntax.specs.Building.GrownTables.{Grows, HasRoom}
+use Rattle.goal_syntax.specs.Building.GoalsLeft.{finish, works_size}
+use Rattle.goal_syntax.specs.Building.LowTemplates.{KeepsLow}
+use Rattle.goal_forms.specs.Parts.{sites, site_at}
+use Rattle.goal_forms.specs.RelationTables.{relations}
+use Rattle.goal_forms.specs.Places.{are_below}
 use Rattle.goal_syntax.proofs.build_goal.build_goals.Given as goal
 
 -- what is made once all work is done is the goal of the list, and the tables grew from those before

@@ -1,10 +1,10 @@
 use Rattle.std.proofs.Common.{◌∙◌, ap}
 use Rattle.kan_model.specs.Programs.Drafts.{tables}
-use Rattle.goal_syntax.specs.Parts.{sites}
-use Rattle.goal_syntax.specs.Tabled.{relations}
-use Rattle.goal_syntax.specs.Built.{own_goal, with_maybe}
-use Rattle.goal_syntax.proofs.BuiltLaws.{built_kept, own_some, own_none}
-use Rattle.goal_syntax.proofs.DraftLaws.{grows_on}
+use Rattle.goal_forms.specs.Parts.{sites}
+use Rattle.goal_forms.specs.RelationTables.{relations}
+use Rattle.goal_syntax.specs.Building.GoalsBuilt.{own_goal, with_maybe}
+use Rattle.goal_syntax.proofs.Building.GoalsBuiltLaws.{built_kept, own_some, own_none}
+use Rattle.goal_syntax.proofs.Building.TableLaws.{grows_on}
 use Rattle.goal_syntax.proofs.build_goal.build_own.Goals as goal
 
 pub returns-in_ok-make-clause-made : goal.returns-in_ok-make-clause-made

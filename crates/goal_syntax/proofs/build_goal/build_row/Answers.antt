@@ -1,12 +1,12 @@
-use Rattle.goal_syntax.specs.Parts.{sites}
-use Rattle.goal_syntax.specs.Tabled.{relations}
-use Rattle.goal_syntax.proofs.GoalWorkLaws.{row_waits, row_falls}
+use Rattle.goal_forms.specs.Parts.{sites}
+use Rattle.goal_forms.specs.RelationTables.{relations}
+use Rattle.goal_syntax.proofs.Building.GoalsLeftLaws.{row_waits, row_falls}
 use Rattle.std.proofs.Common.{[], ◌∙◌, ap}
 use Rattle.kan_model.specs.Programs.Drafts.{tables}
-use Rattle.goal_syntax.specs.Built.{built, with_entry}
-use Rattle.goal_syntax.specs.GoalWorks.{empty_entry, row_goal}
-use Rattle.goal_syntax.proofs.BuiltLaws.{stands_added, empty_stands}
-use Rattle.goal_syntax.proofs.GoalWorkLaws.{empty_row}
+use Rattle.goal_syntax.specs.Building.GoalsBuilt.{built, with_entry}
+use Rattle.goal_syntax.specs.Building.GoalsLeft.{empty_entry, row_goal}
+use Rattle.goal_syntax.proofs.Building.GoalsBuiltLaws.{stands_added, empty_stands}
+use Rattle.goal_syntax.proofs.Building.GoalsLeftLaws.{empty_row}
 use Rattle.goal_syntax.proofs.build_goal.build_row.Goals as goal
 
 pub returns-in_ok-push-clause-made : goal.returns-in_ok-push-clause-made

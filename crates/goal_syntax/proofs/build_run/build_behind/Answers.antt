@@ -1,8 +1,8 @@
 use Rattle.kan_model.specs.Programs.Drafts.{tables}
-use Rattle.goal_syntax.proofs.DraftLaws.{grows_on}
-use Rattle.goal_syntax.proofs.BuiltTextLaws.{goals_there}
-use Rattle.goal_syntax.specs.Parts.{sites}
-use Rattle.goal_syntax.proofs.CalledLaws.{joined_closed}
+use Rattle.goal_syntax.proofs.Building.TableLaws.{grows_on}
+use Rattle.goal_syntax.proofs.Building.FormsBuiltLaws.{goals_there}
+use Rattle.goal_forms.specs.Parts.{sites}
+use Rattle.goal_syntax.proofs.Building.CallsThereLaws.{joined_closed}
 use Rattle.goal_syntax.proofs.build_run.build_behind.Goals as goal
 
 pub add_goal-requires-clause-there : goal.add_goal-requires-clause-there

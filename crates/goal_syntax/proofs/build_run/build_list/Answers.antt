@@ -1,13 +1,13 @@
 use Rattle.std.proofs.Common.{length}
 use Rattle.std.proofs.lemmas.Bool.{lt-ltb}
 use Rattle.kan_model.specs.Programs.Drafts.{tables}
-use Rattle.goal_syntax.proofs.DraftLaws.{grows_on}
+use Rattle.goal_syntax.proofs.Building.TableLaws.{grows_on}
 use Rattle.std.proofs.Common.{ap, ◌∙◌}
 use Rattle.kan_grammar.specs.Texts.GoalForms.{goal_forms}
 use Rattle.kan_grammar.specs.Texts.Resolved.{within}
-use Rattle.goal_syntax.specs.Parts.{sites, site_at}
-use Rattle.goal_syntax.specs.Tabled.{relations}
-use Rattle.goal_syntax.proofs.CalledLaws.{run_closed}
+use Rattle.goal_forms.specs.Parts.{sites, site_at}
+use Rattle.goal_forms.specs.RelationTables.{relations}
+use Rattle.goal_syntax.proofs.Building.CallsThereLaws.{run_closed}
 use Rattle.goal_syntax.proofs.build_run.build_list.Goals as goal
 
 pub add_goal-requires-clause-there : goal.add_goal-requires-clause-there

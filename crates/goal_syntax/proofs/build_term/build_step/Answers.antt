@@ -1,6 +1,6 @@
-use Rattle.goal_syntax.specs.Parts.{sites}
-use Rattle.goal_syntax.proofs.BuildLaws.{pair_falls, same_falls}
-use Rattle.goal_syntax.proofs.BuildLowLaws.{pair_low}
+use Rattle.goal_forms.specs.Parts.{sites}
+use Rattle.goal_syntax.proofs.Building.TermsLeftLaws.{pair_falls, same_falls}
+use Rattle.goal_syntax.proofs.Building.TermHeightLaws.{pair_low}
 use Rattle.kan_model.specs.Programs.Drafts.{templates}
 use Rattle.goal_syntax.proofs.build_term.build_step.Goals as goal
 

@@ -1,14 +1,14 @@
 use Rattle.std.proofs.Common.{◌≡◌, ◌∷◌, [], reverse, length, true}
 use Rattle.kan_model.specs.Programs.Drafts.{tables, templates}
 use Rattle.kan_grammar.specs.Texts.Resolved.{template_in}
-use Rattle.goal_syntax.specs.Building.{AddsTerms, built, finish, works_size}
+use Rattle.goal_syntax.specs.Building.TermsLeft.{AddsTerms, built, finish, works_size}
 use Rattle.std.specs.List.{list_all}
 use Rattle.kan_model.specs.Programs.Scope.{is_low}
-use Rattle.goal_syntax.specs.BuildLow.{WorksLow}
-use Rattle.goal_syntax.specs.Low.{AreLow}
-use Rattle.goal_syntax.specs.Parts.{sites}
-use Rattle.goal_syntax.specs.TermSteps.{task_form}
-use Rattle.goal_syntax.specs.Turning.{are_below}
+use Rattle.goal_syntax.specs.Building.TermHeights.{WorksLow}
+use Rattle.goal_forms.specs.Heights.{AreLow}
+use Rattle.goal_forms.specs.Parts.{sites}
+use Rattle.goal_forms.specs.TermSteps.{task_form}
+use Rattle.goal_forms.specs.Places.{are_below}
 use Rattle.goal_syntax.proofs.build_term.build_term.Given as goal
 
 -- what is built once all work is done is the task's template alone

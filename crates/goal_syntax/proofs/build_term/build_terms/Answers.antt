@@ -1,8 +1,8 @@
 use Rattle.kan_model.specs.Programs.Drafts.{tables}
-use Rattle.goal_syntax.specs.Building.{AddsTerms}
-use Rattle.goal_syntax.specs.Parts.{sites, site_at}
-use Rattle.goal_syntax.proofs.BuildLaws.{adds_on, put_below, terms_next, terms_of_pair}
-use Rattle.goal_syntax.proofs.BuildLowLaws.{low_on}
+use Rattle.goal_syntax.specs.Building.TermsLeft.{AddsTerms}
+use Rattle.goal_forms.specs.Parts.{sites, site_at}
+use Rattle.goal_syntax.proofs.Building.TermsLeftLaws.{adds_on, put_below, terms_next, terms_of_pair}
+use Rattle.goal_syntax.proofs.Building.TermHeightLaws.{low_on}
 use Rattle.goal_syntax.proofs.build_term.build_terms.Goals as goal
 
 pub loop-first-preserved : goal.loop-first-preserved

@@ -3,10 +3,10 @@ use Rattle.kan_model.specs.Programs.Drafts.{tables, templates}
 use Rattle.kan_grammar.specs.Texts.GoalForms.{term_forms}
 use Rattle.kan_grammar.specs.Texts.Resolved.{template_in}
 use Rattle.kan_model.specs.Programs.Tables.{template_at}
-use Rattle.goal_syntax.specs.Building.{AddsTerms}
-use Rattle.goal_syntax.specs.Low.{KeepsLow}
-use Rattle.goal_syntax.specs.Parts.{sites, site_at}
-use Rattle.goal_syntax.specs.Turning.{are_below}
+use Rattle.goal_syntax.specs.Building.TermsLeft.{AddsTerms}
+use Rattle.goal_syntax.specs.Building.LowTemplates.{KeepsLow}
+use Rattle.goal_forms.specs.Parts.{sites, site_at}
+use Rattle.goal_forms.specs.Places.{are_below}
 use Rattle.goal_syntax.proofs.build_term.build_terms.Given as goal
 
 -- the templates so far and those of the terms that are left are all

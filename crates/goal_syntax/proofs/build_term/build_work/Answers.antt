@@ -1,7 +1,7 @@
 use Rattle.std.proofs.Common.{reverse}
 use Rattle.kan_model.specs.Programs.Drafts.{templates}
-use Rattle.goal_syntax.specs.Parts.{sites}
-use Rattle.goal_syntax.proofs.BuildLowLaws.{joined_low}
+use Rattle.goal_forms.specs.Parts.{sites}
+use Rattle.goal_syntax.proofs.Building.TermHeightLaws.{joined_low}
 use Rattle.goal_syntax.proofs.build_term.build_work.Goals as goal
 
 pub returns-in_ok-join-in-Pair-clause-low : goal.returns-in_ok-join-in-Pair-clause-low

@@ -1,5 +1,5 @@
-use Rattle.goal_syntax.proofs.GoalLaws.{next_parts}
-use Rattle.goal_syntax.specs.Parts.{sites}
+use Rattle.goal_syntax.proofs.Judging.GoalsLeftLaws.{next_parts}
+use Rattle.goal_forms.specs.Parts.{sites}
 use Rattle.goal_syntax.proofs.judge_goal.judge_goals.Goals as goal
 
 pub loop-next-smaller : goal.loop-next-smaller

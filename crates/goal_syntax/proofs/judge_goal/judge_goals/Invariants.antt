@@ -1,10 +1,10 @@
 use Rattle.std.proofs.Common.{◌≡◌, ◌++◌, reverse}
 use Rattle.kan_grammar.specs.Texts.GoalForms.{goal_forms}
 use Rattle.kan_grammar.specs.Texts.TextFaults.{goals_faults}
-use Rattle.goal_syntax.specs.FaultLists.{fault_list}
-use Rattle.goal_syntax.specs.Parts.{sites, site_at}
-use Rattle.goal_syntax.specs.Tabled.{relations}
-use Rattle.goal_syntax.specs.GoalStack.{stack_faults, stack_parts}
+use Rattle.goal_syntax.specs.Judging.FaultLists.{fault_list}
+use Rattle.goal_forms.specs.Parts.{sites, site_at}
+use Rattle.goal_forms.specs.RelationTables.{relations}
+use Rattle.goal_syntax.specs.Judging.GoalsLeft.{stack_faults, stack_parts}
 use Rattle.goal_syntax.proofs.judge_goal.judge_goals.Given as goal
 
 -- the faults so far and those of what waits are all

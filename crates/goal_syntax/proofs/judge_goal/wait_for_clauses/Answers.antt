@@ -1,8 +1,8 @@
 use Rattle.std.proofs.Common.{refl, ap, ◌++◌}
-use Rattle.goal_syntax.proofs.GoalLaws.{first_clause, first_parts, bad_clause_parts}
-use Rattle.goal_syntax.specs.FaultLists.{fault_list}
-use Rattle.goal_syntax.specs.Parts.{sites}
-use Rattle.goal_syntax.specs.Tabled.{relations}
+use Rattle.goal_syntax.proofs.Judging.GoalsLeftLaws.{first_clause, first_parts, bad_clause_parts}
+use Rattle.goal_syntax.specs.Judging.FaultLists.{fault_list}
+use Rattle.goal_forms.specs.Parts.{sites}
+use Rattle.goal_forms.specs.RelationTables.{relations}
 use Rattle.goal_syntax.proofs.judge_goal.wait_for_clauses.Goals as goal
 
 pub returns-in_ok-push-2-clause-faults : goal.returns-in_ok-push-2-clause-faults

@@ -1,6 +1,6 @@
 use Rattle.std.proofs.Common.{refl}
-use Rattle.goal_syntax.proofs.GoalLaws.{first_parts}
-use Rattle.goal_syntax.specs.Parts.{sites}
+use Rattle.goal_syntax.proofs.Judging.GoalsLeftLaws.{first_parts}
+use Rattle.goal_forms.specs.Parts.{sites}
 use Rattle.goal_syntax.proofs.judge_goal.wait_for_goals.Goals as goal
 
 pub returns-in_ok-push-2-clause-parts : goal.returns-in_ok-push-2-clause-parts

@@ -1,10 +1,10 @@
 use Rattle.std.proofs.Common.{◌≡◌, ◌++◌}
 use Rattle.std.specs.List.{flat_map}
 use Rattle.kan_grammar.specs.Texts.TextFaults.{use_faults, term_faults}
-use Rattle.goal_syntax.specs.FaultLists.{fault_list}
-use Rattle.goal_syntax.specs.Parts.{sites}
-use Rattle.goal_syntax.specs.TermSteps.{task_form}
-use Rattle.goal_syntax.specs.Waiting.{waiting_uses, waiting_size}
+use Rattle.goal_syntax.specs.Judging.FaultLists.{fault_list}
+use Rattle.goal_forms.specs.Parts.{sites}
+use Rattle.goal_forms.specs.TermSteps.{task_form}
+use Rattle.goal_syntax.specs.Judging.TermsLeft.{waiting_uses, waiting_size}
 use Rattle.goal_syntax.proofs.judge_term.judge_term.Given as goal
 
 -- the faults that were noted and those of what waits are all faults

@@ -1,9 +1,9 @@
 use Rattle.std.proofs.Common.{◌≡◌, ◌≤◌, ◌++◌, map, take, drop, length}
 use Rattle.kan_grammar.specs.Texts.TopForms.{defined}
 use Rattle.kan_grammar.specs.Texts.TextFaults.{forms_faults}
-use Rattle.goal_syntax.specs.FaultLists.{fault_list}
-use Rattle.goal_syntax.specs.Parts.{sites, site_at}
-use Rattle.goal_syntax.specs.Tabled.{relations}
+use Rattle.goal_syntax.specs.Judging.FaultLists.{fault_list}
+use Rattle.goal_forms.specs.Parts.{sites, site_at}
+use Rattle.goal_forms.specs.RelationTables.{relations}
 use Rattle.goal_syntax.proofs.judge_text.judge_forms.Given as goal
 
 -- the relations of the forms that are left come behind those before, and the faults so far and those of what is left are all

@@ -1,0 +1,5 @@
+-- The faults of texts.
+pub mod FaultLists
+pub mod FirstFault
+pub mod TermsLeft
+pub mod GoalsLeft
