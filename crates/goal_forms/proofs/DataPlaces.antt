@@ -2,12 +2,12 @@
 use Rattle.std.proofs.Common.{◌≡◌, ℕ, ◌+◌, List, [], ◌∷◌, ◌++◌, length, map, take, drop, reverse, refl, sym, ◌∙◌, ap, ap₂, arith, append-nil, Some, length-append}
 use Rattle.std.specs.Prelude.{unwrap_or, is_some}
 use Rattle.std.proofs.lemmas.List.{reverse-append, reverse-reverse, length-map}
-use Rattle.kan_terms.specs.Table.{number_of, interned}
+use Rattle.kan_terms.specs.Table.{number_of, interned, Table}
 use Rattle.kan_terms.proofs.TableLaws.{number_of-interned}
 use Rattle.kan_grammar.specs.Data.Printed.{prefix_name}
 use Rattle.kan_grammar.specs.Data.Words.{quote, quasiquote, unquote}
-use Rattle.kan_grammar.specs.Texts.Sited.{Sited, sited, symbol_number}
-use Rattle.sexpr.specs.Seen.{Table, written}
+use Rattle.kan_grammar.specs.Texts.Sited.{Sited, with_sites, symbol_number}
+use Rattle.sexpr.specs.Seen.{written}
 use Rattle.sexpr.specs.declared.data.Datum.{Datum}
 use Rattle.goal_forms.specs.PrefixSymbols.{NamesPrefixes}
 use Rattle.goal_forms.specs.Parts.{site_at}
@@ -54,7 +54,7 @@ split_made f (p ∷ ps) (d ∷ first) later e =
     first_of z [] = z
     first_of z (x ∷ xs) = x
 
-pub map-meaning : (names : Table) (ds : List Datum) → map (sited names) (map (written names) ds) ≡ map (meaning names) ds
+pub map-meaning : (names : Table) (ds : List Datum) → map (with_sites names) (map (written names) ds) ≡ map (meaning names) ds
 map-meaning names [] = refl
 map-meaning names (d ∷ ds) = ap (λ l. meaning names d ∷ l) (map-meaning names ds)
 
@@ -70,7 +70,7 @@ places_made ds ps names first later e =
 -- the places of two lists of data, split by the length of the first
 pub split_places : (ds : List Sited) (ps front back : List ℕ) (names : Table) (first later : List Datum) → map (site_at ds) ps ≡ map (meaning names) first ++ map (meaning names) later →
     front ≡ take (length first) ps → back ≡ drop (length first) ps →
-    (map (site_at ds) front ≡ map (sited names) (map (written names) first)) × (map (site_at ds) back ≡ map (sited names) (map (written names) later))
+    (map (site_at ds) front ≡ map (with_sites names) (map (written names) first)) × (map (site_at ds) back ≡ map (with_sites names) (map (written names) later))
 split_places ds ps front back names first later e f b =
     let parts = split_made (site_at ds) ps (map (meaning names) first) (map (meaning names) later) e in
     let size : length first ≡ length (map (meaning names) first) = simp length-map in

@@ -6,9 +6,10 @@ use Rattle.std.proofs.lemmas.List.{reverse-append}
 use Rattle.kan_grammar.specs.Data.Written.{list, prefixed, dotted}
 use Rattle.kan_grammar.specs.Data.Words.{round}
 use Rattle.kan_grammar.specs.Data.Printed.{prefix_name}
-use Rattle.kan_grammar.specs.Texts.Sited.{Sited, sited, symbol_number}
+use Rattle.kan_grammar.specs.Texts.Sited.{Sited, with_sites, symbol_number}
 use Rattle.sexpr.specs.Meaning.{prefix_of}
-use Rattle.sexpr.specs.Seen.{Table, inner_of, list_of, written}
+use Rattle.kan_terms.specs.Table.{Table}
+use Rattle.sexpr.specs.Seen.{inner_of, list_of, written}
 use Rattle.sexpr.specs.Works.{within}
 use Rattle.sexpr.specs.declared.data.Datum.{Datum}
 use Rattle.sexpr.specs.declared.data.DatumKind.{DatumKind}
@@ -59,14 +60,14 @@ prefixed_falls names d q x inner at s ws w1 w2 e g f1 f2 =
 -- a prefixed datum is the list of its symbol and the datum behind it
 pub prefixed_finish : (names : Table) (d : Datum) (q : Prefix) (x : Datum) (inner : Bor Datum) (s : ℕ) (made : List Sited) (ws w1 w2 : List Work) → d.kind ≡ kinds.Prefixed q x → inner.now ≡ x →
     symbol_number names (prefix_name (prefix_of q)) ≡ s → w1 ≡ ws ++ works.Prefixed d.at s ∷ [] → w2 ≡ w1 ++ works.Datum inner ∷ [] →
-    finish names (reverse w2) made ≡ finish names (reverse ws) (sited names (written names d) ∷ made)
+    finish names (reverse w2) made ≡ finish names (reverse ws) (with_sites names (written names d) ∷ made)
 prefixed_finish names d q x inner s made ws w1 w2 e g numbered f1 f2 =
     let top : reverse w2 ≡ works.Datum inner ∷ works.Prefixed d.at s ∷ reverse ws =
     ap reverse f2 ∙ reverse-append w1 (works.Datum inner ∷ []) ∙ ap (λ l. works.Datum inner ∷ l) (ap reverse f1 ∙ reverse-append ws (works.Prefixed d.at s ∷ [])) in
     let at : ℕ = d.at in
     ap (λ l. finish names l made) top
-    ∙ ap (λ n. finish names (reverse ws) (Sited.pair at (Sited.name at n) (Sited.pair at (sited names (written names inner.now)) (Sited.nil at)) ∷ made)) (sym numbered)
-    ∙ ap (λ w. finish names (reverse ws) (sited names w ∷ made)) (sym (prefixed_is names d q x inner e g))
+    ∙ ap (λ n. finish names (reverse ws) (Sited.pair at (Sited.name at n) (Sited.pair at (with_sites names (written names inner.now)) (Sited.nil at)) ∷ made)) (sym numbered)
+    ∙ ap (λ w. finish names (reverse ws) (with_sites names w ∷ made)) (sym (prefixed_is names d q x inner e g))
 
 pub rest_falls : (names : Table) (items rest : Bor (List Datum)) (first : Bor Datum) (last : Option (Bor Datum)) (at : ℕ) (ws w1 w2 w3 : List Work) → items.now ≡ first.now ∷ rest.now →
     w1 ≡ ws ++ works.Pair at ∷ [] → w2 ≡ w1 ++ works.Rest rest last at ∷ [] → w3 ≡ w2 ++ works.Datum first ∷ [] → works_size names w3 < within_size (within names items last) + works_size names ws

@@ -5,20 +5,20 @@ use Rattle.std.specs.Str.{is_utf8}
 use Rattle.std.specs.List.{list_all}
 use Rattle.std.proofs.lemmas.Bool.{and_from, and_parts, leb-true, le-leb}
 use Rattle.kan_terms.specs.Tree.{Tree}
-use Rattle.kan_model.specs.Answers.Text.{Table}
+use Rattle.kan_terms.specs.Table.{Table}
 use Rattle.kan_grammar.specs.Data.Words.{Atom, symbol, number, truth, out_of_range, reserved}
 use Rattle.kan_grammar.specs.Data.Written.{Written, Within, single, list, prefixed, close, dotted, element, is_allowed, are_allowed_within, are_allowed, is_allowed_atom, deepest}
 use Rattle.kan_grammar.specs.Data.Enclosing.{as_written}
 use Rattle.kan_grammar.specs.Data.Tokens.{tokens}
 use Rattle.kan_grammar.specs.Data.Faults.{Reading, data_are, refused, read_if, read_text}
-use Rattle.kan_grammar.specs.Data.Builds.{made, map_reading}
+use Rattle.kan_grammar.specs.Data.Builds.{build_datum, map_reading}
 use Rattle.kan_grammar.specs.Data.Printed.{pairs, pairs_within, atom_tree}
 use Rattle.kan_grammar.proofs.Data.Exactly.{reads_exactly}
-use Rattle.kan_grammar.specs.Texts.Sited.{Sited, sited, sited_within, sited_atom, constant, is_proper}
+use Rattle.kan_grammar.specs.Texts.Sited.{Sited, with_sites, within_sites, atom_with_site, constant, is_proper}
 use Rattle.kan_grammar.specs.Texts.Language.{Word, head_word}
 use Rattle.kan_model.specs.Programs.Scope.{height}
 use Rattle.kan_grammar.specs.Texts.Binders.{names_of, bound_names, binder}
-use Rattle.kan_grammar.specs.Texts.TermForms.{Use, bad_term, quoted, term_form, cons_form, list_form, quasiquoted, template_form, unquoted}
+use Rattle.kan_grammar.specs.Texts.TermForms.{Use, bad_term, quote_form, term_form, cons_form, list_form, quasiquote_form, template_form, unquote_form}
 use Rattle.kan_grammar.specs.Texts.ProgramText.{slot_list}
 use Rattle.kan_grammar.specs.Texts.Resolved.{Names, template_in}
 use Rattle.sexpr.specs.Seen.{as_kept}
@@ -36,7 +36,7 @@ constant_high ns (Sited.bool at b) = refl
 constant_high ns (Sited.nil at) = refl
 constant_high ns (Sited.pair at a d) = ap₂ (λ m n. suc (max m n)) (constant_high ns a) (constant_high ns d)
 
-quoted_high : (ns : Names) (at : ℕ) (d : Sited) → height (template_in ns (quoted at d)) ≤ pairs_high d
+quoted_high : (ns : Names) (at : ℕ) (d : Sited) → height (template_in ns (quote_form at d)) ≤ pairs_high d
 quoted_high ns at (Sited.pair p d (Sited.nil e)) = let same = constant_high ns d in omega (arith, same)
 quoted_high ns at d = omega arith
 
@@ -50,13 +50,13 @@ mutual
   term_high t ns (Sited.pair at head parts) =
       by_word (head_word t head) (is_proper parts) (quoted_high ns at parts) (cons_high t ns at parts) (list_high t ns parts) (quasiquoted_high t ns at parts)
     where
-      by_word : (w : Word) (proper : Bool) → height (template_in ns (quoted at parts)) ≤ pairs_high parts → height (template_in ns (cons_form t at parts)) ≤ pairs_high parts →
-          height (template_in ns (list_form t parts)) ≤ pairs_high parts → height (template_in ns (quasiquoted t at parts)) ≤ pairs_high parts →
+      by_word : (w : Word) (proper : Bool) → height (template_in ns (quote_form at parts)) ≤ pairs_high parts → height (template_in ns (cons_form t at parts)) ≤ pairs_high parts →
+          height (template_in ns (list_form t parts)) ≤ pairs_high parts → height (template_in ns (quasiquote_form t at parts)) ≤ pairs_high parts →
           height (template_in ns (elim w as (λ x. Tree Use) [
-            | Word.quote ↦ quoted at parts
+            | Word.quote ↦ quote_form at parts
             | Word.cons ↦ cons_form t at parts
             | Word.list ↦ elim proper [ true ↦ list_form t parts | false ↦ bad_term at ]
-            | Word.quasiquote ↦ quasiquoted t at parts
+            | Word.quasiquote ↦ quasiquote_form t at parts
             | _ ↦ bad_term at
           ])) ≤ suc (max (pairs_high head) (pairs_high parts))
       by_word Word.quote proper q c l k = omega (arith, q)
@@ -75,7 +75,7 @@ mutual
   list_high t ns (Sited.pair p a parts) = let first = term_high t ns a in let others = list_high t ns parts in omega (arith, first, others)
   list_high t ns d = omega arith
 
-  quasiquoted_high : (t : Table) (ns : Names) (at : ℕ) (d : Sited) → height (template_in ns (quasiquoted t at d)) ≤ pairs_high d
+  quasiquoted_high : (t : Table) (ns : Names) (at : ℕ) (d : Sited) → height (template_in ns (quasiquote_form t at d)) ≤ pairs_high d
   quasiquoted_high t ns at (Sited.pair p d (Sited.nil e)) = let inner = template_high t ns d in omega (arith, inner)
   quasiquoted_high t ns at d = omega arith
 
@@ -86,10 +86,10 @@ mutual
   template_high t ns (Sited.nil at) = omega arith
   template_high t ns (Sited.pair at a d) = by_word (head_word t a) (unquoted_high t ns at d) (template_high t ns a) (template_high t ns d)
     where
-      by_word : (w : Word) → height (template_in ns (unquoted t at d)) ≤ pairs_high d → height (template_in ns (template_form t a)) ≤ pairs_high a →
+      by_word : (w : Word) → height (template_in ns (unquote_form t at d)) ≤ pairs_high d → height (template_in ns (template_form t a)) ≤ pairs_high a →
           height (template_in ns (template_form t d)) ≤ pairs_high d →
           height (template_in ns (elim w as (λ x. Tree Use) [
-            | Word.unquote ↦ unquoted t at d
+            | Word.unquote ↦ unquote_form t at d
             | Word.quasiquote ↦ bad_term at
             | _ ↦ Tree.pair (template_form t a) (template_form t d)
           ])) ≤ suc (max (pairs_high a) (pairs_high d))
@@ -97,7 +97,7 @@ mutual
       by_word Word.quasiquote u p q = omega arith
       by_word w u p q = omega (arith, p, q)
 
-  unquoted_high : (t : Table) (ns : Names) (at : ℕ) (d : Sited) → height (template_in ns (unquoted t at d)) ≤ pairs_high d
+  unquoted_high : (t : Table) (ns : Names) (at : ℕ) (d : Sited) → height (template_in ns (unquote_form t at d)) ≤ pairs_high d
   unquoted_high t ns at (Sited.pair p u (Sited.nil e)) = let inner = term_high t ns u in omega (arith, inner)
   unquoted_high t ns at d = omega arith
 
@@ -133,10 +133,10 @@ binder_high t d = by_proper (is_proper d) refl
 
 -- a datum as it is written has the height of its pairs
 mutual
-  pub pairs_same : (t : Table) (d : Written) → pairs_high (sited t d) ≡ height (pairs d)
+  pub pairs_same : (t : Table) (d : Written) → pairs_high (with_sites t d) ≡ height (pairs d)
   pairs_same t (single at a) = atom_same a
     where
-      atom_same : (a : Atom) → pairs_high (sited_atom t at a) ≡ height (atom_tree a)
+      atom_same : (a : Atom) → pairs_high (atom_with_site t at a) ≡ height (atom_tree a)
       atom_same (symbol s) = refl
       atom_same (number n) = refl
       atom_same (truth b) = refl
@@ -145,7 +145,7 @@ mutual
   pairs_same t (list at s inner) = within_same t at inner
   pairs_same t (prefixed at p d) = ap (λ n. suc (max 0 (suc (max n 0)))) (pairs_same t d)
 
-  within_same : (t : Table) (at : ℕ) (inner : Within) → pairs_high (sited_within t at inner) ≡ height (pairs_within inner)
+  within_same : (t : Table) (at : ℕ) (inner : Within) → pairs_high (within_sites t at inner) ≡ height (pairs_within inner)
   within_same t at (close end) = refl
   within_same t at (dotted point d end) = pairs_same t d
   within_same t at (element d inner) = ap₂ (λ m n. suc (max m n)) (pairs_same t d) (within_same t at inner)
@@ -179,27 +179,27 @@ mutual
       omega (arith, first, others)
 
 -- data that are allowed are low, as they are kept
-kept_low : (t : Table) (es : List Written) → are_allowed deepest es ≡ true → AreLow (map (sited t) (map (made as_kept) es))
+kept_low : (t : Table) (es : List Written) → are_allowed deepest es ≡ true → AreLow (map (with_sites t) (map (build_datum as_kept) es))
 kept_low t [] h = refl
 kept_low t (e ∷ es) h =
     let both = and_parts (is_allowed deepest 0 e) (are_allowed deepest es) h in
     let first = allowed_high deepest 0 e both.0 in
-    let same : pairs_high (sited t (made as_kept e)) ≡ height (pairs e) = pairs_same t (made as_kept e) ∙ ap height (keeps_meaning e) in
-    and_from (is_low_datum (sited t (made as_kept e))) (list_all is_low_datum (map (sited t) (map (made as_kept) es)))
-    (le-leb (pairs_high (sited t (made as_kept e))) 2048 (omega (arith, first, same))) (kept_low t es both.1)
+    let same : pairs_high (with_sites t (build_datum as_kept e)) ≡ height (pairs e) = pairs_same t (build_datum as_kept e) ∙ ap height (keeps_meaning e) in
+    and_from (is_low_datum (with_sites t (build_datum as_kept e))) (list_all is_low_datum (map (with_sites t) (map (build_datum as_kept) es)))
+    (le-leb (pairs_high (with_sites t (build_datum as_kept e))) 2048 (omega (arith, first, same))) (kept_low t es both.1)
 
 allowed_text : (bytes : List ℕ) (u : Bool) (es : List Written) → read_if as_written u bytes ≡ data_are es → are_allowed deepest es ≡ true
 allowed_text bytes true es h = ((reads_exactly (tokens bytes) es).0 h).1
 allowed_text bytes false es h = absurd cc
 
-reading_low : (t : Table) (r : Reading Written) (ds : List Written) → ((es : List Written) → r ≡ data_are es → are_allowed deepest es ≡ true) → map_reading (made as_kept) r ≡ data_are ds → AreLow (map (sited t) ds)
+reading_low : (t : Table) (r : Reading Written) (ds : List Written) → ((es : List Written) → r ≡ data_are es → are_allowed deepest es ≡ true) → map_reading (build_datum as_kept) r ≡ data_are ds → AreLow (map (with_sites t) ds)
 reading_low t (data_are es) ds allowed h =
-    let e : map (made as_kept) es ≡ ds = cc in
-    ap (λ l. list_all is_low_datum (map (sited t) l)) (sym e) ∙ kept_low t es (allowed es refl)
+    let e : map (build_datum as_kept) es ≡ ds = cc in
+    ap (λ l. list_all is_low_datum (map (with_sites t) l)) (sym e) ∙ kept_low t es (allowed es refl)
 reading_low t (refused f) ds allowed h = absurd cc
 
 -- the data of a text are low
-pub text_low : (t : Table) (bytes : List ℕ) (ds : List Written) → read_text as_kept bytes ≡ data_are ds → AreLow (map (sited t) ds)
+pub text_low : (t : Table) (bytes : List ℕ) (ds : List Written) → read_text as_kept bytes ≡ data_are ds → AreLow (map (with_sites t) ds)
 unfolding read_text
 text_low t bytes ds h = reading_low t (read_text as_written bytes) ds (λ es e. allowed_text bytes (is_utf8 bytes) es e) (sym (keeps_data bytes) ∙ h)
 

@@ -1,10 +1,10 @@
 -- What is made of the data that are left to be turned.
 use Rattle.std.specs.Prelude.{◌≡◌, ℕ, ◌+◌, List, [], ◌∷◌}
-use Rattle.kan_model.specs.Answers.Text.{Table}
+use Rattle.kan_terms.specs.Table.{Table}
 use Rattle.kan_grammar.specs.Data.Printed.{prefix_name}
 use Rattle.kan_grammar.specs.Data.Words as words
 use Rattle.kan_grammar.specs.Data.Written.{Written, Within, single, list, prefixed, close, dotted, element}
-use Rattle.kan_grammar.specs.Texts.Sited.{Sited, sited, sited_within, symbol_number}
+use Rattle.kan_grammar.specs.Texts.Sited.{Sited, with_sites, within_sites, symbol_number}
 use Rattle.sexpr.specs.Seen.{written}
 use Rattle.sexpr.specs.Works.{within}
 use Rattle.sexpr.specs.declared.data.Datum.{Datum}
@@ -22,8 +22,8 @@ pub record AreNumbered (names : Table) (prefixes : Prefixes) : Type 0 where
 -- what is made once all work on a stack is done, the top first, and the datum made last
 abbrev pub finish : Table → List Work → List Sited → List Sited
 finish names [] made = made
-finish names (works.Datum d ∷ ws) made = finish names ws (sited names (written names d.now) ∷ made)
-finish names (works.Rest items last at ∷ ws) made = finish names ws (sited_within names at (within names items last) ∷ made)
+finish names (works.Datum d ∷ ws) made = finish names ws (with_sites names (written names d.now) ∷ made)
+finish names (works.Rest items last at ∷ ws) made = finish names ws (within_sites names at (within names items last) ∷ made)
 finish names (works.Pair at ∷ ws) made = finish names ws (joined at made)
 finish names (works.Prefixed at s ∷ ws) made = finish names ws (prefixed_last at s made)
 
@@ -51,4 +51,4 @@ works_size names (w ∷ ws) = work_size names w + works_size names ws
 
 -- what a datum means as pairs
 abbrev pub meaning : Table → Datum → Sited
-meaning names d = sited names (written names d)
+meaning names d = with_sites names (written names d)

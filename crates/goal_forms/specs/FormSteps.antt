@@ -1,6 +1,6 @@
 -- What the top forms that the code opens stand for.
 use Rattle.std.specs.Prelude.{ℕ, ◌^◌, ℤ, pos, negsuc, nat_lt, false, List, [], ◌∷◌, Option, Some, None, option_map, if◌then◌else◌}
-use Rattle.kan_model.specs.Answers.Text.{Table}
+use Rattle.kan_terms.specs.Table.{Table}
 use Rattle.kan_grammar.specs.Texts.Sited.{Sited}
 use Rattle.kan_grammar.specs.Texts.Binders.{Checked, binder, binder_faults}
 use Rattle.kan_grammar.specs.Texts.GoalForms.{goal_forms}

@@ -1,6 +1,6 @@
 -- What the goals that the code opens stand for.
 use Rattle.std.specs.Prelude.{ℕ, ◌+◌, List}
-use Rattle.kan_model.specs.Answers.Text.{Table}
+use Rattle.kan_terms.specs.Table.{Table}
 use Rattle.kan_grammar.specs.Texts.Sited.{Sited}
 use Rattle.kan_grammar.specs.Texts.Binders.{binder, tag}
 use Rattle.kan_grammar.specs.Texts.TermForms.{term_form}

@@ -1,7 +1,7 @@
 -- What the tasks and steps by which terms are opened stand for.
 use Rattle.std.specs.Prelude.{ℕ, ◌+◌, true, false, List}
 use Rattle.kan_terms.specs.Tree.{Tree}
-use Rattle.kan_model.specs.Answers.Text.{Table}
+use Rattle.kan_terms.specs.Table.{Table}
 use Rattle.kan_grammar.specs.Texts.Sited.{Sited, is_proper, constant}
 use Rattle.kan_grammar.specs.Texts.TermForms.{Use, TermForm, bad_term, term_form, list_form, template_form}
 use Rattle.goal_forms.specs.Parts.{site_at}

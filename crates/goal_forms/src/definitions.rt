@@ -1,7 +1,7 @@
 //! The relations that texts define.
 
 ghost use Rattle.std.specs.Prelude.{◌≡◌, ◌<◌, ◌+◌, ◌^◌, ◌++◌, length, map, IfOk, OnOk};
-ghost use Rattle.kan_grammar.specs.Texts.TopForms.{defined, defined_by as defined_by_form};
+ghost use Rattle.kan_grammar.specs.Texts.TopForms.{definitions, definitions_of as defined_by_form};
 ghost use Rattle.goal_forms.specs.DefinedRelations.{related};
 ghost use Rattle.goal_forms.specs.RelationTables.{relations};
 ghost use Rattle.goal_forms.specs.Parts.{sites, site_at};
@@ -19,7 +19,7 @@ fn define_all(
     forms: &[u32],
     rows: &mut Vec<Defined>,
 ) -> Result<(), Memory>
-    ensures { OnOk result (related rows.new.items ≡ related rows.old.items ++ defined names.now (map (site_at (sites nodes.now)) forms.now)) }
+    ensures { OnOk result (related rows.new.items ≡ related rows.old.items ++ definitions names.now (map (site_at (sites nodes.now)) forms.now)) }
 {
     for place in forms {
         if let Some(relation) = defined_by(nodes, names, *place) {
@@ -49,8 +49,8 @@ pub fn define(
 ) -> Result<(Relations, u32), Memory>
     requires { length library.now + length text.now < 2 ^ 32 }
     ensures relations { IfOk result (λ made. relations made.0
-        ≡ defined names.now (map (site_at (sites nodes.now)) library.now) ++ defined names.now (map (site_at (sites nodes.now)) text.now)) }
-    ensures before { IfOk result (λ made. made.1 ≡ length (defined names.now (map (site_at (sites nodes.now)) library.now))) }
+        ≡ definitions names.now (map (site_at (sites nodes.now)) library.now) ++ definitions names.now (map (site_at (sites nodes.now)) text.now)) }
+    ensures before { IfOk result (λ made. made.1 ≡ length (definitions names.now (map (site_at (sites nodes.now)) library.now))) }
     ensures few { IfOk result (λ made. length (relations made.0) < 2 ^ 32) }
 {
     let mut rows = Vec::new(alloc);

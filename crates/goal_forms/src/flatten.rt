@@ -2,10 +2,11 @@
 
 ghost use Rattle.std.specs.Prelude.{◌≡◌, ◌+◌, ◌<◌, ◌++◌, ◌∷◌, [], length, reverse, List, ℕ, true, IfOk, OnOk, map};
 ghost use Rattle.kan_grammar.specs.Data.Printed.{prefix_name};
-ghost use Rattle.kan_grammar.specs.Texts.Sited.{Sited, sited, sited_atom, symbol_number};
+ghost use Rattle.kan_grammar.specs.Texts.Sited.{Sited, with_sites, atom_with_site, symbol_number};
 ghost use Rattle.kan_terms.specs.Table.{IsDistinct, name_of, number_of};
 ghost use Rattle.sexpr.specs.Meaning.{prefix_of};
-ghost use Rattle.sexpr.specs.Seen.{Table, symbol_atom, written};
+ghost use Rattle.kan_terms.specs.Table.{Table};
+ghost use Rattle.sexpr.specs.Seen.{symbol_atom, written};
 ghost use Rattle.goal_forms.specs.Parts.{sites, site_at, part_site};
 ghost use Rattle.std.specs.List.{list_all};
 ghost use Rattle.goal_forms.specs.Heights.{AreLow, is_low_datum};
@@ -49,7 +50,7 @@ fn put(at: u32, part: Part, table: &mut Nodes, places: &mut Vec<u32>) -> Result<
 
 // The part that a symbol is; one without a name is nothing.
 fn symbol_part(names: &Names, symbol: u32) -> Part
-    ensures part { (ds : List Sited) → (at : ℕ) → part_site ds at result ≡ sited_atom names.now at (symbol_atom (name_of names.now symbol)) }
+    ensures part { (ds : List Sited) → (at : ℕ) → part_site ds at result ≡ atom_with_site names.now at (symbol_atom (name_of names.now symbol)) }
     ensures there { (n : ℕ) → is_there n result ≡ true }
 {
     match names.name(symbol) {
@@ -228,9 +229,9 @@ fn turn_one(
     requires numbered { AreNumbered names.now prefixes.now }
     requires below { are_below (length (sites table.old)) places.old.items ≡ true }
     ensures made { OnOk result (kept (sites table.new) places.new.items
-        ≡ sited names.now (written names.now datum.now) ∷ kept (sites table.old) places.old.items) }
+        ≡ with_sites names.now (written names.now datum.now) ∷ kept (sites table.old) places.old.items) }
     ensures below { OnOk result (are_below (length (sites table.new)) places.new.items ≡ true) }
-    ensures low { OnOk result (is_low_datum (sited names.now (written names.now datum.now)) ≡ true → list_all is_low_datum (kept (sites table.old) places.old.items) ≡ true → AreLow (sites table.old) → AreLow (sites table.new)) }
+    ensures low { OnOk result (is_low_datum (with_sites names.now (written names.now datum.now)) ≡ true → list_all is_low_datum (kept (sites table.old) places.old.items) ≡ true → AreLow (sites table.old) → AreLow (sites table.new)) }
 {
     let mut works = Vec::new(alloc);
     works.push(Work::Datum(datum))?;

@@ -1,7 +1,7 @@
 //! Top forms as they are written.
 
 ghost use Rattle.std.specs.Prelude.{◌≡◌};
-ghost use Rattle.kan_grammar.specs.Texts.TopForms.{form, relation_form, run_form, limited_form, defined_by, defined_by_head};
+ghost use Rattle.kan_grammar.specs.Texts.TopForms.{form, relation_form, run_form, limited_form, definitions_of, definitions_of_head};
 ghost use Rattle.kan_grammar.specs.Texts.Sited.{elements};
 ghost use Rattle.goal_forms.specs.FormSteps.{step_top, limit_at, run_with};
 ghost use Rattle.goal_forms.specs.Parts.{sites, site_at};
@@ -90,19 +90,19 @@ fn parse_binder(nodes: &Nodes, names: &Names, limit: Option<u32>, binder: u32, g
 
 /// The relation that a top form defines, where it defines one.
 pub fn defined_by(nodes: &Nodes, names: &Names, place: u32) -> Option<Defined>
-    ensures { related_maybe result ≡ defined_by names.now (site_at (sites nodes.now) place) }
+    ensures { related_maybe result ≡ definitions_of names.now (site_at (sites nodes.now) place) }
 {
     let (head, parts) = pair_parts(nodes, place)?;
     let (relation, _) = pair_parts(nodes, parts)?;
     match head_word(nodes, names, head) {
-        Word::Defrel => defined_by_head(nodes, names, relation),
+        Word::Defrel => definitions_of_head(nodes, names, relation),
         _ => None,
     }
 }
 
 // The relation that a head defines, where it defines one.
-fn defined_by_head(nodes: &Nodes, names: &Names, head: u32) -> Option<Defined>
-    ensures { related_maybe result ≡ defined_by_head names.now (elements (site_at (sites nodes.now) head)) }
+fn definitions_of_head(nodes: &Nodes, names: &Names, head: u32) -> Option<Defined>
+    ensures { related_maybe result ≡ definitions_of_head names.now (elements (site_at (sites nodes.now) head)) }
 {
     let (first, rest) = pair_parts(nodes, head)?;
     let params = count(nodes, rest)?;

@@ -1,7 +1,7 @@
 //! The heads of relations.
 
 ghost use Rattle.std.specs.Prelude.{◌≡◌, IfOk, option_map};
-ghost use Rattle.kan_model.specs.Answers.Text.{Table};
+ghost use Rattle.kan_terms.specs.Table.{Table};
 ghost use Rattle.kan_grammar.specs.Texts.TopForms.{head as head_of, head_name as name_of_head};
 ghost use Rattle.goal_forms.specs.FormSteps.{named};
 ghost use Rattle.goal_forms.specs.Parts.{sites, site_at};

@@ -1,7 +1,7 @@
 //! Terms as they are written, parsed one step at a time.
 
 ghost use Rattle.std.specs.Prelude.{◌≡◌, ◌<◌, ◌≤◌};
-ghost use Rattle.kan_grammar.specs.Texts.TermForms.{term_form, template_form, list_form, quoted, cons_form, quasiquoted, unquoted};
+ghost use Rattle.kan_grammar.specs.Texts.TermForms.{term_form, template_form, list_form, quote_form, cons_form, quasiquote_form, unquote_form};
 ghost use Rattle.kan_grammar.specs.Texts.Sited.{constant};
 ghost use Rattle.goal_forms.specs.Parts.{sites, site_at};
 ghost use Rattle.goal_forms.specs.TermSteps.{listed, site_size, step_size, step_form, task_form, task_size};
@@ -79,7 +79,7 @@ fn parse_term(nodes: &Nodes, names: &Names, place: u32) -> Step
 
 // What is quoted begins with this, where these are the parts behind quote.
 fn parse_quoted(nodes: &Nodes, names: &Names, at: u32, parts: u32) -> Step
-    ensures form { step_form (sites nodes.now) names.now result ≡ quoted at (site_at (sites nodes.now) parts) }
+    ensures form { step_form (sites nodes.now) names.now result ≡ quote_form at (site_at (sites nodes.now) parts) }
     ensures fits { step_size (sites nodes.now) result ≤ site_size (site_at (sites nodes.now) parts) }
 {
     match only_part(nodes, parts) {
@@ -90,7 +90,7 @@ fn parse_quoted(nodes: &Nodes, names: &Names, at: u32, parts: u32) -> Step
 
 // The same of a template.
 fn parse_quasiquoted(nodes: &Nodes, names: &Names, at: u32, parts: u32) -> Step
-    ensures form { step_form (sites nodes.now) names.now result ≡ quasiquoted names.now at (site_at (sites nodes.now) parts) }
+    ensures form { step_form (sites nodes.now) names.now result ≡ quasiquote_form names.now at (site_at (sites nodes.now) parts) }
     ensures fits { step_size (sites nodes.now) result ≤ site_size (site_at (sites nodes.now) parts) }
 {
     match only_part(nodes, parts) {
@@ -101,7 +101,7 @@ fn parse_quasiquoted(nodes: &Nodes, names: &Names, at: u32, parts: u32) -> Step
 
 // The same of a term in a template.
 fn parse_unquoted(nodes: &Nodes, names: &Names, at: u32, parts: u32) -> Step
-    ensures form { step_form (sites nodes.now) names.now result ≡ unquoted names.now at (site_at (sites nodes.now) parts) }
+    ensures form { step_form (sites nodes.now) names.now result ≡ unquote_form names.now at (site_at (sites nodes.now) parts) }
     ensures fits { step_size (sites nodes.now) result ≤ site_size (site_at (sites nodes.now) parts) }
 {
     match only_part(nodes, parts) {

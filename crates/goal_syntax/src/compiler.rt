@@ -6,13 +6,13 @@ ghost use Rattle.sexpr.specs.Reads.{Extends};
 ghost use Rattle.kan_model.specs.Programs.Drafts.{tables};
 ghost use Rattle.kan_model.specs.Programs.Goals as model;
 ghost use Rattle.kan_model.specs.Programs.Nodes.{goal_place};
-ghost use Rattle.kan_grammar.specs.Texts.ProgramText.{meant, relations_in, relations_of, queries_of};
+ghost use Rattle.kan_grammar.specs.Texts.ProgramText.{text_meaning, relations_in, relations_of, queries_of};
 ghost use Rattle.kan_model.specs.Programs.Closed as programs;
 ghost use Rattle.kan_model.specs.Programs.Scope.{is_small};
-ghost use Rattle.kan_grammar.specs.Texts.Sited.{sited};
+ghost use Rattle.kan_grammar.specs.Texts.Sited.{with_sites};
 ghost use Rattle.sexpr.specs.Seen.{written};
 ghost use Rattle.kan_model.specs.Programs.Tables.{nothing_open};
-ghost use Rattle.kan_grammar.specs.Texts.TopForms.{defined, form};
+ghost use Rattle.kan_grammar.specs.Texts.TopForms.{definitions, form};
 ghost use Rattle.kan_model.specs.declared.nodes.Query.{Query as AskedOf};
 ghost use Rattle.goal_forms.specs.Heights.{AreLow};
 ghost use Rattle.kan_grammar.specs.Texts.TextFaults.{faults_of, IsAccepted};
@@ -149,8 +149,8 @@ fn build_program(text: &Text, library: &[u32], forms: &[u32]) -> Result<Compiled
     requires low { AreLow (sites text.now.nodes.now) }
     requires alone { faults_of text.now.names.now [] (map (site_at (sites text.now.nodes.now)) library.now) ≡ [] }
     requires accepted { faults_of text.now.names.now (map (site_at (sites text.now.nodes.now)) library.now) (map (site_at (sites text.now.nodes.now)) forms.now) ≡ [] }
-    requires relations { relations text.now.relations.now ≡ defined text.now.names.now (map (site_at (sites text.now.nodes.now)) library.now) ++ defined text.now.names.now (map (site_at (sites text.now.nodes.now)) forms.now) }
-    ensures meant { IfOk result (λ made. IsMeant (meant text.now.names.now (map (site_at (sites text.now.nodes.now)) library.now) (map (site_at (sites text.now.nodes.now)) forms.now)) made.program made.queries) }
+    requires relations { relations text.now.relations.now ≡ definitions text.now.names.now (map (site_at (sites text.now.nodes.now)) library.now) ++ definitions text.now.names.now (map (site_at (sites text.now.nodes.now)) forms.now) }
+    ensures text_meaning { IfOk result (λ made. IsMeant (text_meaning text.now.names.now (map (site_at (sites text.now.nodes.now)) library.now) (map (site_at (sites text.now.nodes.now)) forms.now)) made.program made.queries) }
     ensures named { IfOk result (λ made. are_named text.now.names.now (programs.tables made.program) ≡ true) }
 {
     let mut draft = Draft::new(text.alloc);
@@ -201,7 +201,7 @@ fn compile_data(
     requires low_library { AreLow (map (meaning names.now) library.now) }
     requires low_text { AreLow (map (meaning names.now) text.now) }
     requires alone { IsAccepted names.now [] (map (written names.now) library.now) }
-    ensures { CompilesForms names.now (map (sited names.now) (map (written names.now) library.now)) (map (sited names.now) (map (written names.now) text.now)) result }
+    ensures { CompilesForms names.now (map (with_sites names.now) (map (written names.now) library.now)) (map (with_sites names.now) (map (written names.now) text.now)) result }
 {
     let mut table = Nodes::new(alloc);
     let places = turn_both(alloc, library, text, names, prefixes, &mut table)?;

@@ -2,7 +2,7 @@
 
 ghost use Rattle.std.specs.Prelude.{◌≡◌, ◌+◌, ◌<◌, ◌++◌, ◌∷◌, [], length, reverse, List, Option, ℕ, OnOk};
 ghost use Rattle.std.specs.List.{flat_map};
-ghost use Rattle.kan_model.specs.Answers.Text.{Table};
+ghost use Rattle.kan_terms.specs.Table.{Table};
 ghost use Rattle.kan_grammar.specs.Texts.GoalForms.{goal_form, goal_forms, term_forms};
 ghost use Rattle.kan_grammar.specs.Texts.TextFaults.{term_faults, call_faults, goal_faults, goals_faults};
 ghost use Rattle.kan_grammar.specs.Texts.TermForms.{term_form};

@@ -1,7 +1,7 @@
 //! The faults of texts, and the one that comes first.
 
 ghost use Rattle.std.specs.Prelude.{◌≡◌, ◌<◌, ◌≤◌, ◌+◌, ◌^◌, ◌++◌, length, take, map, IfOk, OnOk, option_map};
-ghost use Rattle.kan_grammar.specs.Texts.TopForms.{defined, defined_by as defined_by_form};
+ghost use Rattle.kan_grammar.specs.Texts.TopForms.{definitions, definitions_of as defined_by_form};
 ghost use Rattle.kan_grammar.specs.Texts.TextFaults.{is_before, first_of, least, forms_faults, faults_of};
 ghost use Rattle.goal_syntax.specs.Judging.FaultLists.{fault_of, fault_list};
 ghost use Rattle.goal_forms.specs.Parts.{sites, site_at};
@@ -51,7 +51,7 @@ pub(crate) fn judge_forms(
     requires few { length (relations text.now.relations.now) < 2 ^ 32 }
     requires before { before ≤ length (relations text.now.relations.now) }
     requires later { relations text.now.relations.now ≡ take before (relations text.now.relations.now)
-        ++ defined text.now.names.now (map (site_at (sites text.now.nodes.now)) forms.now) }
+        ++ definitions text.now.names.now (map (site_at (sites text.now.nodes.now)) forms.now) }
     ensures { OnOk result (fault_list faults.new.items ≡ fault_list faults.old.items
         ++ forms_faults text.now.names.now (relations text.now.relations.now) (take before (relations text.now.relations.now))
         (map (site_at (sites text.now.nodes.now)) forms.now)) }
@@ -72,7 +72,7 @@ pub(crate) fn first_of_forms(
     requires few { length (relations text.now.relations.now) < 2 ^ 32 }
     requires before { before ≤ length (relations text.now.relations.now) }
     requires later { relations text.now.relations.now ≡ take before (relations text.now.relations.now)
-        ++ defined text.now.names.now (map (site_at (sites text.now.nodes.now)) forms.now) }
+        ++ definitions text.now.names.now (map (site_at (sites text.now.nodes.now)) forms.now) }
     ensures { IfOk result (λ fault. option_map fault_of fault
         ≡ least (forms_faults text.now.names.now (relations text.now.relations.now) (take before (relations text.now.relations.now)) (map (site_at (sites text.now.nodes.now)) forms.now))) }
 {

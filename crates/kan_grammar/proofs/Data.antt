@@ -11,6 +11,7 @@ mod PrintExamples
 mod RefusalExamples
 mod Sound
 mod TokenExamples
+mod StringExamples
 mod WordExamples
 pub mod Examples
 mod OrderExamples

@@ -1,4 +1,5 @@
 -- The grammar of texts.
+pub mod NameLaws
 mod TextExamples
 mod FaultExamples
 mod ProgramExamples

@@ -1,5 +1,6 @@
 -- The grammar of data.
 pub mod Words
+pub mod Strings
 pub mod Tokens
 pub mod Written
 pub mod Enclosing

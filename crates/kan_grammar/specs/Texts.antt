@@ -5,6 +5,7 @@ pub mod Binders
 pub mod TermForms
 pub mod GoalForms
 pub mod TopForms
+pub mod TextNames
 pub mod Resolved
 pub mod ProgramText
 pub mod TextFaults

@@ -1,4 +1,7 @@
 //! The grammar of texts, as definitions: words, data, forms, programs and faults, with the laws that tie them together.
 #![tactic(auto)]
 
+mod dialect;
 pub mod reading_laws;
+
+pub use dialect::Dialect;

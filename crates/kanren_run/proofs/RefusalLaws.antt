@@ -3,7 +3,7 @@ use Rattle.std.proofs.Common.{◌≡◌, ℕ, List, Err, refl, sym, ap, subst, �
 use Rattle.kan_grammar.specs.Data.Enclosing.{as_written}
 use Rattle.kan_grammar.specs.Data.Written.{Written}
 use Rattle.kan_grammar.specs.Data.Faults.{fault, Reading, data_are, refused, read_text}
-use Rattle.kan_grammar.specs.Data.Builds.{made, map_reading}
+use Rattle.kan_grammar.specs.Data.Builds.{build_datum, map_reading}
 use Rattle.sexpr.specs.Seen.{Table, as_kept}
 use Rattle.sexpr.specs.Reads.{Answers}
 use Rattle.sexpr.specs.declared.data.ReadError.{ReadError}
@@ -18,7 +18,7 @@ fault_mapped f (refused x) = refl
 
 -- what was read as it is kept has the fault of the text
 fault_kept : (bytes : List ℕ) (r : Reading Written) → read_text as_kept bytes ≡ r → reading_fault r ≡ reading_fault (read_text as_written bytes)
-fault_kept bytes r e = ap reading_fault (sym e) ∙ ap reading_fault (keeps_data bytes) ∙ fault_mapped (made as_kept) (read_text as_written bytes)
+fault_kept bytes r e = ap reading_fault (sym e) ∙ ap reading_fault (keeps_data bytes) ∙ fault_mapped (build_datum as_kept) (read_text as_written bytes)
 
 -- a text that was refused is answered so
 pub refused_has : (fuel : ℕ) (bytes : List ℕ) (names : Table) (x : ReadError) (at number : ℕ) → x ≡ Fault at number → Answers names (read_text as_kept bytes) (Err x) → Answered fuel bytes (refusal at number)

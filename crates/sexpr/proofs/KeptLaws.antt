@@ -7,7 +7,7 @@ use Rattle.kan_grammar.specs.Data.Tokens.{tokens}
 use Rattle.kan_grammar.specs.Data.Written.{Written, Within, single, list, prefixed, close, dotted, element, is_allowed, are_allowed_within, are_allowed, is_allowed_atom, deepest}
 use Rattle.kan_grammar.specs.Data.Enclosing.{row, as_written}
 use Rattle.kan_grammar.specs.Data.Faults.{Reading, data_are, refused, read_if, read_text}
-use Rattle.kan_grammar.specs.Data.Builds.{made, made_within, map_reading}
+use Rattle.kan_grammar.specs.Data.Builds.{build_datum, build_within, map_reading}
 use Rattle.kan_grammar.specs.Data.Printed.{Named, pairs, pairs_within, prefix_name}
 use Rattle.kan_terms.specs.Tree.{leaf, nil, pair}
 use Rattle.kan_grammar.proofs.Data.Exactly.{reads_exactly}
@@ -16,7 +16,7 @@ use Rattle.sexpr.specs.Seen.{written, as_kept}
 use Rattle.sexpr.specs.Laws.{KeepsData, KeepsMeaning, ReadsNamed, is_named, are_named_within, are_named}
 
 pub keeps_data : KeepsData
-keeps_data bytes = read_text-map as_written as_kept (made as_kept) (made_carries as_kept) bytes
+keeps_data bytes = read_text-map as_written as_kept (build_datum as_kept) (made_carries as_kept) bytes
 
 -- elements that are made, before the meaning of what else stands in their list
 abbrev joined : List Written → Named → Named
@@ -37,10 +37,10 @@ mutual
   keeps_meaning (list at s inner) = keeps_within at s [] inner
   keeps_meaning (prefixed at p d) = ap (λ t. pair (leaf (prefix_name p)) (pair t nil)) (keeps_meaning d)
 
-  keeps_within : (at : ℕ) (s : Shape) (ds : List Written) (inner : Within) → pairs (made_within as_kept at s ds inner) ≡ joined ds (pairs_within inner)
+  keeps_within : (at : ℕ) (s : Shape) (ds : List Written) (inner : Within) → pairs (build_within as_kept at s ds inner) ≡ joined ds (pairs_within inner)
   keeps_within at s ds (close end) = joined_row ds (close 0)
-  keeps_within at s ds (dotted point d end) = joined_row ds (dotted 0 (made as_kept d) 0) ∙ ap (joined ds) (keeps_meaning d)
-  keeps_within at s ds (element d inner) = keeps_within at s (ds ++ made as_kept d ∷ []) inner ∙ joined_push ds (made as_kept d) (pairs_within inner) ∙ ap (λ t. joined ds (pair t (pairs_within inner))) (keeps_meaning d)
+  keeps_within at s ds (dotted point d end) = joined_row ds (dotted 0 (build_datum as_kept d) 0) ∙ ap (joined ds) (keeps_meaning d)
+  keeps_within at s ds (element d inner) = keeps_within at s (ds ++ build_datum as_kept d ∷ []) inner ∙ joined_push ds (build_datum as_kept d) (pairs_within inner) ∙ ap (λ t. joined ds (pair t (pairs_within inner))) (keeps_meaning d)
 
 -- tests that both hold
 both : (a b : Bool) → a ≡ true → b ≡ true → (a && b) ≡ true
@@ -64,30 +64,30 @@ named_push (e ∷ ds) d h k = both (is_named e) (are_named (ds ++ d ∷ [])) (fi
 
 -- what is allowed has names where it is kept
 mutual
-  named_kept : (limit depth : ℕ) (d : Written) → is_allowed limit depth d ≡ true → is_named (made as_kept d) ≡ true
+  named_kept : (limit depth : ℕ) (d : Written) → is_allowed limit depth d ≡ true → is_named (build_datum as_kept d) ≡ true
   named_kept limit depth (single at a) h = second_of_both (nat_le depth limit) (is_allowed_atom a) h
   named_kept limit depth (list at s inner) h = named_within limit depth 0 at s [] inner refl (second_of_both (nat_le depth limit) (are_allowed_within limit depth 0 inner) h)
   named_kept limit depth (prefixed at p d) h = named_kept limit (depth + 2) d (second_of_both (nat_le depth limit) (is_allowed limit (depth + 2) d) h)
 
-  named_within : (limit depth count at : ℕ) (s : Shape) (ds : List Written) (inner : Within) → are_named ds ≡ true → are_allowed_within limit depth count inner ≡ true → is_named (made_within as_kept at s ds inner) ≡ true
+  named_within : (limit depth count at : ℕ) (s : Shape) (ds : List Written) (inner : Within) → are_named ds ≡ true → are_allowed_within limit depth count inner ≡ true → is_named (build_within as_kept at s ds inner) ≡ true
   named_within limit depth count at s ds (close end) k h = named_row ds (close 0) k refl
-  named_within limit depth count at s ds (dotted point d end) k h = named_row ds (dotted 0 (made as_kept d) 0) k (named_kept limit (depth + count) d (second_of_both (nat_lt 0 count) (is_allowed limit (depth + count) d) h))
+  named_within limit depth count at s ds (dotted point d end) k h = named_row ds (dotted 0 (build_datum as_kept d) 0) k (named_kept limit (depth + count) d (second_of_both (nat_lt 0 count) (is_allowed limit (depth + count) d) h))
   named_within limit depth count at s ds (element d inner) k h =
-      named_within limit depth (suc count) at s (ds ++ made as_kept d ∷ []) inner
-      (named_push ds (made as_kept d) k (named_kept limit (depth + suc count) d (first_of_both (is_allowed limit (depth + suc count) d) (are_allowed_within limit depth (suc count) inner) h)))
+      named_within limit depth (suc count) at s (ds ++ build_datum as_kept d ∷ []) inner
+      (named_push ds (build_datum as_kept d) k (named_kept limit (depth + suc count) d (first_of_both (is_allowed limit (depth + suc count) d) (are_allowed_within limit depth (suc count) inner) h)))
       (second_of_both (is_allowed limit (depth + suc count) d) (are_allowed_within limit depth (suc count) inner) h)
 
-named_all : (limit : ℕ) (ds : List Written) → are_allowed limit ds ≡ true → are_named (map (made as_kept) ds) ≡ true
+named_all : (limit : ℕ) (ds : List Written) → are_allowed limit ds ≡ true → are_named (map (build_datum as_kept) ds) ≡ true
 named_all limit [] h = refl
-named_all limit (d ∷ ds) h = both (is_named (made as_kept d)) (are_named (map (made as_kept) ds)) (named_kept limit 0 d (first_of_both (is_allowed limit 0 d) (are_allowed limit ds) h)) (named_all limit ds (second_of_both (is_allowed limit 0 d) (are_allowed limit ds) h))
+named_all limit (d ∷ ds) h = both (is_named (build_datum as_kept d)) (are_named (map (build_datum as_kept) ds)) (named_kept limit 0 d (first_of_both (is_allowed limit 0 d) (are_allowed limit ds) h)) (named_all limit ds (second_of_both (is_allowed limit 0 d) (are_allowed limit ds) h))
 
 allowed_text : (bytes : List ℕ) (u : Bool) (es : List Written) → read_if as_written u bytes ≡ data_are es → are_allowed deepest es ≡ true
 allowed_text bytes true es h = ((reads_exactly (tokens bytes) es).0 h).1
 allowed_text bytes false es h = absurd cc
 
-named_reading : (r : Reading Written) (ds : List Written) → ((es : List Written) → r ≡ data_are es → are_allowed deepest es ≡ true) → map_reading (made as_kept) r ≡ data_are ds → are_named ds ≡ true
+named_reading : (r : Reading Written) (ds : List Written) → ((es : List Written) → r ≡ data_are es → are_allowed deepest es ≡ true) → map_reading (build_datum as_kept) r ≡ data_are ds → are_named ds ≡ true
 named_reading (data_are es) ds allowed h =
-    let e : map (made as_kept) es ≡ ds = cc in
+    let e : map (build_datum as_kept) es ≡ ds = cc in
     ap are_named (sym e) ∙ named_all deepest es (allowed es refl)
 named_reading (refused f) ds allowed h = absurd cc
 

@@ -11,8 +11,8 @@ use Rattle.kan_terms.proofs.TableLaws.{name_of-number_of, name_of-append}
 use Rattle.kan_grammar.specs.Data.Words.{symbol, Token}
 use Rattle.kan_grammar.specs.Data.Written.{Written, single}
 use Rattle.kan_grammar.specs.Data.Tokens.{Placed, placed, Piece, more, placed_before, tokens, tokens_from}
-use Rattle.kan_grammar.specs.Data.Enclosing.{Open, awaiting, top}
-use Rattle.kan_grammar.specs.Data.Faults.{Fault, fault, refusal, after, going, stopped, settled, run, finish, cut_off, Reading, refused, read_tokens, read_if, read_text}
+use Rattle.kan_grammar.specs.Data.Enclosing.{Enclosing, awaiting, top}
+use Rattle.kan_grammar.specs.Data.Faults.{Fault, fault, refusal, after, going, stopped, settle, run, finish, answer_at_end, Reading, refused, read_tokens, read_if, read_text}
 use Rattle.kan_grammar.proofs.Data.Cutting.{tokens_from-piece}
 use Rattle.sexpr.specs.Meaning.{token_of, piece_of, piece_with}
 use Rattle.sexpr.specs.Pieces.{first_piece}
@@ -33,7 +33,7 @@ pub written_interned : (names more : Table) (at n : ℕ) (text : List ℕ) → n
 written_interned names more at n text h = written_symbol (names ++ more) at n ∙ ap (λ o. single at (symbol_atom o)) (name_of-append names more text n (name_of-number_of names text n h))
 
 -- a token that no question refuses is read
-read_on : (o : Open Written) (at : ℕ) (t : Token) (ts : List Placed) → refusal o at t ≡ None → run as_kept (going o) (placed at t ∷ ts) ≡ run as_kept (going (after as_kept o at t)) ts
+read_on : (o : Enclosing Written) (at : ℕ) (t : Token) (ts : List Placed) → refusal o at t ≡ None → run as_kept (going o) (placed at t ∷ ts) ≡ run as_kept (going (after as_kept o at t)) ts
 unfolding run
 read_on o at t ts h = rw h refl
 
@@ -46,9 +46,9 @@ run_stopped f [] = refl
 run_stopped f (t ∷ ts) = run_stopped f ts
 
 -- a token that is refused ends the reading
-read_refused : (o : Open Written) (at : ℕ) (t : Token) (ts : List Placed) (f : Fault) → refusal o at t ≡ Some f → finish (run as_kept (going o) (placed at t ∷ ts)) ≡ refused f
+read_refused : (o : Enclosing Written) (at : ℕ) (t : Token) (ts : List Placed) (f : Fault) → refusal o at t ≡ Some f → finish (run as_kept (going o) (placed at t ∷ ts)) ≡ refused f
 unfolding run
-read_refused o at t ts f h = ap (λ r. finish (run as_kept (settled r (after as_kept o at t)) ts)) h ∙ ap finish (run_stopped f ts)
+read_refused o at t ts f h = ap (λ r. finish (run as_kept (settle r (after as_kept o at t)) ts)) h ∙ ap finish (run_stopped f ts)
 
 pub answers_refusal : (names : Table) (old : stacks.Open) (at : ℕ) (t : Token) (ts : List Placed) (e : ReadError) → Refuses e (refusal (open_of names old) at t) → Answers names (finish (run as_kept (going (open_of names old)) (placed at t ∷ ts))) (Err e)
 answers_refusal names old at t ts (errors.Fault a n) h = read_refused (open_of names old) at t ts (fault a n) h
@@ -141,15 +141,15 @@ left_refused names o at rest bytes n p x h e s refuses left =
     (refuses names (tokens_from (at + n) 0 (drop n rest)))
 
 -- at the end of the text
-pub left_none : (names : Table) (o : stacks.Open) (at : ℕ) (rest bytes : List ℕ) (answer : Result (List Datum) ReadError) → length rest ≡ 0 → ((t : Table) → Answers t (cut_off (open_of t o)) answer) → Left names o at rest bytes → Reads bytes names answer
+pub left_none : (names : Table) (o : stacks.Open) (at : ℕ) (rest bytes : List ℕ) (answer : Result (List Datum) ReadError) → length rest ≡ 0 → ((t : Table) → Answers t (answer_at_end (open_of t o)) answer) → Left names o at rest bytes → Reads bytes names answer
 unfolding run
 left_none names o at rest bytes answer h ends left =
-    answers_same names (cut_off (open_of names o)) (read_text as_kept bytes) answer
+    answers_same names (answer_at_end (open_of names o)) (read_text as_kept bytes) answer
     (ap (λ ts. finish (run as_kept (going (open_of names o)) ts)) (sym (no_tokens at rest h)) ∙ left_here names o at rest bytes left)
     (ends names)
 
 -- data that were read are those of the text under each table that goes on where the names end
-pub left_later : (names : Table) (o : stacks.Open) (at : ℕ) (rest bytes : List ℕ) (answer : Result (List Datum) ReadError) → length rest ≡ 0 → ((t : Table) → Answers t (cut_off (open_of t o)) answer) → Left names o at rest bytes →
+pub left_later : (names : Table) (o : stacks.Open) (at : ℕ) (rest bytes : List ℕ) (answer : Result (List Datum) ReadError) → length rest ≡ 0 → ((t : Table) → Answers t (answer_at_end (open_of t o)) answer) → Left names o at rest bytes →
     IfOk answer (λ data_read. (more : Table) → Reads bytes (names ++ more) (Ok data_read))
 left_later names o at rest bytes (Ok ds) h ends left = λ more.
     left_none (names ++ more) o at rest bytes (Ok ds) h ends (left_more names (names ++ more) (length more) o at rest bytes left (more, refl, omega arith))

@@ -3,7 +3,7 @@ use Rattle.std.specs.Prelude.{◌≡◌, ℕ, suc, ◌+◌, ◌<◌, ◌≤◌, 
 use Rattle.std.specs.List.{fold}
 use Rattle.kan_grammar.specs.Data.Words.{Shape, Token}
 use Rattle.kan_grammar.specs.Data.Written.{Written}
-use Rattle.kan_grammar.specs.Data.Enclosing.{Place, top, in_list, after_dot, after_prefix, Open, awaiting, ended}
+use Rattle.kan_grammar.specs.Data.Enclosing.{Place, top, in_list, after_dot, after_prefix, Enclosing, awaiting, ended}
 use Rattle.kan_grammar.specs.Data.Faults.{refusal, after}
 use Rattle.sexpr.specs.Meaning.{shape_of, prefix_of}
 use Rattle.sexpr.specs.Seen.{Table, written, as_kept}
@@ -28,17 +28,17 @@ abbrev pub place : Table → stacks.Open → Place Written
 place names o = fold (inside names) (top (map (written names) o.top)) o.frames.items
 
 -- a list with these elements, of which there is one, whose last datum is there
-abbrev pub ended_at : Place Written → ℕ → Shape → List Written → ℕ → Written → Open Written
+abbrev pub ended_at : Place Written → ℕ → Shape → List Written → ℕ → Written → Enclosing Written
 ended_at p at s [] point d = awaiting p
 ended_at p at s (e ∷ ds) point d = ended p at s e ds point d
 
 -- a place, or a list in it whose last datum is there
-abbrev pub ended_in : Table → Place Written → Option Ended → Open Written
+abbrev pub ended_in : Table → Place Written → Option Ended → Enclosing Written
 ended_in names p None = awaiting p
 ended_in names p (Some e) = ended_at p e.list.at (shape_of e.list.shape) (map (written names) e.list.items) e.list.point (written names e.last)
 
 -- what is open
-abbrev pub open_of : Table → stacks.Open → Open Written
+abbrev pub open_of : Table → stacks.Open → Enclosing Written
 open_of names o = ended_in names (place names o) o.ended
 
 -- how deep the next datum stands inside one frame more

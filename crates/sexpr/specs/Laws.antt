@@ -4,18 +4,18 @@ use Rattle.kan_grammar.specs.Data.Written.{Written, Within, single, list, prefix
 use Rattle.kan_grammar.specs.Data.Enclosing.{as_written}
 use Rattle.kan_grammar.specs.Data.Faults.{read_text}
 use Rattle.kan_grammar.specs.Data.Printed.{pairs}
-use Rattle.kan_grammar.specs.Data.Builds.{made, map_reading}
+use Rattle.kan_grammar.specs.Data.Builds.{build_datum, map_reading}
 use Rattle.sexpr.specs.Seen.{Table, written, as_kept}
 use Rattle.sexpr.specs.Reads.{Reads}
 use Rattle.sexpr.specs.declared.data.Datum.{Datum}
 
 -- the data that are kept of a text are made of those that are written in it, and a fault is the same
 abbrev pub KeepsData : Type 0
-KeepsData = (bytes : List ℕ) → read_text as_kept bytes ≡ map_reading (made as_kept) (read_text as_written bytes)
+KeepsData = (bytes : List ℕ) → read_text as_kept bytes ≡ map_reading (build_datum as_kept) (read_text as_written bytes)
 
 -- what is kept of a datum means the same, so it has the same text
 abbrev pub KeepsMeaning : Type 0
-KeepsMeaning = (d : Written) → pairs (made as_kept d) ≡ pairs d
+KeepsMeaning = (d : Written) → pairs (build_datum as_kept d) ≡ pairs d
 
 -- each atom in a datum, and in what stands in a list, is one that a datum may be
 abbrev mutual

@@ -5,7 +5,7 @@ ghost use Rattle.std.specs.List.{fold};
 ghost use Rattle.kan_grammar.specs.Data.Words.{Atom, Token, opening, closing, prefix, dot, atom, out_of_range, reserved};
 ghost use Rattle.kan_grammar.specs.Data.Written.{is_allowed_atom, single};
 ghost use Rattle.kan_grammar.specs.Data.Enclosing.{top, in_list, awaiting, put};
-ghost use Rattle.kan_grammar.specs.Data.Faults.{refusal, begins, is_shape, fault, cut_off};
+ghost use Rattle.kan_grammar.specs.Data.Faults.{refusal, begins, is_shape, fault, answer_at_end};
 ghost use Rattle.sexpr.specs.Meaning.{shape_of, prefix_of};
 ghost use Rattle.sexpr.specs.Seen.{Table, list_of, written, as_kept};
 ghost use Rattle.sexpr.specs.Reads.{Answers, Refuses, memory_wanted};
@@ -229,7 +229,7 @@ impl Open {
 
     /// The data at the end of a text, where nothing is open.
     pub(crate) fn finish(self) -> Result<Data, ReadError>
-        ensures { (names : Table) → Answers names (cut_off (open_of names self)) result }
+        ensures { (names : Table) → Answers names (answer_at_end (open_of names self)) result }
     {
         let mut rest = self;
         if let Some(ended) = &rest.ended {

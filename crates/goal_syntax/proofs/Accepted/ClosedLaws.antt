@@ -7,16 +7,16 @@ use Rattle.std.proofs.lemmas.Grind.{flat_map-append}
 use Rattle.std.proofs.lemmas.List.{length-map, map-append}
 use Rattle.std.proofs.lemmas.List.Folds.{list_all-append}
 use Rattle.kan_terms.specs.Tree.{Tree}
-use Rattle.kan_model.specs.Answers.Text.{Table}
+use Rattle.kan_terms.specs.Table.{Table}
 use Rattle.kan_grammar.specs.Texts.Sited.{Sited, is_proper}
 use Rattle.kan_model.specs.Programs.Goals.{Goal, Primitive, Relation, Query}
 use Rattle.kan_model.specs.Programs.Scope.{all_below, in_scope, calls_there, body_in_scope}
 use Rattle.kan_grammar.specs.Texts.Language.{Word, head_word}
 use Rattle.kan_grammar.specs.Texts.Binders.{Checked, binder, binder_faults}
 use Rattle.kan_grammar.specs.Texts.GoalForms.{GoalForms, goal_forms}
-use Rattle.kan_grammar.specs.Texts.TopForms.{NameAt, Form, relation, run_of_one, run_of_list, misshapen, unknown, head_name, head, no_limit, limit, relation_form, run_form, limited_form, form, Defined, defined_by, defined}
+use Rattle.kan_grammar.specs.Texts.TopForms.{NameAt, Form, relation, run_of_one, run_of_list, misshapen, unknown, head_name, head, no_limit, limit, relation_form, run_form, limited_form, form, Defined, definitions_of, definitions}
 use Rattle.kan_grammar.specs.Texts.Resolved.{within, conjunction, goals_in}
-use Rattle.kan_grammar.specs.Texts.ProgramText.{slot_list, relations_in, queries_in, relations_of, Meant, meant}
+use Rattle.kan_grammar.specs.Texts.ProgramText.{slot_list, relations_in, queries_in, relations_of, Meant, text_meaning}
 use Rattle.kan_grammar.specs.Texts.TextFaults.{again_faults, goals_faults, form_faults, forms_faults, faults_of}
 use Rattle.goal_syntax.proofs.Accepted.InScopeLaws.{none_parts, both_none, conjunction_in_scope, goals_below, within_length}
 use Rattle.goal_syntax.proofs.Accepted.CallsLaws.{TakeAs, conjunction_there, goals_there, goals_more}
@@ -156,9 +156,9 @@ forms_pass : {X : Type 0} (p : X → Bool) (f : Sited → List X) (t : Table) (d
     (before : List Defined) (forms : List Sited) → forms_faults t ds before forms ≡ [] → list_all p (flat_map f forms) ≡ true
 forms_pass p f t ds each before [] h = refl
 forms_pass p f t ds each before (d ∷ later) h =
-    let both = none_parts (form_faults t ds before (form t d)) (forms_faults t ds (before ++ defined_by t d) later) h in
+    let both = none_parts (form_faults t ds before (form t d)) (forms_faults t ds (before ++ definitions_of t d) later) h in
     list_all-append p (f d) (flat_map f later)
-    ∙ and_from (list_all p (f d)) (list_all p (flat_map f later)) (each before d both.0) (forms_pass p f t ds each (before ++ defined_by t d) later both.1)
+    ∙ and_from (list_all p (f d)) (list_all p (flat_map f later)) (each before d both.0) (forms_pass p f t ds each (before ++ definitions_of t d) later both.1)
 
 -- forms without faults have none where more relations are behind
 form_more : (t : Table) (ds later before : List Defined) (f : Form) → form_faults t ds before f ≡ [] → form_faults t (ds ++ later) before f ≡ []
@@ -180,17 +180,17 @@ form_more t ds later before (unknown at) h = h
 forms_more : (t : Table) (ds later before : List Defined) (forms : List Sited) → forms_faults t ds before forms ≡ [] → forms_faults t (ds ++ later) before forms ≡ []
 forms_more t ds later before [] h = refl
 forms_more t ds later before (d ∷ others) h =
-    let both = none_parts (form_faults t ds before (form t d)) (forms_faults t ds (before ++ defined_by t d) others) h in
-    both_none (form_faults t (ds ++ later) before (form t d)) (forms_faults t (ds ++ later) (before ++ defined_by t d) others)
-    (form_more t ds later before (form t d) both.0) (forms_more t ds later (before ++ defined_by t d) others both.1)
+    let both = none_parts (form_faults t ds before (form t d)) (forms_faults t ds (before ++ definitions_of t d) others) h in
+    both_none (form_faults t (ds ++ later) before (form t d)) (forms_faults t (ds ++ later) (before ++ definitions_of t d) others)
+    (form_more t ds later before (form t d) both.0) (forms_more t ds later (before ++ definitions_of t d) others both.1)
 
 -- forms behind those of a library have no faults, nor have those of the library among all relations
-pub library_alone : (t : Table) (library text : List Sited) → faults_of t [] library ≡ [] → forms_faults t (defined t (library ++ text)) [] library ≡ []
+pub library_alone : (t : Table) (library text : List Sited) → faults_of t [] library ≡ [] → forms_faults t (definitions t (library ++ text)) [] library ≡ []
 unfolding faults_of
 library_alone t library text h =
-    ap (λ ds. forms_faults t ds [] library) (flat_map-append (defined_by t) library text) ∙ forms_more t (defined t library) (defined t text) [] library h
+    ap (λ ds. forms_faults t ds [] library) (flat_map-append (definitions_of t) library text) ∙ forms_more t (definitions t library) (definitions t text) [] library h
 
-pub text_behind : (t : Table) (library text : List Sited) → faults_of t library text ≡ [] → forms_faults t (defined t (library ++ text)) (defined t library) text ≡ []
+pub text_behind : (t : Table) (library text : List Sited) → faults_of t library text ≡ [] → forms_faults t (definitions t (library ++ text)) (definitions t library) text ≡ []
 unfolding faults_of
 text_behind t library text h = h
 
@@ -203,14 +203,14 @@ pub record MeansClosed (m : Meant) : Type 0 where
 
 -- a text without faults, behind a library without faults, means so many relations as are defined, with their arguments
 pub relations_taken : (t : Table) (library text : List Sited) → faults_of t [] library ≡ [] → faults_of t library text ≡ [] →
-    TakeAs (defined t (library ++ text)) (relations_of t (defined t (library ++ text)) (library ++ text))
+    TakeAs (definitions t (library ++ text)) (relations_of t (definitions t (library ++ text)) (library ++ text))
 relations_taken t library text alone behind =
-    let ds = defined t (library ++ text) in
+    let ds = definitions t (library ++ text) in
     let one = forms_define t ds [] ds library (library_alone t library text alone) in
-    let two = forms_define t ds (defined t library) ds text (text_behind t library text behind) in
+    let two = forms_define t ds (definitions t library) ds text (text_behind t library text behind) in
     ap relation_params (flat_map-append (λ d. relations_in ds (form t d)) library text)
     ∙ map-append (λ r. r.params) (relations_of t ds library) (relations_of t ds text) ∙ ap₂ (λ l m. l ++ m) one two
-    ∙ sym (map-append (λ d. d.params) (defined t library) (defined t text)) ∙ sym (ap defined_params (flat_map-append (defined_by t) library text))
+    ∙ sym (map-append (λ d. d.params) (definitions t library) (definitions t text)) ∙ sym (ap defined_params (flat_map-append (definitions_of t) library text))
 
 -- what passes in a library and in the text behind it
 both_pass : {X : Type 0} (p : X → Bool) (f : Sited → List X) (library text : List Sited) → list_all p (flat_map f library) ≡ true → list_all p (flat_map f text) ≡ true → list_all p (flat_map f (library ++ text)) ≡ true
@@ -218,20 +218,20 @@ both_pass p f library text h k =
     ap (list_all p) (flat_map-append f library text) ∙ list_all-append p (flat_map f library) (flat_map f text) ∙ and_from (list_all p (flat_map f library)) (list_all p (flat_map f text)) h k
 
 -- nothing is open in what a text without faults means, behind a library without faults
-pub means_closed : (t : Table) (library text : List Sited) → faults_of t [] library ≡ [] → faults_of t library text ≡ [] → MeansClosed (meant t library text)
-unfolding meant
+pub means_closed : (t : Table) (library text : List Sited) → faults_of t [] library ≡ [] → faults_of t library text ≡ [] → MeansClosed (text_meaning t library text)
+unfolding text_meaning
 means_closed t library text alone behind =
-    let ds = defined t (library ++ text) in
+    let ds = definitions t (library ++ text) in
     let rs = relations_of t ds (library ++ text) in
     let same = relations_taken t library text alone behind in
     let one = library_alone t library text alone in
     let two = text_behind t library text behind in record {
       bodies = both_pass body_in_scope (λ d. relations_in ds (form t d)) library text
           (forms_pass body_in_scope (λ d. relations_in ds (form t d)) t ds (λ before d h. form_bodies t ds before (form t d) h) [] library one)
-          (forms_pass body_in_scope (λ d. relations_in ds (form t d)) t ds (λ before d h. form_bodies t ds before (form t d) h) (defined t library) text two);
+          (forms_pass body_in_scope (λ d. relations_in ds (form t d)) t ds (λ before d h. form_bodies t ds before (form t d) h) (definitions t library) text two);
       bodies_there = both_pass (body_there rs) (λ d. relations_in ds (form t d)) library text
           (forms_pass (body_there rs) (λ d. relations_in ds (form t d)) t ds (λ before d h. form_bodies_there t ds before rs (form t d) same h) [] library one)
-          (forms_pass (body_there rs) (λ d. relations_in ds (form t d)) t ds (λ before d h. form_bodies_there t ds before rs (form t d) same h) (defined t library) text two);
-      queries = forms_pass query_in_scope (λ d. queries_in ds (form t d)) t ds (λ before d h. form_queries t ds before (form t d) (form_asks_one t d) h) (defined t library) text two;
-      queries_there = forms_pass (query_there rs) (λ d. queries_in ds (form t d)) t ds (λ before d h. form_queries_there t ds before rs (form t d) same h) (defined t library) text two;
+          (forms_pass (body_there rs) (λ d. relations_in ds (form t d)) t ds (λ before d h. form_bodies_there t ds before rs (form t d) same h) (definitions t library) text two);
+      queries = forms_pass query_in_scope (λ d. queries_in ds (form t d)) t ds (λ before d h. form_queries t ds before (form t d) (form_asks_one t d) h) (definitions t library) text two;
+      queries_there = forms_pass (query_there rs) (λ d. queries_in ds (form t d)) t ds (λ before d h. form_queries_there t ds before rs (form t d) same h) (definitions t library) text two;
     }

@@ -2,14 +2,14 @@
 use Rattle.std.proofs.Common.{◌≡◌, ℕ, suc, List, [], ◌∷◌, ◌++◌, map, length, refl, sym, ◌∙◌, ap, ap₂}
 use Rattle.std.specs.Prelude.{Bool, true, false, ◌&&◌, Option, Some, None, is_some, option_map, if◌then◌else◌}
 use Rattle.std.proofs.lemmas.List.{map-append}
-use Rattle.kan_model.specs.Answers.Text.{Table}
+use Rattle.kan_terms.specs.Table.{Table}
 use Rattle.kan_grammar.specs.Data.Faults.{fault}
 use Rattle.kan_grammar.specs.Texts.Sited.{Sited, elements, is_proper}
 use Rattle.kan_model.specs.Programs.Goals.{Relation}
 use Rattle.kan_grammar.specs.Texts.Language.{Word, word, head_word, is_other}
 use Rattle.kan_grammar.specs.Texts.Binders.{Checked, bound_names, names_faults, binder_faults}
 use Rattle.kan_grammar.specs.Texts.GoalForms.{goal_forms}
-use Rattle.kan_grammar.specs.Texts.TopForms.{name_at, Form, relation, misshapen, unknown, head_name, head, no_limit, limit, relation_form, run_form, limited_form, form, Defined, defined_by_head, defined_by, defined}
+use Rattle.kan_grammar.specs.Texts.TopForms.{name_at, Form, relation, misshapen, unknown, head_name, head, no_limit, limit, relation_form, run_form, limited_form, form, Defined, definitions_of_head, definitions_of, definitions}
 use Rattle.kan_grammar.specs.Texts.Resolved.{arity, within}
 use Rattle.kan_grammar.specs.Texts.ProgramText.{relations_in, relations_of}
 use Rattle.kan_grammar.specs.Texts.TextFaults.{unless, is_new, again_faults, goals_faults, form_faults, forms_faults}
@@ -58,7 +58,7 @@ bad_head false at start t params h = absurd cc
 
 -- a head without faults defines one relation
 head_defines : (t : Table) (before : List Defined) (hd : Sited) → again_faults t before (head_name hd) ≡ [] → (head t hd).faults ≡ [] →
-    defined_params (defined_by_head t (elements hd)) ≡ length (head t hd).value ∷ []
+    defined_params (definitions_of_head t (elements hd)) ≡ length (head t hd).value ∷ []
 head_defines t before (Sited.name at s) h k = absurd cc
 head_defines t before (Sited.num at n) h k = absurd cc
 head_defines t before (Sited.bool at b) h k = absurd cc
@@ -79,7 +79,7 @@ head_defines t before (Sited.pair at (Sited.name a s) params) h k = by_params (e
 
     by_params : (r : Option (List Sited)) → elements params ≡ r → again_faults t before (if is_some r then Some (name_at a s) else None) ≡ [] →
         (if is_some r then named_head t params else no_head at).faults ≡ [] →
-        defined_params (defined_by_head t (option_map (λ rest. Sited.name a s ∷ rest) r))
+        defined_params (definitions_of_head t (option_map (λ rest. Sited.name a s ∷ rest) r))
         ≡ length (if is_some r then named_head t params else no_head at).value ∷ []
     by_params None e f g = absurd cc
     by_params (Some es) e f g = by_word (word t s) (is_new (arity before s)) es (bound_count t [] params es g e) f
@@ -120,7 +120,7 @@ word_defines rs t at parts Word.run_all h = run_defines rs t at no_limit parts
 word_defines rs t at parts w h = refl
 
 -- a form without faults gives the relation that it defines
-pub form_defines : (t : Table) (ds before rs : List Defined) (d : Sited) → form_faults t ds before (form t d) ≡ [] → relation_params (relations_in rs (form t d)) ≡ defined_params (defined_by t d)
+pub form_defines : (t : Table) (ds before rs : List Defined) (d : Sited) → form_faults t ds before (form t d) ≡ [] → relation_params (relations_in rs (form t d)) ≡ defined_params (definitions_of t d)
 form_defines t ds before rs (Sited.name at s) h = refl
 form_defines t ds before rs (Sited.num at n) h = refl
 form_defines t ds before rs (Sited.bool at b) h = refl
@@ -132,7 +132,7 @@ form_defines t ds before rs (Sited.pair at w (Sited.nil a)) h = ap relation_para
 form_defines t ds before rs (Sited.pair at w (Sited.pair a hd goals)) h = by_word (head_word t w) h
   where
     by_goals : (b : Bool) → form_faults t ds before (if b then relation (head_name hd) (head t hd) (goal_forms t goals) else misshapen at) ≡ [] →
-        relation_params (relations_in rs (if b then relation (head_name hd) (head t hd) (goal_forms t goals) else misshapen at)) ≡ defined_params (defined_by_head t (elements hd))
+        relation_params (relations_in rs (if b then relation (head_name hd) (head t hd) (goal_forms t goals) else misshapen at)) ≡ defined_params (definitions_of_head t (elements hd))
     by_goals false e = absurd cc
     by_goals true e =
         let front = none_parts (again_faults t before (head_name hd) ++ (head t hd).faults) (goals_faults ds (within [] (head t hd).value) (goal_forms t goals)) e in
@@ -140,17 +140,17 @@ form_defines t ds before rs (Sited.pair at w (Sited.pair a hd goals)) h = by_wor
         sym (head_defines t before hd both.0 both.1)
 
     by_word : (v : Word) → form_faults t ds before (worded t at (Sited.pair a hd goals) v) ≡ [] →
-        relation_params (relations_in rs (worded t at (Sited.pair a hd goals) v)) ≡ defined_params (elim v as (λ x. List Defined) [ Word.defrel ↦ defined_by_head t (elements hd) | _ ↦ [] ])
+        relation_params (relations_in rs (worded t at (Sited.pair a hd goals) v)) ≡ defined_params (elim v as (λ x. List Defined) [ Word.defrel ↦ definitions_of_head t (elements hd) | _ ↦ [] ])
     by_word Word.defrel e = by_goals (is_proper goals) e
     by_word Word.run e = ap relation_params (run_defines rs t at (limit hd) goals)
     by_word Word.run_all e = ap relation_params (run_defines rs t at no_limit (Sited.pair a hd goals))
     by_word v e = refl
 
 -- so do forms in a row
-pub forms_define : (t : Table) (ds before rs : List Defined) (forms : List Sited) → forms_faults t ds before forms ≡ [] → relation_params (relations_of t rs forms) ≡ defined_params (defined t forms)
+pub forms_define : (t : Table) (ds before rs : List Defined) (forms : List Sited) → forms_faults t ds before forms ≡ [] → relation_params (relations_of t rs forms) ≡ defined_params (definitions t forms)
 forms_define t ds before rs [] h = refl
 forms_define t ds before rs (d ∷ later) h =
-    let both = none_parts (form_faults t ds before (form t d)) (forms_faults t ds (before ++ defined_by t d) later) h in
+    let both = none_parts (form_faults t ds before (form t d)) (forms_faults t ds (before ++ definitions_of t d) later) h in
     map-append (λ r. r.params) (relations_in rs (form t d)) (relations_of t rs later)
-    ∙ ap₂ (λ l m. l ++ m) (form_defines t ds before rs d both.0) (forms_define t ds (before ++ defined_by t d) rs later both.1)
-    ∙ sym (map-append (λ e. e.params) (defined_by t d) (defined t later))
+    ∙ ap₂ (λ l m. l ++ m) (form_defines t ds before rs d both.0) (forms_define t ds (before ++ definitions_of t d) rs later both.1)
+    ∙ sym (map-append (λ e. e.params) (definitions_of t d) (definitions t later))

@@ -6,7 +6,7 @@ use Rattle.std.proofs.lemmas.Bool.{and_from, and_parts, leb-true, le-leb}
 use Rattle.std.proofs.lemmas.List.{reverse-append}
 use Rattle.std.proofs.lemmas.List.Folds.{list_all-append}
 use Rattle.kan_terms.specs.Tree.{Tree}
-use Rattle.kan_model.specs.Answers.Text.{Table}
+use Rattle.kan_terms.specs.Table.{Table}
 use Rattle.kan_model.specs.Programs.Goals.{Template}
 use Rattle.kan_grammar.specs.Texts.Sited.{Sited}
 use Rattle.kan_model.specs.Programs.Scope.{height, is_low}

@@ -6,18 +6,18 @@ use Rattle.std.proofs.lemmas.Bool.{and_from, and_parts}
 use Rattle.std.proofs.lemmas.Grind.{flat_map-append}
 use Rattle.std.proofs.lemmas.List.Folds.{list_all-append}
 use Rattle.std.proofs.lemmas.Option.{slice_get-map}
-use Rattle.kan_model.specs.Answers.Text.{Table}
-use Rattle.kan_grammar.specs.Texts.Sited.{Sited, sited}
+use Rattle.kan_terms.specs.Table.{Table}
+use Rattle.kan_grammar.specs.Texts.Sited.{Sited, with_sites}
 use Rattle.kan_grammar.specs.Data.Faults.{Fault}
 use Rattle.kan_model.specs.Programs.Goals as model
 use Rattle.kan_model.specs.Programs.Goals.{Goal}
 use Rattle.kan_model.specs.Programs.Calls.{entry_takes}
 use Rattle.kan_model.specs.Programs.Nodes.{goal_place}
-use Rattle.kan_grammar.specs.Texts.ProgramText.{relations_in, relations_of, queries_of, meant}
+use Rattle.kan_grammar.specs.Texts.ProgramText.{relations_in, relations_of, queries_of, text_meaning}
 use Rattle.kan_model.specs.Programs.Scope.{is_low, takes, calls_there, in_scope, body_in_scope, is_closed}
 use Rattle.kan_model.specs.Programs.Tables.{RelationEntry, Tables, goal_at, goals_of, templates_of, program_of, is_grown, nothing_open}
 use Rattle.kan_grammar.specs.Texts.TextFaults.{faults_of, least, IsAccepted}
-use Rattle.kan_grammar.specs.Texts.TopForms.{Defined, form, defined, defined_by}
+use Rattle.kan_grammar.specs.Texts.TopForms.{Defined, form, definitions, definitions_of}
 use Rattle.kan_model.specs.declared.nodes.Query.{Query}
 use Rattle.kan_model.proofs.Programs.ScopeLaws.{all-calls}
 use Rattle.goal_syntax.specs.Building.FormsBuilt.{Means, query_made, relation_made}
@@ -83,17 +83,17 @@ closed_tables ts qs rs asked means low calls bodies queries =
 
 -- nothing is open in what is built of a text
 pub nothing_is_open : (t : Table) (ds library forms : List Sited) (rules : List Defined) (start mid last : Tables) (none queries : List Query) →
-    rules ≡ defined t library ++ defined t forms → start ≡ empty_tables → none ≡ [] →
+    rules ≡ definitions t library ++ definitions t forms → start ≡ empty_tables → none ≡ [] →
     ((qs : List Query) → (rs : List model.Relation) → (asked : List model.Query) → Means start qs rs asked → Means mid qs (rs ++ relations_of t rules library) asked) →
     ((rs : List model.Relation) → (asked : List model.Query) → Means mid none rs asked → Means last queries (rs ++ relations_of t rules forms) (asked ++ queries_of t rules forms)) →
     KeepsClosed ds start mid (bodies_named (relations_of t rules library)) → KeepsClosed ds mid last (all_named (relations_of t rules forms) (queries_of t rules forms)) →
     is_grown last ≡ true → AreLow ds → faults_of t [] library ≡ [] → faults_of t library forms ≡ [] → nothing_open last (map goal_place queries) ≡ true
-unfolding meant
+unfolding text_meaning
 nothing_is_open t ds library forms rules start mid last none queries split begins no_queries library_builds text_builds library_kept text_kept grown low alone behind =
-    let all : rules ≡ defined t (library ++ forms) = split ∙ sym (flat_map-append (defined_by t) library forms) in
+    let all : rules ≡ definitions t (library ++ forms) = split ∙ sym (flat_map-append (definitions_of t) library forms) in
     let first : Means start none [] [] = rw (begins, no_queries) nothing_means in
-    let rs = relations_of t (defined t (library ++ forms)) (library ++ forms) in
-    let asked = queries_of t (defined t (library ++ forms)) forms in
+    let rs = relations_of t (definitions t (library ++ forms)) (library ++ forms) in
+    let asked = queries_of t (definitions t (library ++ forms)) forms in
     let joined : relations_of t rules library ++ relations_of t rules forms ≡ rs =
     sym (flat_map-append (λ d. relations_in rules (form t d)) library forms) ∙ ap (λ defs. relations_of t defs (library ++ forms)) all in
     let runs : queries_of t rules forms ≡ asked = ap (λ defs. queries_of t defs forms) all in
@@ -118,8 +118,8 @@ nothing_is_open t ds library forms rules start mid last none queries split begin
 pub of_text_low : (old new : Table) (ds : List Datum) → Extends 3 old new → AreOfText old ds → AreLow (map (meaning new) ds)
 of_text_low old new ds (more, is, few) of_text =
     let text = of_text more in
-    let low : AreLow (map (sited (old ++ more)) (map (written (old ++ more)) ds)) = text_low (old ++ more) text.0 (map (written (old ++ more)) ds) text.1 in
-    rw is (ap (list_all is_low_datum) (sym (map_map (sited (old ++ more)) (written (old ++ more)) ds)) ∙ low)
+    let low : AreLow (map (with_sites (old ++ more)) (map (written (old ++ more)) ds)) = text_low (old ++ more) text.0 (map (written (old ++ more)) ds) text.1 in
+    rw is (ap (list_all is_low_datum) (sym (map_map (with_sites (old ++ more)) (written (old ++ more)) ds)) ∙ low)
   where
     map_map : {A B C : Type 0} (f : B → C) (g : A → B) (xs : List A) → map f (map g xs) ≡ map (λ x. f (g x)) xs
     map_map f g [] = refl

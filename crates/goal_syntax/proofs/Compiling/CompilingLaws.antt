@@ -7,18 +7,18 @@ use Rattle.std.proofs.lemmas.Bool.{and_from, ltb-true, lt-ltb, false_from_ne_tru
 use Rattle.std.proofs.lemmas.Grind.{flat_map-append}
 use Rattle.std.proofs.lemmas.List.{map-append, take_all}
 use Rattle.std.proofs.lemmas.List.Folds.{list_all-append, list_all_at}
-use Rattle.kan_model.specs.Answers.Text.{Table}
+use Rattle.kan_terms.specs.Table.{Table}
 use Rattle.kan_grammar.specs.Texts.Sited.{Sited}
 use Rattle.kan_model.specs.Programs.Goals as model
 use Rattle.kan_model.specs.Programs.Goals.{Goal}
 use Rattle.kan_model.specs.Programs.Measures.{noted_width}
-use Rattle.kan_grammar.specs.Texts.ProgramText.{relations_in, relations_of, queries_in, queries_of, meant}
+use Rattle.kan_grammar.specs.Texts.ProgramText.{relations_in, relations_of, queries_in, queries_of, text_meaning}
 use Rattle.kan_model.specs.Programs.Scope.{is_narrow, is_small}
 use Rattle.kan_model.specs.Programs.Nodes.{goal_place}
 use Rattle.kan_model.specs.Programs.Closed as programs
 use Rattle.kan_model.specs.declared.program.Program.{Program}
 use Rattle.kan_model.specs.Programs.Tables.{Tables, goals_of, nothing_open}
-use Rattle.kan_grammar.specs.Texts.TopForms.{Defined, form, defined, defined_by}
+use Rattle.kan_grammar.specs.Texts.TopForms.{Defined, form, definitions, definitions_of}
 use Rattle.kan_model.specs.declared.nodes.Query.{Query}
 use Rattle.goal_syntax.specs.Building.FormsBuilt.{Means, query_made, relation_made}
 use Rattle.goal_syntax.specs.Compiling.CompiledForms.{IsMeant}
@@ -139,21 +139,21 @@ narrow_all gs i e before = sym (ap (list_all is_narrow) (sym (take_all i gs (no_
 
 -- the program and the runs that were built of a text are those that are meant
 pub program_meant : (t : Table) (library forms : List Sited) (rules : List Defined) (start mid last : Tables) (program : Program) (none queries closed_with : List Query) →
-    rules ≡ defined t library ++ defined t forms → start ≡ empty_tables → none ≡ [] →
+    rules ≡ definitions t library ++ definitions t forms → start ≡ empty_tables → none ≡ [] →
     ((qs : List Query) → (rs : List model.Relation) → (asked : List model.Query) → Means start qs rs asked → Means mid qs (rs ++ relations_of t rules library) asked) →
     are_equational_entries mid.goals ≡ (are_equational_entries start.goals && list_all is_equational_body (relations_of t rules library)) →
     ((rs : List model.Relation) → (asked : List model.Query) → Means mid none rs asked → Means last queries (rs ++ relations_of t rules forms) (asked ++ queries_of t rules forms)) →
     are_equational_entries last.goals ≡ (are_equational_entries mid.goals && are_equational (relations_of t rules forms) (queries_of t rules forms)) →
     programs.tables program ≡ last → closed_with ≡ queries → nothing_open last (map goal_place queries) ≡ true → is_small (programs.meaning program) ≡ true → HasRoom last →
-    IsMeant (meant t library forms) program closed_with
-unfolding meant
+    IsMeant (text_meaning t library forms) program closed_with
+unfolding text_meaning
 program_meant t library forms rules start mid last program none queries closed_with split begins no_queries library_builds library_equations text_builds text_equations same given closed small room =
-    let all : rules ≡ defined t (library ++ forms) = split ∙ sym (flat_map-append (defined_by t) library forms) in
+    let all : rules ≡ definitions t (library ++ forms) = split ∙ sym (flat_map-append (definitions_of t) library forms) in
     let first : Means start none [] [] = rw (begins, no_queries) nothing_means in
     let means : Means last queries (relations_of t rules library ++ relations_of t rules forms) (queries_of t rules forms) = text_builds (relations_of t rules library) [] (library_builds none [] [] first) in
-    let joined : relations_of t rules library ++ relations_of t rules forms ≡ relations_of t (defined t (library ++ forms)) (library ++ forms) =
+    let joined : relations_of t rules library ++ relations_of t rules forms ≡ relations_of t (definitions t (library ++ forms)) (library ++ forms) =
     sym (flat_map-append (λ d. relations_in rules (form t d)) library forms) ∙ ap (λ ds. relations_of t ds (library ++ forms)) all in
-    let runs : queries_of t rules forms ≡ queries_of t (defined t (library ++ forms)) forms = ap (λ ds. queries_of t ds forms) all in
+    let runs : queries_of t rules forms ≡ queries_of t (definitions t (library ++ forms)) forms = ap (λ ds. queries_of t ds forms) all in
     let begun : are_equational_entries start.goals ≡ true = ap (λ (ts : Tables). are_equational_entries ts.goals) begins in
     let entries : are_equational_entries last.goals ≡ are_equational (relations_of t rules library ++ relations_of t rules forms) (queries_of t rules forms) =
     text_equations ∙ ap (λ b. b && are_equational (relations_of t rules forms) (queries_of t rules forms)) (library_equations ∙ ap (λ b. b && list_all is_equational_body (relations_of t rules library)) begun)

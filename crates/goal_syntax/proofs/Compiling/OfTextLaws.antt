@@ -1,7 +1,7 @@
 -- Data of texts, and libraries that are accepted by themselves, for those who compile.
 use Rattle.std.proofs.Common.{◌≡◌, ℕ, List, [], ◌++◌, refl}
 use Rattle.std.specs.Prelude.{Ok}
-use Rattle.kan_model.specs.Answers.Text.{Table}
+use Rattle.kan_terms.specs.Table.{Table}
 use Rattle.kan_grammar.specs.Data.Faults.{run, read_tokens, read_text, data_are}
 use Rattle.kan_grammar.specs.Data.Tokens.{tokens, tokens_from}
 use Rattle.std.specs.Str.{is_utf8, chars}

@@ -1,6 +1,6 @@
 -- What is made of the goals that are left to be built.
 use Rattle.std.specs.Prelude.{ℕ, ◌+◌, true, false, List, [], ◌∷◌, length, take, Option, Some, None}
-use Rattle.kan_model.specs.Answers.Text.{Table}
+use Rattle.kan_terms.specs.Table.{Table}
 use Rattle.kan_grammar.specs.Texts.Sited.{Sited, site, is_proper}
 use Rattle.kan_model.specs.Programs.Goals.{Goal}
 use Rattle.kan_grammar.specs.Texts.Binders.{binder}

@@ -1,10 +1,10 @@
 -- What compiling the top forms of a text answers.
 use Rattle.std.specs.Prelude.{◌≡◌, List, map, true, Some, None, Result, Ok, Err}
 use Rattle.kan_grammar.specs.Data.Faults as faults
-use Rattle.kan_model.specs.Answers.Text.{Table}
+use Rattle.kan_terms.specs.Table.{Table}
 use Rattle.kan_grammar.specs.Texts.Sited.{Sited}
 use Rattle.kan_grammar.specs.Texts.TextFaults.{faults_of, least}
-use Rattle.kan_grammar.specs.Texts.ProgramText.{Meant, meant}
+use Rattle.kan_grammar.specs.Texts.ProgramText.{Meant, text_meaning}
 use Rattle.kan_model.specs.Programs.Scope.{is_small}
 use Rattle.kan_model.specs.Programs.Tables.{nothing_open}
 use Rattle.kan_model.specs.Programs.Nodes.{goal_place}
@@ -30,6 +30,6 @@ pub record IsMeant (m : Meant) (program : Program) (queries : List Query) : Type
 
 -- the forms of a text behind those of a library give their program and runs, or the fault that is answered
 abbrev pub CompilesForms : Table → List Sited → List Sited → Result Compiled SyntaxError → Type 0
-CompilesForms names library text (Ok c) = (least (faults_of names library text) ≡ None) × IsMeant (meant names library text) c.program c.queries × (are_named names (programs.tables c.program) ≡ true)
+CompilesForms names library text (Ok c) = (least (faults_of names library text) ≡ None) × IsMeant (text_meaning names library text) c.program c.queries × (are_named names (programs.tables c.program) ≡ true)
 CompilesForms names library text (Err (Fault at number)) = least (faults_of names library text) ≡ Some (faults.fault at number)
 CompilesForms names library text (Err Memory) = Unit {0}

@@ -2,7 +2,7 @@
 use Rattle.std.specs.Prelude.{◌≡◌, ℕ, ◌++◌, [], List, map, true, Option, Some, None, Result, Ok, Err}
 use Rattle.kan_grammar.specs.Data.Faults as faults
 use Rattle.kan_model.specs.Programs.Goals as model
-use Rattle.kan_model.specs.Answers.Text.{Table}
+use Rattle.kan_terms.specs.Table.{Table}
 use Rattle.kan_grammar.specs.Texts.TextFaults.{fault_of_text, IsAccepted}
 use Rattle.kan_grammar.specs.Data.Faults.{read_text, data_are}
 use Rattle.kan_grammar.specs.Texts.ProgramText.{program_of_text, queries_of_text}

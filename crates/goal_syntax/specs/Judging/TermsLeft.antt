@@ -1,7 +1,7 @@
 -- What the terms that wait to be judged use.
 use Rattle.std.specs.Prelude.{ℕ, ◌+◌, List, [], ◌∷◌, ◌++◌}
 use Rattle.kan_terms.specs.Tree.{leaves}
-use Rattle.kan_model.specs.Answers.Text.{Table}
+use Rattle.kan_terms.specs.Table.{Table}
 use Rattle.kan_grammar.specs.Texts.Sited.{Sited}
 use Rattle.kan_grammar.specs.Texts.TermForms.{Use, variable, misshapen}
 use Rattle.goal_forms.specs.TermSteps.{task_form, task_size}

@@ -2,10 +2,10 @@
 use Rattle.std.proofs.Common.{◌≡◌, ℕ, suc, Bool, true, false, ◌&&◌, nat_le, List, [], ◌∷◌, ◌++◌, length, refl, sym, ap, ◌∙◌, append_assoc, append-nil}
 use Rattle.std.specs.Prelude.{None}
 use Rattle.kan_grammar.specs.Data.Tokens.{Placed, placed}
-use Rattle.kan_grammar.specs.Data.Words.{Atom, symbol, number, truth, out_of_range, reserved, Shape, round, square, Prefix, Token, opening, closing, prefix, dot, atom}
+use Rattle.kan_grammar.specs.Data.Words.{Atom, symbol, string, number, truth, out_of_range, reserved, Shape, round, square, Prefix, Token, opening, closing, prefix, dot, atom}
 use Rattle.kan_grammar.specs.Data.Written.{Written, Within, single, list, prefixed, close, dotted, element, spell, spell_within, spell_all, is_allowed_atom, is_allowed, are_allowed_within, are_allowed, deepest}
-use Rattle.kan_grammar.specs.Data.Enclosing.{Build, Place, top, in_list, after_dot, after_prefix, Open, awaiting, ended, depth, put, row, as_written}
-use Rattle.kan_grammar.specs.Data.Faults.{refusal, after, going, settled, run, finish, data_are, read_tokens}
+use Rattle.kan_grammar.specs.Data.Enclosing.{Build, Place, top, in_list, after_dot, after_prefix, Enclosing, awaiting, ended, depth, put, row, as_written}
+use Rattle.kan_grammar.specs.Data.Faults.{refusal, after, going, settle, run, finish, data_are, read_tokens}
 
 pub and_left : (a b : Bool) → a && b ≡ true → a ≡ true
 and_left true b h = refl
@@ -19,12 +19,13 @@ pub and_both : (a b : Bool) → a ≡ true → b ≡ true → a && b ≡ true
 and_both a b h k = rw (h, k) refl
 
 -- a token that no question refuses is gone past
-pub past : {D : Type 0} (b : Build D) (o : Open D) (at : ℕ) (t : Token) (rest : List Placed) → refusal o at t ≡ None → run b (going o) (placed at t ∷ rest) ≡ run b (going (after b o at t)) rest
+pub past : {D : Type 0} (b : Build D) (o : Enclosing D) (at : ℕ) (t : Token) (rest : List Placed) → refusal o at t ≡ None → run b (going o) (placed at t ∷ rest) ≡ run b (going (after b o at t)) rest
 unfolding run
-past b o at t rest h = ap (λ r. run b (settled r (after b o at t)) rest) h
+past b o at t rest h = ap (λ r. run b (settle r (after b o at t)) rest) h
 
 allowed_single : (p : Place Written) (at : ℕ) (a : Atom) → nat_le (depth p) deepest ≡ true → is_allowed_atom a ≡ true → refusal (awaiting p) at (atom a) ≡ None
 allowed_single p at (symbol s) h k = rw h refl
+allowed_single p at (string s) h k = rw h refl
 allowed_single p at (number n) h k = rw h refl
 allowed_single p at (truth b) h k = rw h refl
 allowed_single p at out_of_range h k = absurd cc

@@ -2,10 +2,11 @@
 use Rattle.std.proofs.Common.{◌≡◌, ℕ, zero, suc, ◌+◌, ◌-◌, ◌≤◌, Bool, true, false, cond, List, [], ◌∷◌, ◌++◌, length, take, drop, refl, sym, ap, ◌∙◌, arith}
 use Rattle.std.proofs.lemmas.List.{take-append-le}
 use Rattle.std.proofs.lemmas.List.Sums.{prefix_len-le-length}
-use Rattle.std.specs.Prelude.{not, take_while, ◌==◌, if◌then◌else◌}
+use Rattle.std.specs.Prelude.{not, take_while, ◌==◌, if◌then◌else◌, Option, None, Some, option_map}
 use Rattle.std.specs.List.{prefix_len}
-use Rattle.kan_grammar.specs.Data.Words.{Token, prefix, unquote, bad, is_word_byte, word_token}
-use Rattle.kan_grammar.specs.Data.Tokens.{Placed, placed, Piece, blank, spelled, piece, more, placed_before, tokens_from, tokens, Start, separator, comment, whole, comma, hash, in_word, start, piece_of, hash_token}
+use Rattle.kan_grammar.specs.Data.Words.{Token, prefix, unquote, bad, atom, string, is_word_byte, word_token}
+use Rattle.kan_grammar.specs.Data.Tokens.{Placed, placed, Piece, blank, spelled, piece, more, placed_before, tokens_from, tokens, Start, separator, comment, whole, comma, hash, quotation, in_word, string_piece, start, piece_of, hash_token}
+use Rattle.kan_grammar.specs.Data.Strings.{Role, role, begins_escape, length_by, string_length, string_meaning}
 use Rattle.kan_grammar.specs.Data.Laws.{EndsAtLine, CutsBefore}
 
 -- the bytes that belong to the piece before are gone past
@@ -32,6 +33,21 @@ unfolding comma_by
 comma_by-within true n = omega arith
 comma_by-within false n = omega arith
 
+-- a string is closed within the text
+length_by-within : (r : Role) (rest : Option ℕ) (most : ℕ) → ((n : ℕ) → rest ≡ Some n → suc n ≤ most) → (n : ℕ) → length_by r rest ≡ Some n → suc n ≤ suc most
+length_by-within Role.closes rest most h n e = let same : 0 ≡ n = cc in omega (arith, same)
+length_by-within Role.never rest most h n e = absurd cc
+length_by-within Role.part None most h n e = absurd cc
+length_by-within Role.part (Some m) most h n e = let same : suc m ≡ n = cc in let low : suc m ≤ most = h m refl in omega (arith, same, low)
+
+pub string_length-within : (escape : Bool) (bs : List ℕ) (n : ℕ) → string_length escape bs ≡ Some n → suc n ≤ length bs
+string_length-within escape [] n e = absurd cc
+string_length-within escape (b ∷ bs) n e = length_by-within (role escape b) (string_length (begins_escape escape b) bs) (length bs) (string_length-within (begins_escape escape b) bs) n e
+
+string_piece-within : (o : Option ℕ) (bs : List ℕ) → string_length false bs ≡ o → more (string_piece o bs) ≤ length bs
+string_piece-within None bs e = omega arith
+string_piece-within (Some n) bs e = string_length-within false bs n e
+
 -- a piece lies within the text
 within : (s : Start) (b : ℕ) (bs : List ℕ) → more (piece_of s b bs) ≤ length bs
 unfolding comma_by
@@ -41,6 +57,7 @@ within (whole t) b bs = omega arith
 within comma b [] = omega arith
 within comma b (x ∷ bs) = comma_by-within (x == 64) (length bs)
 within hash b bs = prefix_len-le-length _ bs
+within quotation b bs = string_piece-within (string_length false bs) bs refl
 within in_word b bs = prefix_len-le-length _ bs
 
 pub piece-within : (b : ℕ) (bs : List ℕ) → more (piece b bs) ≤ length bs
@@ -57,6 +74,21 @@ word-line xs ys =
     ap (λ n. take n (xs ++ 10 ∷ ys)) (prefix-stops is_word_byte xs 10 ys refl)
     ∙ take-append-le (prefix_len is_word_byte xs) xs (10 ∷ ys) (prefix_len-le-length is_word_byte xs)
 
+-- no string goes on behind a line feed
+feed-ends : (escape : Bool) (o : Option ℕ) → length_by (role escape 10) o ≡ None
+feed-ends true o = refl
+feed-ends false o = refl
+
+string_length-line : (escape : Bool) (xs ys : List ℕ) → string_length escape (xs ++ 10 ∷ ys) ≡ string_length escape xs
+string_length-line escape [] ys = feed-ends escape (string_length (begins_escape escape 10) ys)
+string_length-line escape (x ∷ xs) ys = ap (length_by (role escape x)) (string_length-line (begins_escape escape x) xs ys)
+
+string_piece-line : (o : Option ℕ) (xs ys : List ℕ) → string_length false xs ≡ o → string_piece o (xs ++ 10 ∷ ys) ≡ string_piece o xs
+string_piece-line None xs ys e = refl
+string_piece-line (Some n) xs ys e =
+    let low : suc n ≤ length xs = string_length-within false xs n e in
+    ap (λ bs. spelled (atom (string (string_meaning false bs))) (suc n)) (take-append-le n xs (10 ∷ ys) (omega (arith, low)))
+
 -- a line feed ends each piece
 line : (s : Start) (b : ℕ) (xs ys : List ℕ) → piece_of s b (xs ++ 10 ∷ ys) ≡ piece_of s b xs
 line separator b xs ys = refl
@@ -67,6 +99,9 @@ line comma b (x ∷ xs) ys = refl
 line hash b xs ys =
     ap (λ w. spelled (hash_token w) (prefix_len is_word_byte (xs ++ 10 ∷ ys))) (word-line xs ys)
     ∙ ap (spelled (hash_token (take_while is_word_byte xs))) (prefix-stops is_word_byte xs 10 ys refl)
+line quotation b xs ys =
+    ap (λ o. string_piece o (xs ++ 10 ∷ ys)) (string_length-line false xs ys)
+    ∙ string_piece-line (string_length false xs) xs ys refl
 line in_word b xs ys =
     ap (λ w. spelled (word_token (b ∷ w)) (prefix_len is_word_byte (xs ++ 10 ∷ ys))) (word-line xs ys)
     ∙ ap (spelled (word_token (b ∷ take_while is_word_byte xs))) (prefix-stops is_word_byte xs 10 ys refl)
@@ -124,6 +159,38 @@ unfolding comma_by
 comma-cut true h = absurd (omega arith)
 comma-cut false h = refl
 
+-- a string is the same in a text that is cut behind it, and what is no string stays none
+length_by-cut : (r : Role) (o p : Option ℕ) (j : ℕ) → ((n : ℕ) → o ≡ Some n → suc n ≤ j → p ≡ o) → (o ≡ None → p ≡ None) → (n : ℕ) → length_by r o ≡ Some n → suc n ≤ suc j → length_by r p ≡ length_by r o
+length_by-cut Role.closes o p j same none n e low = refl
+length_by-cut Role.never o p j same none n e low = refl
+length_by-cut Role.part None p j same none n e low = ap (option_map (λ m. suc m)) (none refl)
+length_by-cut Role.part (Some m) p j same none n e low =
+    let count : suc m ≡ n = cc in
+    ap (option_map (λ m. suc m)) (same m refl (omega (arith, count, low)))
+
+length_by-none : (r : Role) (o p : Option ℕ) → (o ≡ None → p ≡ None) → length_by r o ≡ None → length_by r p ≡ None
+length_by-none Role.closes o p none e = absurd cc
+length_by-none Role.never o p none e = refl
+length_by-none Role.part None p none e = ap (option_map (λ m. suc m)) (none refl)
+length_by-none Role.part (Some m) p none e = absurd cc
+
+string_length-none : (escape : Bool) (j : ℕ) (bs : List ℕ) → string_length escape bs ≡ None → string_length escape (take j bs) ≡ None
+string_length-none escape zero bs e = refl
+string_length-none escape (suc j) [] e = refl
+string_length-none escape (suc j) (b ∷ bs) e = length_by-none (role escape b) (string_length (begins_escape escape b) bs) (string_length (begins_escape escape b) (take j bs)) (string_length-none (begins_escape escape b) j bs) e
+
+string_length-cut : (escape : Bool) (j : ℕ) (bs : List ℕ) (n : ℕ) → string_length escape bs ≡ Some n → suc n ≤ j → string_length escape (take j bs) ≡ string_length escape bs
+string_length-cut escape zero bs n e low = absurd (omega arith)
+string_length-cut escape (suc j) [] n e low = refl
+string_length-cut escape (suc j) (b ∷ bs) n e low =
+    length_by-cut (role escape b) (string_length (begins_escape escape b) bs) (string_length (begins_escape escape b) (take j bs)) j (string_length-cut (begins_escape escape b) j bs) (string_length-none (begins_escape escape b) j bs) n e low
+
+string_piece-cut : (o : Option ℕ) (j : ℕ) (bs : List ℕ) → string_length false bs ≡ o → more (string_piece o bs) ≤ j → string_piece (string_length false (take j bs)) (take j bs) ≡ string_piece o bs
+string_piece-cut None j bs e low = ap (λ o. string_piece o (take j bs)) (string_length-none false j bs e)
+string_piece-cut (Some n) j bs e low =
+    ap (λ o. string_piece o (take j bs)) (string_length-cut false j bs n e low ∙ e)
+    ∙ ap (λ xs. spelled (atom (string (string_meaning false xs))) (suc n)) (take-cut n j bs (omega (arith, low)))
+
 uncut : (s : Start) (b j : ℕ) (bs : List ℕ) → more (piece_of s b bs) ≤ j → piece_of s b (take j bs) ≡ piece_of s b bs
 unfolding comma_by
 uncut separator b j bs h = refl
@@ -136,6 +203,7 @@ uncut comma b (suc j) (x ∷ bs) h = refl
 uncut hash b j bs h =
     ap (λ w. spelled (hash_token w) (prefix_len is_word_byte (take j bs))) (word-cut j bs h)
     ∙ ap (spelled (hash_token (take_while is_word_byte bs))) (prefix-cut is_word_byte bs j h)
+uncut quotation b j bs h = string_piece-cut (string_length false bs) j bs refl h
 uncut in_word b j bs h =
     ap (λ w. spelled (word_token (b ∷ w)) (prefix_len is_word_byte (take j bs))) (word-cut j bs h)
     ∙ ap (spelled (word_token (b ∷ take_while is_word_byte bs))) (prefix-cut is_word_byte bs j h)

@@ -3,11 +3,11 @@ use Rattle.std.proofs.Common.{◌≡◌, ℕ, List, [], ◌∷◌, ◌++◌, ref
 use Rattle.std.specs.Prelude.{Option, Some, None, IsTrue}
 use Rattle.kan_grammar.specs.Data.Tokens.{Placed, placed}
 use Rattle.kan_grammar.specs.Data.Written.{Written, spell_all, are_allowed, deepest}
-use Rattle.kan_grammar.specs.Data.Enclosing.{top, in_list, after_dot, after_prefix, Open, awaiting, ended, as_written}
-use Rattle.kan_grammar.specs.Data.Faults.{Fault, refusal, after, Progress, going, stopped, settled, run, data_are, cut_off, finish, beginning, read_tokens}
+use Rattle.kan_grammar.specs.Data.Enclosing.{top, in_list, after_dot, after_prefix, Enclosing, awaiting, ended, as_written}
+use Rattle.kan_grammar.specs.Data.Faults.{Fault, refusal, after, Progress, going, stopped, settle, run, data_are, answer_at_end, finish, beginning, read_tokens}
 use Rattle.kan_grammar.specs.Data.Laws.{ReadsExactly}
 use Rattle.kan_grammar.proofs.Data.Complete.{past, spelled_are_read}
-use Rattle.kan_grammar.proofs.Data.Sound.{spelled_open, SoundOpen, IsWide, after-sound, after-spelled}
+use Rattle.kan_grammar.proofs.Data.Sound.{spelled_enclosing, SoundEnclosing, IsWide, after-sound, after-spelled}
 
 -- a reading that has stopped stays there
 pub run-stopped : (f : Fault) (ts : List Placed) → run as_written (stopped f) ts ≡ stopped f
@@ -16,20 +16,20 @@ run-stopped f [] = refl
 run-stopped f (t ∷ ts) = run-stopped f ts
 
 -- tokens that are read so far are spelled by what is open then, and it is sound
-pub run-spelled : (limit : ℕ) → IsWide limit → (o : Open Written) (ts : List Placed) (later : Open Written) → run as_written (going o) ts ≡ going later → SoundOpen limit o → SoundOpen limit later × ((rest : List Placed) → spelled_open later rest ≡ spelled_open o (ts ++ rest))
+pub run-spelled : (limit : ℕ) → IsWide limit → (o : Enclosing Written) (ts : List Placed) (later : Enclosing Written) → run as_written (going o) ts ≡ going later → SoundEnclosing limit o → SoundEnclosing limit later × ((rest : List Placed) → spelled_enclosing later rest ≡ spelled_enclosing o (ts ++ rest))
 unfolding run
-run-spelled limit wide o [] later h g = let e : o ≡ later = cc in (rw e at g, λ rest. ap (λ (x : Open Written). spelled_open x rest) (sym e))
+run-spelled limit wide o [] later h g = let e : o ≡ later = cc in (rw e at g, λ rest. ap (λ (x : Enclosing Written). spelled_enclosing x rest) (sym e))
 run-spelled limit wide o (placed at t ∷ ts) later h g = by_answer (refusal o at t) refl (λ e. run-spelled limit wide (after as_written o at t) ts later (sym (past as_written o at t ts e) ∙ h) (after-sound limit wide o at t e g))
   where
-    by_answer : (r : Option Fault) → refusal o at t ≡ r → (refusal o at t ≡ None → SoundOpen limit later × ((rest : List Placed) → spelled_open later rest ≡ spelled_open (after as_written o at t) (ts ++ rest))) → SoundOpen limit later × ((rest : List Placed) → spelled_open later rest ≡ spelled_open o (placed at t ∷ (ts ++ rest)))
+    by_answer : (r : Option Fault) → refusal o at t ≡ r → (refusal o at t ≡ None → SoundEnclosing limit later × ((rest : List Placed) → spelled_enclosing later rest ≡ spelled_enclosing (after as_written o at t) (ts ++ rest))) → SoundEnclosing limit later × ((rest : List Placed) → spelled_enclosing later rest ≡ spelled_enclosing o (placed at t ∷ (ts ++ rest)))
     by_answer None e next = ((next e).0, λ rest. (next e).1 rest ∙ after-spelled o at t (ts ++ rest) e)
     by_answer (Some f) e next =
-        let stop : run as_written (stopped f) ts ≡ going later = ap (λ (r : Option Fault). run as_written (settled r (after as_written o at t)) ts) (sym e) ∙ h in
+        let stop : run as_written (stopped f) ts ≡ going later = ap (λ (r : Option Fault). run as_written (settle r (after as_written o at t)) ts) (sym e) ∙ h in
         let same : stopped f ≡ going later = sym (run-stopped f ts) ∙ stop in
         absurd cc
 
 -- what is open when all is read
-all_read : (ts : List Placed) (o : Open Written) (ds : List Written) → run as_written beginning ts ≡ going o → cut_off o ≡ data_are ds → (spell_all ds [] ≡ ts) × IsTrue (are_allowed deepest ds)
+all_read : (ts : List Placed) (o : Enclosing Written) (ds : List Written) → run as_written beginning ts ≡ going o → answer_at_end o ≡ data_are ds → (spell_all ds [] ≡ ts) × IsTrue (are_allowed deepest ds)
 all_read ts (awaiting (top es)) ds h e =
     let same : es ≡ ds = cc in
     let so = run-spelled deepest (λ n k. k) (awaiting (top [])) ts (awaiting (top es)) h refl in

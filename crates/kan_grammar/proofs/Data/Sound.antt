@@ -3,9 +3,9 @@ use Rattle.std.proofs.Common.{◌≡◌, ℕ, suc, ◌+◌, Bool, true, false, �
 use Rattle.std.proofs.lemmas.Bool.{lt-ltb}
 use Rattle.std.specs.Prelude.{Option, Some, None, IsTrue, if◌then◌else◌}
 use Rattle.kan_grammar.specs.Data.Tokens.{Placed, placed}
-use Rattle.kan_grammar.specs.Data.Words.{Atom, symbol, number, truth, out_of_range, reserved, Shape, round, square, Token, opening, closing, prefix, dot, atom, bad}
+use Rattle.kan_grammar.specs.Data.Words.{Atom, symbol, string, number, truth, out_of_range, reserved, Shape, round, square, Token, opening, closing, prefix, dot, atom, bad_string, bad}
 use Rattle.kan_grammar.specs.Data.Written.{Written, Within, single, list, prefixed, close, dotted, element, spell, spell_within, spell_all, is_allowed_atom, is_allowed, are_allowed_within, are_allowed, deepest}
-use Rattle.kan_grammar.specs.Data.Enclosing.{Place, top, in_list, after_dot, after_prefix, Open, awaiting, ended, depth, put, row, as_written}
+use Rattle.kan_grammar.specs.Data.Enclosing.{Place, top, in_list, after_dot, after_prefix, Enclosing, awaiting, ended, depth, put, row, as_written}
 use Rattle.kan_grammar.specs.Data.Faults.{Fault, refusal, first_fault, after, is_out_of_range, is_reserved_name}
 use Rattle.kan_grammar.proofs.Data.Complete.{and_left, and_right, and_both}
 
@@ -42,11 +42,11 @@ spelled (in_list outer at s ds) rest = spelled outer (placed at (opening s) ∷ 
 spelled (after_dot outer at s e ds point) rest = spelled outer (placed at (opening s) ∷ spell_all (e ∷ ds) (placed point dot ∷ rest))
 spelled (after_prefix outer at p) rest = spelled outer (placed at (prefix p) ∷ rest)
 
-abbrev pub spelled_open : Open Written → List Placed → List Placed
-spelled_open (awaiting p) rest = spelled p rest
-spelled_open (ended outer at s e ds point d) rest = spelled outer (placed at (opening s) ∷ spell_all (e ∷ ds) (placed point dot ∷ spell d rest))
+abbrev pub spelled_enclosing : Enclosing Written → List Placed → List Placed
+spelled_enclosing (awaiting p) rest = spelled p rest
+spelled_enclosing (ended outer at s e ds point d) rest = spelled outer (placed at (opening s) ∷ spell_all (e ∷ ds) (placed point dot ∷ spell d rest))
 
-pub spelled-put : (p : Place Written) (d : Written) (rest : List Placed) → spelled_open (put as_written p d) rest ≡ spelled p (spell d rest)
+pub spelled-put : (p : Place Written) (d : Written) (rest : List Placed) → spelled_enclosing (put as_written p d) rest ≡ spelled p (spell d rest)
 spelled-put (top ds) d rest = spell_all-snoc ds d rest
 spelled-put (in_list outer at s ds) d rest = ap (λ (ts : List Placed). spelled outer (placed at (opening s) ∷ ts)) (spell_all-snoc ds d rest)
 spelled-put (after_dot outer at s e ds point) d rest = refl
@@ -64,9 +64,9 @@ Sound limit (in_list outer at s ds) = Sound limit outer × IsTrue (nat_le (depth
 Sound limit (after_dot outer at s e ds point) = Sound limit outer × IsTrue (nat_le (depth outer) limit) × IsTrue (row_allowed limit (depth outer) 0 (e ∷ ds))
 Sound limit (after_prefix outer at p) = Sound limit outer × IsTrue (nat_le (depth outer) limit)
 
-abbrev pub SoundOpen : ℕ → Open Written → Type 0
-SoundOpen limit (awaiting p) = Sound limit p
-SoundOpen limit (ended outer at s e ds point d) = Sound limit outer × IsTrue (nat_le (depth outer) limit) × IsTrue (row_allowed limit (depth outer) 0 (e ∷ ds)) × IsTrue (is_allowed limit (depth outer + suc (length ds)) d)
+abbrev pub SoundEnclosing : ℕ → Enclosing Written → Type 0
+SoundEnclosing limit (awaiting p) = Sound limit p
+SoundEnclosing limit (ended outer at s e ds point d) = Sound limit outer × IsTrue (nat_le (depth outer) limit) × IsTrue (row_allowed limit (depth outer) 0 (e ∷ ds)) × IsTrue (is_allowed limit (depth outer + suc (length ds)) d)
 
 pub are_allowed-snoc : (limit : ℕ) (ds : List Written) (d : Written) → are_allowed limit ds ≡ true → is_allowed limit 0 d ≡ true → are_allowed limit (ds ++ d ∷ []) ≡ true
 are_allowed-snoc limit [] d h k = and_both _ _ k refl
@@ -87,7 +87,7 @@ row-dotted limit k count (f ∷ ds) at d end h g i =
     let e : count + suc (length ds) ≡ suc count + length ds = omega arith in
     and_both _ _ (and_left _ _ h) (row-dotted limit k (suc count) ds at d end (and_right _ _ h) (rw e at g) (rw e at i))
 
-pub put-sound : (limit : ℕ) (p : Place Written) (d : Written) → Sound limit p → is_allowed limit (depth p) d ≡ true → SoundOpen limit (put as_written p d)
+pub put-sound : (limit : ℕ) (p : Place Written) (d : Written) → Sound limit p → is_allowed limit (depth p) d ≡ true → SoundEnclosing limit (put as_written p d)
 put-sound limit (top ds) d g h = are_allowed-snoc limit ds d g h
 put-sound limit (in_list outer at s ds) d g h = (g.0, g.1, row_allowed-snoc limit (depth outer) 0 ds d g.2 (let e : 0 + length ds ≡ length ds = omega arith in rw e h))
 put-sound limit (after_dot outer at s e ds point) d g h = (g.0, g.1, g.2, h)
@@ -104,6 +104,7 @@ kept_depth p at a h = kept (nat_le (depth p) deepest) _ _ h
 kept_atom : (b : Bool) (f : Fault) (at : ℕ) (a : Atom) → first_fault ((if b then None else Some f) ∷ is_out_of_range at (atom a) ∷ is_reserved_name at (atom a) ∷ []) ≡ None → is_allowed_atom a ≡ true
 kept_atom false f at a h = absurd cc
 kept_atom true f at (symbol s) h = refl
+kept_atom true f at (string s) h = refl
 kept_atom true f at (number n) h = refl
 kept_atom true f at (truth b) h = refl
 kept_atom true f at out_of_range h = absurd cc
@@ -134,7 +135,7 @@ abbrev pub IsWide : ℕ → Type 0
 IsWide limit = (n : ℕ) → nat_le n deepest ≡ true → nat_le n limit ≡ true
 
 -- a token that is not refused keeps what is read sound
-pub after-sound : (limit : ℕ) → IsWide limit → (o : Open Written) (at : ℕ) (t : Token) → refusal o at t ≡ None → SoundOpen limit o → SoundOpen limit (after as_written o at t)
+pub after-sound : (limit : ℕ) → IsWide limit → (o : Enclosing Written) (at : ℕ) (t : Token) → refusal o at t ≡ None → SoundEnclosing limit o → SoundEnclosing limit (after as_written o at t)
 after-sound limit wide (awaiting p) at (opening s) h g = (g, wide _ (kept (nat_le (depth p) deepest) _ _ h), refl)
 after-sound limit wide (awaiting p) at (prefix q) h g = (g, wide _ (kept (nat_le (depth p) deepest) _ _ h))
 after-sound limit wide (awaiting p) at (atom a) h g = put-sound limit p (single at a) g (and_both _ _ (wide _ (kept_depth p at a h)) (kept_atom (nat_le (depth p) deepest) _ at a h))
@@ -147,6 +148,7 @@ after-sound limit wide (awaiting (in_list outer start s [])) at dot h g = absurd
 after-sound limit wide (awaiting (in_list outer start s (e ∷ ds))) at dot h g = g
 after-sound limit wide (awaiting (after_dot outer start s e ds point)) at dot h g = absurd cc
 after-sound limit wide (awaiting (after_prefix outer start q)) at dot h g = absurd cc
+after-sound limit wide (awaiting p) at bad_string h g = absurd cc
 after-sound limit wide (awaiting p) at bad h g = absurd cc
 after-sound limit wide (ended outer start s e ds point d) at (closing r) h g =
     let n : 0 + suc (length ds) ≡ suc (length ds) = omega arith in
@@ -155,10 +157,11 @@ after-sound limit wide (ended outer start s e ds point d) at (opening r) h g = a
 after-sound limit wide (ended outer start s e ds point d) at (prefix q) h g = absurd cc
 after-sound limit wide (ended outer start s e ds point d) at (atom a) h g = absurd cc
 after-sound limit wide (ended outer start s e ds point d) at dot h g = absurd cc
+after-sound limit wide (ended outer start s e ds point d) at bad_string h g = absurd cc
 after-sound limit wide (ended outer start s e ds point d) at bad h g = absurd cc
 
 -- a token that is not refused is the next that is spelled
-pub after-spelled : (o : Open Written) (at : ℕ) (t : Token) (rest : List Placed) → refusal o at t ≡ None → spelled_open (after as_written o at t) rest ≡ spelled_open o (placed at t ∷ rest)
+pub after-spelled : (o : Enclosing Written) (at : ℕ) (t : Token) (rest : List Placed) → refusal o at t ≡ None → spelled_enclosing (after as_written o at t) rest ≡ spelled_enclosing o (placed at t ∷ rest)
 after-spelled (awaiting p) at (opening s) rest h = refl
 after-spelled (awaiting p) at (prefix q) rest h = refl
 after-spelled (awaiting p) at (atom a) rest h = spelled-put p (single at a) rest
@@ -174,6 +177,7 @@ after-spelled (awaiting (in_list outer start s [])) at dot rest h = absurd cc
 after-spelled (awaiting (in_list outer start s (e ∷ ds))) at dot rest h = refl
 after-spelled (awaiting (after_dot outer start s e ds point)) at dot rest h = absurd cc
 after-spelled (awaiting (after_prefix outer start q)) at dot rest h = absurd cc
+after-spelled (awaiting p) at bad_string rest h = absurd cc
 after-spelled (awaiting p) at bad rest h = absurd cc
 after-spelled (ended outer start s e ds point d) at (closing r) rest h =
     spelled-put outer (list start s (row (e ∷ ds) (dotted point d at))) rest
@@ -183,4 +187,5 @@ after-spelled (ended outer start s e ds point d) at (opening r) rest h = absurd 
 after-spelled (ended outer start s e ds point d) at (prefix q) rest h = absurd cc
 after-spelled (ended outer start s e ds point d) at (atom a) rest h = absurd cc
 after-spelled (ended outer start s e ds point d) at dot rest h = absurd cc
+after-spelled (ended outer start s e ds point d) at bad_string rest h = absurd cc
 after-spelled (ended outer start s e ds point d) at bad rest h = absurd cc

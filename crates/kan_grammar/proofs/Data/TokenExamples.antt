@@ -57,7 +57,7 @@ comments : cut (codes "; \"note\"\r\na ; last") ≡ placed 10 (atom (symbol (cod
 unfolding cut
 comments = refl
 
-signs_of_no_word : cut (codes "a\"") ≡ placed 0 (atom (symbol (codes "a"))) ∷ placed 1 bad ∷ []
+signs_of_no_word : cut (codes "a|") ≡ placed 0 (atom (symbol (codes "a"))) ∷ placed 1 bad ∷ []
 unfolding cut
 signs_of_no_word = refl
 

@@ -183,3 +183,40 @@ nested_template = refl
 inside_bad_shape : fault_in (codes "(run* q (== x y x))") ≡ Some (fault 8 10)
 unfolding fault_in
 inside_bad_shape = refl
+
+-- a relation called as a name of the language
+defines_stringo : fault_in (codes "(defrel (stringo x) fail)") ≡ Some (fault 9 14)
+unfolding fault_in
+defines_stringo = refl
+
+-- a stringo of two terms
+wide_stringo : fault_in (codes "(run* q (stringo q q))") ≡ Some (fault 8 10)
+unfolding fault_in
+wide_stringo = refl
+
+-- a string is no goal, no name of a binder, no tag, and no limit
+goal_string : fault_in (codes "(run* q \"a\")") ≡ Some (fault 8 10)
+unfolding fault_in
+goal_string = refl
+
+name_string : fault_in (codes "(run* (\"a\") succeed)") ≡ Some (fault 7 10)
+unfolding fault_in
+name_string = refl
+
+tag_string : fault_in (codes "(run* q (absento '\"a\" q))") ≡ Some (fault 17 15)
+unfolding fault_in
+tag_string = refl
+
+limit_string : fault_in (codes "(run \"a\" q)") ≡ Some (fault 5 10)
+unfolding fault_in
+limit_string = refl
+
+-- a string at the top
+top_string : fault_in (codes "\"a\"") ≡ Some (fault 0 9)
+unfolding fault_in
+top_string = refl
+
+-- a string as a term, in quoted data and in a template
+strings_are_terms : fault_in (codes "(run* q (stringo \"a\") (== `(\"a\" ,q) '(\"b\")))") ≡ None
+unfolding fault_in
+strings_are_terms = refl

@@ -1,9 +1,9 @@
 -- What texts mean, each form and term once.
-use Rattle.std.specs.Prelude.{◌≡◌, ℕ, List, [], ◌∷◌, Option, Some, None, pos, true, refl}
+use Rattle.std.specs.Prelude.{◌≡◌, [], ◌∷◌, Some, None, pos, true, refl}
 use Rattle.kan_terms.specs.Tree.{Tree}
-use Rattle.kan_model.specs.Programs.Goals.{Template, Primitive, Goal, Relation, Query}
+use Rattle.kan_model.specs.Programs.Goals.{Template, Primitive, Goal}
 use Rattle.kan_grammar.specs.Texts.ProgramText.{Meant}
-use Rattle.kan_grammar.proofs.Texts.TextExamples.{meaning}
+use Rattle.kan_grammar.proofs.Texts.TextExamples.{meaning, meaning_in_all}
 use lib.Chars.{codes}
 
 abbrev only : Goal → Meant
@@ -17,13 +17,13 @@ abbrev q : Template
 q = Tree.leaf 0
 
 abbrev a : Template
-a = Tree.sym 21
+a = Tree.sym 22
 
 abbrev b : Template
-b = Tree.sym 22
+b = Tree.sym 23
 
 abbrev c : Template
-c = Tree.sym 23
+c = Tree.sym 24
 
 abbrev two_of : Template → Template → Template
 two_of x y = Tree.pair x (Tree.pair y Tree.nil)
@@ -39,7 +39,7 @@ unfolding meaning
 quoted_pairs = refl
 
 -- a prefix in quoted data is a list of two
-quoted_prefix : meaning (codes "(run* q (== q ''a))") ≡ only (equal q (two_of (Tree.sym 16) a))
+quoted_prefix : meaning (codes "(run* q (== q ''a))") ≡ only (equal q (two_of (Tree.sym 17) a))
 unfolding meaning
 quoted_prefix = refl
 
@@ -94,7 +94,7 @@ unfolding meaning
 joined_two = refl
 
 -- the other constraints
-constraints : meaning (codes "(run* q (=/= q 'a) (symbolo q) (numbero q) (absento 'b q))") ≡ only (Goal.both (Goal.prim (Primitive.differ q a)) (Goal.both (Goal.prim (Primitive.symbol q)) (Goal.both (Goal.prim (Primitive.number q)) (Goal.prim (Primitive.absent 22 q)))))
+constraints : meaning (codes "(run* q (=/= q 'a) (symbolo q) (numbero q) (stringo q) (absento 'b q))") ≡ only (Goal.both (Goal.prim (Primitive.differ q a)) (Goal.both (Goal.prim (Primitive.symbol q)) (Goal.both (Goal.prim (Primitive.number q)) (Goal.both (Goal.prim (Primitive.text q)) (Goal.prim (Primitive.absent 23 q))))))
 unfolding meaning
 constraints = refl
 
@@ -154,3 +154,17 @@ family = refl
 empty_relation : meaning (codes "(defrel (foo))") ≡ record { relations = record { params = 0; body = Goal.succeed } ∷ []; queries = [] }
 unfolding meaning
 empty_relation = refl
+
+-- a string stands for itself, as a term, in quoted data and in a template
+strings : meaning (codes "(run* q (== q \"a\") (== '(\"b\") `(,q \"b\")))") ≡ only (Goal.both (equal q (Tree.str 0)) (equal (Tree.pair (Tree.str 1) Tree.nil) (two_of q (Tree.str 1))))
+unfolding meaning
+strings = refl
+
+-- in the dialect in which they do, fresh and conde suspend, and so does a run over a list of names
+suspends : meaning_in_all (codes "(run* q (conde ((== q 1)) ((fresh (x) (== q x) (disj succeed fail)))))") ≡ only (Goal.later (Goal.either (equal q (Tree.num (pos 1))) (Goal.later (Goal.fresh 1 (Goal.both (equal q (Tree.leaf 1)) (Goal.either Goal.succeed Goal.fail))))))
+unfolding meaning_in_all
+suspends = refl
+
+run_suspends : meaning_in_all (codes "(run* (x) (== x 1))") ≡ only (Goal.later (Goal.fresh 1 (Goal.both (equal (Tree.pair (Tree.leaf 1) Tree.nil) q) (equal (Tree.leaf 1) (Tree.num (pos 1))))))
+unfolding meaning_in_all
+run_suspends = refl

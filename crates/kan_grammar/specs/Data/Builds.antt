@@ -7,15 +7,15 @@ use Rattle.kan_grammar.specs.Data.Faults.{Reading, data_are, refused}
 
 -- what a build makes of a datum, and of a list with elements made before what else stands in it
 abbrev mutual
-  pub made : {D : Type 0} → Build D → Written → D
-  made b (single at a) = b.of_atom at a
-  made b (list at s inner) = made_within b at s [] inner
-  made b (prefixed at p d) = b.of_prefixed at p (made b d)
+  pub build_datum : {D : Type 0} → Build D → Written → D
+  build_datum b (single at a) = b.of_atom at a
+  build_datum b (list at s inner) = build_within b at s [] inner
+  build_datum b (prefixed at p d) = b.of_prefixed at p (build_datum b d)
 
-  pub made_within : {D : Type 0} → Build D → ℕ → Shape → List D → Within → D
-  made_within b start s ds (close at) = b.of_list start s ds at
-  made_within b start s ds (dotted at d end) = b.of_dotted start s ds at (made b d) end
-  made_within b start s ds (element d inner) = made_within b start s (ds ++ made b d ∷ []) inner
+  pub build_within : {D : Type 0} → Build D → ℕ → Shape → List D → Within → D
+  build_within b start s ds (close at) = b.of_list start s ds at
+  build_within b start s ds (dotted at d end) = b.of_dotted start s ds at (build_datum b d) end
+  build_within b start s ds (element d inner) = build_within b start s (ds ++ build_datum b d ∷ []) inner
 
 -- a map takes what one build makes to what another makes
 pub record Carries {C D : Type 0} (a : Build C) (b : Build D) (f : C → D) : Type 0 where

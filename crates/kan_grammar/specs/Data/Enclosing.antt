@@ -20,9 +20,9 @@ pub data Place (D : Type 0) : Type 0 where
   after_prefix : Place D → ℕ → Prefix → Place D
 
 -- a datum may come, or the datum after a dot is there and only the list's close may come
-pub data Open (D : Type 0) : Type 0 where
-  awaiting : Place D → Open D
-  ended : Place D → ℕ → Shape → D → List D → ℕ → D → Open D
+pub data Enclosing (D : Type 0) : Type 0 where
+  awaiting : Place D → Enclosing D
+  ended : Place D → ℕ → Shape → D → List D → ℕ → D → Enclosing D
 
 -- how deep the next datum will stand
 abbrev pub depth : {D : Type 0} → Place D → ℕ
@@ -39,7 +39,7 @@ innermost_shape (after_dot outer at s e ds point) = Some s
 innermost_shape (after_prefix outer at p) = innermost_shape outer
 
 -- what is open once a datum stands at its place
-abbrev pub put : {D : Type 0} → Build D → Place D → D → Open D
+abbrev pub put : {D : Type 0} → Build D → Place D → D → Enclosing D
 put b (top ds) d = awaiting (top (ds ++ d ∷ []))
 put b (in_list outer at s ds) d = awaiting (in_list outer at s (ds ++ d ∷ []))
 put b (after_dot outer at s e ds point) d = ended outer at s e ds point d

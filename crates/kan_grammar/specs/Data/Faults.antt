@@ -3,9 +3,9 @@ use Rattle.std.specs.Prelude.{ℕ, Bool, true, false, nat_le, if◌then◌else�
 use Rattle.std.specs.Str.{is_utf8}
 use Rattle.std.specs.Str.Lossy.{utf8_valid_len}
 use Rattle.kan_grammar.specs.Data.Tokens.{Placed, placed, tokens}
-use Rattle.kan_grammar.specs.Data.Words.{out_of_range, reserved, Shape, round, square, Token, opening, closing, prefix, dot, atom, bad}
+use Rattle.kan_grammar.specs.Data.Words.{out_of_range, reserved, Shape, round, square, Token, opening, closing, prefix, dot, atom, bad_string, bad}
 use Rattle.kan_grammar.specs.Data.Written.{deepest}
-use Rattle.kan_grammar.specs.Data.Enclosing.{Build, top, in_list, after_dot, after_prefix, Open, awaiting, ended, depth, innermost_shape, put}
+use Rattle.kan_grammar.specs.Data.Enclosing.{Build, top, in_list, after_dot, after_prefix, Enclosing, awaiting, ended, depth, innermost_shape, put}
 
 -- an offset and the number of a refusal
 pub data Fault : Type 0 where
@@ -16,13 +16,18 @@ abbrev pub is_bad : ℕ → Token → Option Fault
 is_bad at bad = Some (fault at 4)
 is_bad at _ = None
 
+-- the token begins with a quotation mark and is no string
+abbrev pub is_bad_string : ℕ → Token → Option Fault
+is_bad_string at bad_string = Some (fault at 16)
+is_bad_string at _ = None
+
 -- the token is a close, directly after a prefix
-abbrev pub closes_prefix : {D : Type 0} → Token → Open D → Option Fault
+abbrev pub closes_prefix : {D : Type 0} → Token → Enclosing D → Option Fault
 closes_prefix (closing s) (awaiting (after_prefix outer at p)) = Some (fault at 4)
 closes_prefix _ _ = None
 
 -- the shape of the innermost list
-abbrev pub innermost : {D : Type 0} → Open D → Option Shape
+abbrev pub innermost : {D : Type 0} → Enclosing D → Option Shape
 innermost (awaiting p) = innermost_shape p
 innermost (ended outer at s e ds point d) = Some s
 
@@ -33,17 +38,17 @@ is_shape (Some square) square = true
 is_shape _ _ = false
 
 -- the token is a close, and no list is open or the innermost open list has the other shape
-abbrev pub is_stray : {D : Type 0} → ℕ → Token → Open D → Option Fault
+abbrev pub is_stray : {D : Type 0} → ℕ → Token → Enclosing D → Option Fault
 is_stray at (closing s) o = if is_shape (innermost o) s then None else Some (fault at 3)
 is_stray at _ o = None
 
 -- the token is a close, directly after a dot
-abbrev pub closes_dot : {D : Type 0} → Token → Open D → Option Fault
+abbrev pub closes_dot : {D : Type 0} → Token → Enclosing D → Option Fault
 closes_dot (closing r) (awaiting (after_dot outer at s e ds point)) = Some (fault point 5)
 closes_dot _ _ = None
 
 -- the token is a dot, and not one directly inside a list after an element and after no other dot
-abbrev pub is_misplaced : {D : Type 0} → ℕ → Token → Open D → Option Fault
+abbrev pub is_misplaced : {D : Type 0} → ℕ → Token → Enclosing D → Option Fault
 is_misplaced at dot (awaiting (in_list outer start s (d ∷ ds))) = None
 is_misplaced at dot _ = Some (fault at 5)
 is_misplaced at _ _ = None
@@ -56,12 +61,12 @@ begins (atom a) = true
 begins _ = false
 
 -- the token begins a second datum after a dot in its list
-abbrev pub is_second : {D : Type 0} → Token → Open D → Option Fault
+abbrev pub is_second : {D : Type 0} → Token → Enclosing D → Option Fault
 is_second t (ended outer start s e ds point d) = if begins t then Some (fault point 5) else None
 is_second t (awaiting p) = None
 
 -- the token begins a datum that stands too deep
-abbrev pub is_too_deep : {D : Type 0} → ℕ → Token → Open D → Option Fault
+abbrev pub is_too_deep : {D : Type 0} → ℕ → Token → Enclosing D → Option Fault
 is_too_deep at t (awaiting p) = if begins t then (if nat_le (depth p) deepest then None else Some (fault at 6)) else None
 is_too_deep at t (ended outer start s e ds point d) = None
 
@@ -82,11 +87,11 @@ first_fault (Some f ∷ more) = Some f
 first_fault (None ∷ more) = first_fault more
 
 -- the questions at a token, in their order
-abbrev pub refusal : {D : Type 0} → Open D → ℕ → Token → Option Fault
-refusal o at t = first_fault (is_bad at t ∷ closes_prefix t o ∷ is_stray at t o ∷ closes_dot t o ∷ is_misplaced at t o ∷ is_second t o ∷ is_too_deep at t o ∷ is_out_of_range at t ∷ is_reserved_name at t ∷ [])
+abbrev pub refusal : {D : Type 0} → Enclosing D → ℕ → Token → Option Fault
+refusal o at t = first_fault (is_bad at t ∷ is_bad_string at t ∷ closes_prefix t o ∷ is_stray at t o ∷ closes_dot t o ∷ is_misplaced at t o ∷ is_second t o ∷ is_too_deep at t o ∷ is_out_of_range at t ∷ is_reserved_name at t ∷ [])
 
 -- what is open after a token that no question refuses
-abbrev pub after : {D : Type 0} → Build D → Open D → ℕ → Token → Open D
+abbrev pub after : {D : Type 0} → Build D → Enclosing D → ℕ → Token → Enclosing D
 after b (awaiting p) at (opening s) = awaiting (in_list p at s [])
 after b (awaiting p) at (prefix q) = awaiting (after_prefix p at q)
 after b (awaiting p) at (atom a) = put b p (b.of_atom at a)
@@ -97,17 +102,17 @@ after b o at t = o
 
 -- a reading goes on with what is open, or has stopped at a fault
 pub data Progress (D : Type 0) : Type 0 where
-  going : Open D → Progress D
+  going : Enclosing D → Progress D
   stopped : Fault → Progress D
 
 -- a fault stops the reading
-abbrev pub settled : {D : Type 0} → Option Fault → Open D → Progress D
-settled None o = going o
-settled (Some f) o = stopped f
+abbrev pub settle : {D : Type 0} → Option Fault → Enclosing D → Progress D
+settle None o = going o
+settle (Some f) o = stopped f
 
 -- the reading after one token more
 abbrev pub step : {D : Type 0} → Build D → Progress D → Placed → Progress D
-step b (going o) (placed at t) = settled (refusal o at t) (after b o at t)
+step b (going o) (placed at t) = settle (refusal o at t) (after b o at t)
 step b (stopped f) t = stopped f
 
 -- the reading after some tokens more
@@ -121,16 +126,16 @@ pub data Reading (D : Type 0) : Type 0 where
   refused : Fault → Reading D
 
 -- at the end: a prefix without its datum, and no list opened after it; else an open list
-abbrev pub cut_off : {D : Type 0} → Open D → Reading D
-cut_off (awaiting (top ds)) = data_are ds
-cut_off (awaiting (after_prefix outer at p)) = refused (fault at 4)
-cut_off (awaiting (in_list outer at s ds)) = refused (fault at 2)
-cut_off (awaiting (after_dot outer at s e ds point)) = refused (fault at 2)
-cut_off (ended outer at s e ds point d) = refused (fault at 2)
+abbrev pub answer_at_end : {D : Type 0} → Enclosing D → Reading D
+answer_at_end (awaiting (top ds)) = data_are ds
+answer_at_end (awaiting (after_prefix outer at p)) = refused (fault at 4)
+answer_at_end (awaiting (in_list outer at s ds)) = refused (fault at 2)
+answer_at_end (awaiting (after_dot outer at s e ds point)) = refused (fault at 2)
+answer_at_end (ended outer at s e ds point d) = refused (fault at 2)
 
 -- what a reading comes to at the end
 abbrev pub finish : {D : Type 0} → Progress D → Reading D
-finish (going o) = cut_off o
+finish (going o) = answer_at_end o
 finish (stopped f) = refused f
 
 -- at the start nothing is open

@@ -3,8 +3,8 @@ use Rattle.std.specs.Prelude.{◌≡◌, ℕ, suc, ◌+◌, max, ◌⊎◌, ◌�
 use Rattle.kan_grammar.specs.Data.Tokens.{Placed, placed, tokens, tokens_from}
 use Rattle.kan_grammar.specs.Data.Words.{Token}
 use Rattle.kan_grammar.specs.Data.Written.{Written, spell_all, are_allowed, deepest}
-use Rattle.kan_grammar.specs.Data.Enclosing.{as_written, Open, awaiting, after_prefix, depth}
-use Rattle.kan_grammar.specs.Data.Faults.{Fault, refusal, going, run, beginning, data_are, refused, cut_off, read_tokens}
+use Rattle.kan_grammar.specs.Data.Enclosing.{as_written, Enclosing, awaiting, after_prefix, depth}
+use Rattle.kan_grammar.specs.Data.Faults.{Fault, refusal, going, run, beginning, data_are, refused, answer_at_end, read_tokens}
 
 -- tokens are read as data exactly where they spell them and they are allowed
 abbrev pub ReadsExactly : Type 0
@@ -19,7 +19,7 @@ abbrev pub BeginsText : ℕ → List Placed → Type 0
 BeginsText limit ts = (at : ℕ) → (ds : List Written) × (bytes : List ℕ) × (spell_all ds [] ≡ ts ++ tokens_from at 0 bytes) × IsTrue (are_allowed limit ds)
 
 -- how deep data must be let stand for what is open to be completed: no deeper than they may, but for the datum that the last prefix still lacks, which can be one or two too deep
-abbrev pub reach : Open Written → ℕ
+abbrev pub reach : Enclosing Written → ℕ
 reach (awaiting (after_prefix outer at p)) = max deepest (depth outer + 2)
 reach _ = deepest
 
@@ -29,19 +29,19 @@ pub record StopsAt (ts : List Placed) (f : Fault) : Type 0 where
   pub at : ℕ
   pub token : Token
   pub later : List Placed
-  pub is_open : Open Written
+  pub enclosing : Enclosing Written
   pub in_order : ts ≡ before ++ placed at token ∷ later
-  pub read_before : run as_written beginning before ≡ going is_open
-  pub answer : refusal is_open at token ≡ Some f
-  pub before_begins : BeginsText (reach is_open) before
+  pub read_before : run as_written beginning before ≡ going enclosing
+  pub answer : refusal enclosing at token ≡ Some f
+  pub before_begins : BeginsText (reach enclosing) before
   pub begins_none : Begins deepest (before ++ placed at token ∷ []) → ⊥
 
 -- all tokens begin a text, and something is open at the end
 pub record IsCutOff (ts : List Placed) (f : Fault) : Type 0 where
-  pub is_open : Open Written
-  pub read_all : run as_written beginning ts ≡ going is_open
-  pub answer : cut_off is_open ≡ refused f
-  pub all_begin : BeginsText (reach is_open) ts
+  pub enclosing : Enclosing Written
+  pub read_all : run as_written beginning ts ≡ going enclosing
+  pub answer : answer_at_end enclosing ≡ refused f
+  pub all_begin : BeginsText (reach enclosing) ts
 
 -- a refusal belongs to the first token at which the tokens so far begin no text that can be read, or to the end
 abbrev pub RefusesFirst : Type 0

@@ -1,22 +1,29 @@
 -- What data mean, read as pairs, and the texts that printing gives.
 use Rattle.std.specs.Prelude.{ℕ, List, []}
 use Rattle.kan_terms.specs.Tree.{Tree, leaf, num, truth, nil, pair}
-use Rattle.kan_model.specs.Answers.Text.{print}
-use Rattle.kan_grammar.specs.Data.Words.{Atom, symbol, number, truth as truth_value, out_of_range, reserved, Prefix, quote, quasiquote, unquote}
+use Rattle.kan_model.specs.Answers.Text.{print, in_quotes}
+use Rattle.kan_terms.specs.Table.{no_names}
+use Rattle.kan_grammar.specs.Data.Words.{Atom, symbol, string, number, truth as truth_value, out_of_range, reserved, Prefix, quote, quasiquote, unquote}
 use Rattle.kan_grammar.specs.Data.Written.{Written, Within, single, list, prefixed, close, dotted, element}
 use lib.Chars.{codes}
 
--- a tree whose symbols are still their bytes, as leaves
+-- a symbol by its name, or a string by the text that it means
+pub data Label : Type 0 where
+  name : List ℕ → Label
+  text : List ℕ → Label
+
+-- a tree whose symbols and strings are still their bytes, as leaves
 abbrev pub Named : Type 0
-Named = Tree (List ℕ)
+Named = Tree Label
 
 -- an atom; those that no datum may be have no name
 abbrev pub atom_tree : Atom → Named
-atom_tree (symbol s) = leaf s
+atom_tree (symbol s) = leaf (Label.name s)
+atom_tree (string s) = leaf (Label.text s)
 atom_tree (number n) = num n
 atom_tree (truth_value b) = truth b
-atom_tree out_of_range = leaf []
-atom_tree reserved = leaf []
+atom_tree out_of_range = leaf (Label.name [])
+atom_tree reserved = leaf (Label.name [])
 
 -- the symbol that a prefix stands for
 abbrev pub prefix_name : Prefix → List ℕ
@@ -29,16 +36,21 @@ abbrev mutual
   pub pairs : Written → Named
   pairs (single at a) = atom_tree a
   pairs (list at s inner) = pairs_within inner
-  pairs (prefixed at p d) = pair (leaf (prefix_name p)) (pair (pairs d) nil)
+  pairs (prefixed at p d) = pair (leaf (Label.name (prefix_name p))) (pair (pairs d) nil)
 
   pub pairs_within : Within → Named
   pairs_within (close at) = nil
   pairs_within (dotted at d end) = pairs d
   pairs_within (element d inner) = pair (pairs d) (pairs_within inner)
 
--- the text of a datum's tree, whose leaves are the names of its symbols and which has no other symbol
+-- the text of a label: a string stands in quotation marks
+abbrev pub label_text : Label → List ℕ
+label_text (Label.name s) = s
+label_text (Label.text s) = in_quotes s
+
+-- the text of a datum's tree, whose leaves are its symbols and strings and which has no others
 abbrev pub named_text : Named → List ℕ
-named_text t = print (λ name. name) [] t
+named_text t = print label_text no_names t
 
 -- the text of a datum
 abbrev pub datum_text : Written → List ℕ

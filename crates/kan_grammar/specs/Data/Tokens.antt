@@ -1,7 +1,8 @@
 -- The tokens of a text: its bytes cut by longest match, each token with its offset.
-use Rattle.std.specs.Prelude.{ℕ, zero, suc, true, false, not, if◌then◌else◌, ◌==◌, List, [], ◌∷◌, take_while}
+use Rattle.std.specs.Prelude.{ℕ, zero, suc, true, false, not, if◌then◌else◌, ◌==◌, List, [], ◌∷◌, Option, None, Some, take, take_while}
 use Rattle.std.specs.List.{prefix_len}
-use Rattle.kan_grammar.specs.Data.Words.{round, square, quote, quasiquote, unquote, Token, opening, closing, prefix, atom, truth, bad, is_one_of, is_word_byte, word_token}
+use Rattle.kan_grammar.specs.Data.Words.{round, square, quote, quasiquote, unquote, Token, opening, closing, prefix, atom, string, truth, bad_string, bad, is_one_of, is_word_byte, word_token}
+use Rattle.kan_grammar.specs.Data.Strings.{string_length, string_meaning}
 use lib.Chars.{codes}
 
 -- a token and its offset
@@ -24,6 +25,7 @@ pub data Start : Type 0 where
   whole : Token → Start
   comma : Start
   hash : Start
+  quotation : Start
   in_word : Start
 
 -- what each byte begins
@@ -33,7 +35,8 @@ start b = if is_one_of (codes " \t\n\r") b then separator else (if b == 59 then 
     else (if b == 41 then whole (closing round) else (if b == 93 then whole (closing square)
     else (if b == 39 then whole (prefix quote) else (if b == 96 then whole (prefix quasiquote)
     else (if b == 44 then comma else (if b == 35 then hash
-    else (if is_word_byte b then in_word else whole bad))))))))))
+    else (if b == 34 then quotation
+    else (if is_word_byte b then in_word else whole bad)))))))))))
 
 -- a piece of a text: no token or one, and how many bytes it has after its first
 pub data Piece : Type 0 where
@@ -45,6 +48,11 @@ abbrev pub comma_piece : List ℕ → Piece
 comma_piece [] = spelled (prefix unquote) 0
 comma_piece (b ∷ bs) = if b == 64 then spelled bad 1 else spelled (prefix unquote) 0
 
+-- the piece of a quotation mark, where a string goes on for so many bytes behind it: one that begins no string is a token by itself
+abbrev pub string_piece : Option ℕ → List ℕ → Piece
+string_piece None bs = spelled bad_string 0
+string_piece (Some n) bs = spelled (atom (string (string_meaning false (take n bs)))) (suc n)
+
 -- the piece of a byte that begins this, before the bytes that follow
 abbrev pub piece_of : Start → ℕ → List ℕ → Piece
 piece_of separator b bs = blank 0
@@ -52,6 +60,7 @@ piece_of comment b bs = blank (comment_length bs)
 piece_of (whole t) b bs = spelled t 0
 piece_of comma b bs = comma_piece bs
 piece_of hash b bs = spelled (hash_token (take_while is_word_byte bs)) (prefix_len is_word_byte bs)
+piece_of quotation b bs = string_piece (string_length false bs) bs
 piece_of in_word b bs = spelled (word_token (b ∷ take_while is_word_byte bs)) (prefix_len is_word_byte bs)
 
 -- the piece that a byte begins, before the bytes that follow

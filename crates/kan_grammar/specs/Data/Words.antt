@@ -8,6 +8,8 @@ use lib.Chars.{codes}
 pub data Atom : Type 0 where
   -- its bytes
   symbol : List ℕ → Atom
+  -- the bytes of the text that it means
+  string : List ℕ → Atom
   number : ℤ → Atom
   truth : Bool → Atom
   -- a number that no datum can hold
@@ -33,7 +35,9 @@ pub data Token : Type 0 where
   prefix : Prefix → Token
   dot : Token
   atom : Atom → Token
-  -- what no text may hold
+  -- a quotation mark that begins no string
+  bad_string : Token
+  -- what else no text may hold
   bad : Token
 
 -- a byte is one of these

@@ -1,7 +1,7 @@
 -- Data as they are written: trees with the offsets of their tokens, the tokens that spell them, and which of them are allowed.
 use Rattle.std.specs.Prelude.{ℕ, suc, ◌+◌, Bool, true, false, ◌&&◌, nat_lt, nat_le, List, [], ◌∷◌}
 use Rattle.kan_grammar.specs.Data.Tokens.{Placed, placed}
-use Rattle.kan_grammar.specs.Data.Words.{Atom, symbol, number, truth, out_of_range, reserved, Shape, Prefix, opening, closing, prefix, dot, atom}
+use Rattle.kan_grammar.specs.Data.Words.{Atom, symbol, string, number, truth, out_of_range, reserved, Shape, Prefix, opening, closing, prefix, dot, atom}
 
 -- a datum begins at its offset; what stands in a list goes on to its close, the datum after a dot being the last
 mutual
@@ -39,6 +39,7 @@ deepest = 2048
 -- an atom that a datum may be
 abbrev pub is_allowed_atom : Atom → Bool
 is_allowed_atom (symbol s) = true
+is_allowed_atom (string s) = true
 is_allowed_atom (number n) = true
 is_allowed_atom (truth b) = true
 is_allowed_atom out_of_range = false

@@ -1,7 +1,7 @@
 -- Binders and tags, with the faults of their shape.
-use Rattle.std.specs.Prelude.{ℕ, Bool, true, false, not, ◌||◌, ◌&&◌, ◌==◌, List, [], ◌∷◌, ◌++◌, Option, Some, None, if◌then◌else◌}
+use Rattle.std.specs.Prelude.{ℕ, Bool, not, ◌&&◌, ◌==◌, List, [], ◌∷◌, ◌++◌, Option, Some, None, if◌then◌else◌}
 use Rattle.std.specs.List.{list_any}
-use Rattle.kan_model.specs.Answers.Text.{Table}
+use Rattle.kan_terms.specs.Table.{Table}
 use Rattle.kan_grammar.specs.Data.Faults.{Fault, fault}
 use Rattle.kan_grammar.specs.Texts.Sited.{Sited, site, is_proper}
 use Rattle.kan_grammar.specs.Texts.Language.{Word, word, head_word, is_other}

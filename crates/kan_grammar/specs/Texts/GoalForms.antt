@@ -1,6 +1,6 @@
 -- Goals as they are written: trees of goals, in which spots of bad shape are marked.
-use Rattle.std.specs.Prelude.{ℕ, Bool, true, false, ◌==◌, nat_le, List, [], ◌∷◌, Option, Some, None}
-use Rattle.kan_model.specs.Answers.Text.{Table}
+use Rattle.std.specs.Prelude.{ℕ, Bool, true, false, ◌==◌, nat_le, List, [], ◌∷◌, Option, Some}
+use Rattle.kan_terms.specs.Table.{Table}
 use Rattle.kan_grammar.specs.Texts.Sited.{Sited, site, is_proper, count, first, rest}
 use Rattle.kan_grammar.specs.Texts.Language.{Word, word}
 use Rattle.kan_grammar.specs.Texts.Binders.{Checked, binder, tag}
@@ -15,11 +15,14 @@ mutual
     differ : TermForm → TermForm → GoalForm
     symbol : TermForm → GoalForm
     number : TermForm → GoalForm
+    text : TermForm → GoalForm
     absent : Checked ℕ → TermForm → GoalForm
     -- the names that it binds, and its goals
     fresh : Checked (List ℕ) → GoalForms → GoalForm
     all_of : GoalForms → GoalForm
     one_of : GoalForms → GoalForm
+    -- one of the clauses of a conde, each of which is goals that hold together
+    clauses : GoalForms → GoalForm
     -- the offset and the symbol of its head, and its arguments
     call : ℕ → ℕ → List TermForm → GoalForm
     -- at an offset stands no goal
@@ -43,6 +46,7 @@ parts_of Word.same = Parts.exactly 2
 parts_of Word.differ = Parts.exactly 2
 parts_of Word.symbolo = Parts.exactly 1
 parts_of Word.numbero = Parts.exactly 1
+parts_of Word.stringo = Parts.exactly 1
 parts_of Word.absento = Parts.exactly 2
 parts_of Word.fresh = Parts.at_least 1
 parts_of Word.conde = Parts.at_least 0
@@ -88,9 +92,10 @@ abbrev mutual
       | Word.differ ↦ differ (term_one t parts) (term_two t parts)
       | Word.symbolo ↦ symbol (term_one t parts)
       | Word.numbero ↦ number (term_one t parts)
+      | Word.stringo ↦ text (term_one t parts)
       | Word.absento ↦ absent (tag t (first parts)) (term_two t parts)
       | Word.fresh ↦ fresh_form t at parts
-      | Word.conde ↦ one_of (clause_forms t parts)
+      | Word.conde ↦ clauses (clause_forms t parts)
       | Word.conj ↦ all_of (goal_forms t parts)
       | Word.disj ↦ one_of (goal_forms t parts)
       | Word.conj_two ↦ all_of (goal_forms t parts)
@@ -113,5 +118,5 @@ abbrev mutual
 
   -- clauses in a row, each a proper list of goals that hold together
   pub clause_forms : Table → Sited → GoalForms
-  clause_forms t (Sited.pair _ c clauses) = more (elim (is_proper c) [ true ↦ all_of (goal_forms t c) | false ↦ misshapen (site c) ]) (clause_forms t clauses)
+  clause_forms t (Sited.pair _ c parts) = more (elim (is_proper c) [ true ↦ all_of (goal_forms t c) | false ↦ misshapen (site c) ]) (clause_forms t parts)
   clause_forms t d = none

@@ -1,6 +1,7 @@
 -- The names of the language.
 use Rattle.std.specs.Prelude.{ℕ, Bool, true, false, List, [], ◌∷◌, if◌then◌else◌, bytes_eq}
-use Rattle.kan_model.specs.Answers.Text.{Table, symbol_text}
+use Rattle.kan_model.specs.Answers.Text.{symbol_text}
+use Rattle.kan_terms.specs.Table.{Table}
 use Rattle.kan_grammar.specs.Texts.Sited.{Sited}
 use lib.Chars.{codes}
 
@@ -15,6 +16,7 @@ pub data Word : Type 0 where
   differ : Word
   symbolo : Word
   numbero : Word
+  stringo : Word
   absento : Word
   fresh : Word
   conde : Word
@@ -46,7 +48,7 @@ goal_names = spelled Word.succeed (codes "succeed") ∷ spelled Word.fail (codes
 -- the names that begin constraints
 abbrev pub constraint_names : List Spelled
 constraint_names = spelled Word.same (codes "==") ∷ spelled Word.differ (codes "=/=") ∷ spelled Word.symbolo (codes "symbolo")
-    ∷ spelled Word.numbero (codes "numbero") ∷ spelled Word.absento (codes "absento") ∷ []
+    ∷ spelled Word.numbero (codes "numbero") ∷ spelled Word.stringo (codes "stringo") ∷ spelled Word.absento (codes "absento") ∷ []
 
 -- the names that begin terms and parts of templates
 abbrev pub term_names : List Spelled

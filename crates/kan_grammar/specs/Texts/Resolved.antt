@@ -1,8 +1,9 @@
 -- What names stand for: the slots of variables, the numbers of relations, and the goals that goals as they are written stand for.
-use Rattle.std.specs.Prelude.{ℕ, suc, Bool, true, false, ◌==◌, List, [], ◌∷◌, ◌++◌, Option, Some, None, map, length, option_map, unwrap_or, if◌then◌else◌}
+use Rattle.std.specs.Prelude.{ℕ, suc, Bool, false, ◌==◌, List, [], ◌∷◌, ◌++◌, Option, Some, None, map, length, option_map, unwrap_or, if◌then◌else◌}
 use Rattle.kan_terms.specs.Tree.{Tree, fill}
 use Rattle.kan_model.specs.Programs.Goals.{Template, Primitive, Goal}
-use Rattle.kan_grammar.specs.Texts.Binders.{Checked}
+use Rattle.kan_grammar.specs.declared.dialect.Dialect.{Dialect}
+use Rattle.kan_grammar.specs.declared.dialect.Dialect.TheVariants.{Book, All}
 use Rattle.kan_grammar.specs.Texts.TermForms.{Use, variable, misshapen, TermForm}
 use Rattle.kan_grammar.specs.Texts.GoalForms.{GoalForm, GoalForms, none, more}
 use Rattle.kan_grammar.specs.Texts.TopForms.{Defined}
@@ -61,22 +62,29 @@ disjunction (g ∷ h ∷ gs) = Goal.either g (disjunction (h ∷ gs))
 abbrev pub within : Names → List ℕ → Names
 within ns names = ns ++ map (λ s. Some s) names
 
--- the goal where these relations and names are there
-abbrev mutual
-  pub goal_in : List Defined → Names → GoalForm → Goal
-  goal_in ds ns GoalForm.succeed = Goal.succeed
-  goal_in ds ns GoalForm.fail = Goal.fail
-  goal_in ds ns (GoalForm.same u v) = Goal.prim (Primitive.same (template_in ns u) (template_in ns v))
-  goal_in ds ns (GoalForm.differ u v) = Goal.prim (Primitive.differ (template_in ns u) (template_in ns v))
-  goal_in ds ns (GoalForm.symbol u) = Goal.prim (Primitive.symbol (template_in ns u))
-  goal_in ds ns (GoalForm.number u) = Goal.prim (Primitive.number (template_in ns u))
-  goal_in ds ns (GoalForm.absent tag u) = Goal.prim (Primitive.absent tag.value (template_in ns u))
-  goal_in ds ns (GoalForm.fresh b gs) = Goal.fresh (length b.value) (conjunction (goals_in ds (within ns b.value) gs))
-  goal_in ds ns (GoalForm.all_of gs) = conjunction (goals_in ds ns gs)
-  goal_in ds ns (GoalForm.one_of gs) = disjunction (goals_in ds ns gs)
-  goal_in ds ns (GoalForm.call at s args) = Goal.call (unwrap_or (relation_number ds s) 0) (map (template_in ns) args)
-  goal_in ds ns (GoalForm.misshapen at) = Goal.fail
+-- a goal that suspends before it is run, in the dialect in which it does
+abbrev pub suspended_in : Dialect → Goal → Goal
+suspended_in Book g = g
+suspended_in All g = Goal.later g
 
-  pub goals_in : List Defined → Names → GoalForms → List Goal
-  goals_in ds ns none = []
-  goals_in ds ns (more g gs) = goal_in ds ns g ∷ goals_in ds ns gs
+-- the goal where these relations and names are there: in the dialect in which they suspend, fresh and conde do
+abbrev mutual
+  pub goal_in : Dialect → List Defined → Names → GoalForm → Goal
+  goal_in dialect ds ns GoalForm.succeed = Goal.succeed
+  goal_in dialect ds ns GoalForm.fail = Goal.fail
+  goal_in dialect ds ns (GoalForm.same u v) = Goal.prim (Primitive.same (template_in ns u) (template_in ns v))
+  goal_in dialect ds ns (GoalForm.differ u v) = Goal.prim (Primitive.differ (template_in ns u) (template_in ns v))
+  goal_in dialect ds ns (GoalForm.symbol u) = Goal.prim (Primitive.symbol (template_in ns u))
+  goal_in dialect ds ns (GoalForm.number u) = Goal.prim (Primitive.number (template_in ns u))
+  goal_in dialect ds ns (GoalForm.text u) = Goal.prim (Primitive.text (template_in ns u))
+  goal_in dialect ds ns (GoalForm.absent tag u) = Goal.prim (Primitive.absent tag.value (template_in ns u))
+  goal_in dialect ds ns (GoalForm.fresh b gs) = suspended_in dialect (Goal.fresh (length b.value) (conjunction (goals_in dialect ds (within ns b.value) gs)))
+  goal_in dialect ds ns (GoalForm.all_of gs) = conjunction (goals_in dialect ds ns gs)
+  goal_in dialect ds ns (GoalForm.one_of gs) = disjunction (goals_in dialect ds ns gs)
+  goal_in dialect ds ns (GoalForm.clauses gs) = suspended_in dialect (disjunction (goals_in dialect ds ns gs))
+  goal_in dialect ds ns (GoalForm.call at s args) = Goal.call (unwrap_or (relation_number ds s) 0) (map (template_in ns) args)
+  goal_in dialect ds ns (GoalForm.misshapen at) = Goal.fail
+
+  pub goals_in : Dialect → List Defined → Names → GoalForms → List Goal
+  goals_in dialect ds ns none = []
+  goals_in dialect ds ns (more g gs) = goal_in dialect ds ns g ∷ goals_in dialect ds ns gs

@@ -2,15 +2,14 @@
 use Rattle.std.specs.Prelude.{◌≡◌, ℕ, Bool, true, false, ◌==◌, ◌&&◌, ◌||◌, nat_lt, nat_le, List, [], ◌∷◌, ◌++◌, Option, Some, None, map, length, is_some, if◌then◌else◌}
 use Rattle.std.specs.List.{flat_map}
 use Rattle.kan_terms.specs.Tree.{leaves}
-use Rattle.kan_model.specs.Answers.Text.{Table}
+use Rattle.kan_terms.specs.Table.{Table}
 use Rattle.kan_grammar.specs.Data.Written.{Written}
 use Rattle.kan_grammar.specs.Data.Faults.{Fault, fault}
-use Rattle.kan_grammar.specs.Texts.Sited.{Sited, sited}
+use Rattle.kan_grammar.specs.Texts.Sited.{Sited, with_sites}
 use Rattle.kan_grammar.specs.Texts.Language.{word, is_other}
-use Rattle.kan_grammar.specs.Texts.Binders.{Checked}
 use Rattle.kan_grammar.specs.Texts.TermForms.{Use, variable, misshapen, TermForm}
 use Rattle.kan_grammar.specs.Texts.GoalForms.{GoalForm, GoalForms, none, more}
-use Rattle.kan_grammar.specs.Texts.TopForms.{NameAt, name_at, Form, relation, run_of_one, run_of_list, unknown, form, Defined, defined_by, defined}
+use Rattle.kan_grammar.specs.Texts.TopForms.{NameAt, name_at, Form, relation, run_of_one, run_of_list, unknown, form, Defined, definitions_of, definitions}
 use Rattle.kan_grammar.specs.Texts.Resolved.{Names, slot_of, arity, within}
 
 -- a fault unless something holds
@@ -41,10 +40,12 @@ abbrev mutual
   goal_faults ds ns (GoalForm.differ u v) = term_faults ns u ++ term_faults ns v
   goal_faults ds ns (GoalForm.symbol u) = term_faults ns u
   goal_faults ds ns (GoalForm.number u) = term_faults ns u
+  goal_faults ds ns (GoalForm.text u) = term_faults ns u
   goal_faults ds ns (GoalForm.absent tag u) = tag.faults ++ term_faults ns u
   goal_faults ds ns (GoalForm.fresh b gs) = b.faults ++ goals_faults ds (within ns b.value) gs
   goal_faults ds ns (GoalForm.all_of gs) = goals_faults ds ns gs
   goal_faults ds ns (GoalForm.one_of gs) = goals_faults ds ns gs
+  goal_faults ds ns (GoalForm.clauses gs) = goals_faults ds ns gs
   goal_faults ds ns (GoalForm.call at s args) = call_faults (arity ds s) at (length args) ++ flat_map (term_faults ns) args
   goal_faults ds ns (GoalForm.misshapen at) = fault at 10 ∷ []
 
@@ -73,11 +74,11 @@ form_faults t ds before (unknown at) = fault at 9 ∷ []
 -- the faults of top forms in a row
 abbrev pub forms_faults : Table → List Defined → List Defined → List Sited → List Fault
 forms_faults t ds before [] = []
-forms_faults t ds before (d ∷ later) = form_faults t ds before (form t d) ++ forms_faults t ds (before ++ defined_by t d) later
+forms_faults t ds before (d ∷ later) = form_faults t ds before (form t d) ++ forms_faults t ds (before ++ definitions_of t d) later
 
 -- all faults of a text behind a library
 unfoldable pub faults_of : Table → List Sited → List Sited → List Fault
-faults_of t library text = forms_faults t (defined t (library ++ text)) (defined t library) text
+faults_of t library text = forms_faults t (definitions t (library ++ text)) (definitions t library) text
 
 -- a fault comes before another: by its offset, and at one offset by its number
 abbrev pub is_before : Fault → Fault → Bool
@@ -95,8 +96,8 @@ least (f ∷ fs) = Some (first_of f (least fs))
 
 -- the fault of a text behind a library that is answered
 abbrev pub fault_of_text : Table → List Written → List Written → Option Fault
-fault_of_text t library text = least (faults_of t (map (sited t) library) (map (sited t) text))
+fault_of_text t library text = least (faults_of t (map (with_sites t) library) (map (with_sites t) text))
 
 -- a text is accepted where it has no fault
 abbrev pub IsAccepted : Table → List Written → List Written → Type 0
-IsAccepted t library text = faults_of t (map (sited t) library) (map (sited t) text) ≡ []
+IsAccepted t library text = faults_of t (map (with_sites t) library) (map (with_sites t) text) ≡ []

@@ -1,7 +1,7 @@
 -- Top forms as they are written, and the relations that they define.
-use Rattle.std.specs.Prelude.{ℕ, ◌^◌, pos, Bool, true, false, nat_lt, nat_le, ◌&&◌, List, [], ◌∷◌, ◌++◌, Option, Some, None, length, if◌then◌else◌}
+use Rattle.std.specs.Prelude.{ℕ, ◌^◌, pos, false, nat_lt, List, [], ◌∷◌, ◌++◌, Option, Some, None, length, if◌then◌else◌}
 use Rattle.std.specs.List.{flat_map}
-use Rattle.kan_model.specs.Answers.Text.{Table}
+use Rattle.kan_terms.specs.Table.{Table}
 use Rattle.kan_grammar.specs.Data.Faults.{Fault, fault}
 use Rattle.kan_grammar.specs.Texts.Sited.{Sited, site, elements, is_proper}
 use Rattle.kan_grammar.specs.Texts.Language.{Word, word, head_word, is_other}
@@ -86,15 +86,15 @@ pub record Defined : Type 0 where
   pub params : ℕ
 
 -- the relation that a head defines: the head is a proper list which begins with a symbol that is no name of the language
-abbrev pub defined_by_head : Table → Option (List Sited) → List Defined
-defined_by_head t (Some (Sited.name at s ∷ params)) = if is_other (word t s) then record { name = s; params = length params } ∷ [] else []
-defined_by_head t parts = []
+abbrev pub definitions_of_head : Table → Option (List Sited) → List Defined
+definitions_of_head t (Some (Sited.name at s ∷ params)) = if is_other (word t s) then record { name = s; params = length params } ∷ [] else []
+definitions_of_head t parts = []
 
 -- the relation that a top form defines, also where the form has faults or is no proper list
-abbrev pub defined_by : Table → Sited → List Defined
-defined_by t (Sited.pair _ h (Sited.pair _ hd parts)) = elim (head_word t h) [ Word.defrel ↦ defined_by_head t (elements hd) | _ ↦ [] ]
-defined_by t d = []
+abbrev pub definitions_of : Table → Sited → List Defined
+definitions_of t (Sited.pair _ h (Sited.pair _ hd parts)) = elim (head_word t h) [ Word.defrel ↦ definitions_of_head t (elements hd) | _ ↦ [] ]
+definitions_of t d = []
 
 -- the relations that data define, in their order
-abbrev pub defined : Table → List Sited → List Defined
-defined t ds = flat_map (defined_by t) ds
+abbrev pub definitions : Table → List Sited → List Defined
+definitions t ds = flat_map (definitions_of t) ds

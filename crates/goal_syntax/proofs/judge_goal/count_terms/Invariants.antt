@@ -1,5 +1,5 @@
 use Rattle.std.proofs.Common.{◌≡◌, ◌+◌, ◌≤◌, length}
-use Rattle.kan_model.specs.Answers.Text.{Table}
+use Rattle.kan_terms.specs.Table.{Table}
 use Rattle.kan_grammar.specs.Texts.GoalForms.{term_forms}
 use Rattle.goal_forms.specs.Parts.{sites, site_at}
 use Rattle.goal_syntax.proofs.judge_goal.count_terms.Given as goal

@@ -1,5 +1,5 @@
 use Rattle.std.proofs.Common.{◌≡◌, ◌≤◌, ◌++◌, map, take, drop, length}
-use Rattle.kan_grammar.specs.Texts.TopForms.{defined}
+use Rattle.kan_grammar.specs.Texts.TopForms.{definitions}
 use Rattle.kan_grammar.specs.Texts.TextFaults.{forms_faults}
 use Rattle.goal_syntax.specs.Judging.FaultLists.{fault_list}
 use Rattle.goal_forms.specs.Parts.{sites, site_at}
@@ -11,7 +11,7 @@ abbrev pub invariant-loop-place : goal.invariant-loop-place
 invariant-loop-place l = record {
   before : l.before ≤ length (relations l.text.relations.now);
   later : relations l.text.relations.now ≡ take l.before (relations l.text.relations.now)
-      ++ defined l.text.names.now (map (site_at (sites l.text.nodes.now)) (drop l.place-index l.forms));
+      ++ definitions l.text.names.now (map (site_at (sites l.text.nodes.now)) (drop l.place-index l.forms));
   faults : fault_list l.faults.items ++ forms_faults l.text.names.now (relations l.text.relations.now) (take l.before (relations l.text.relations.now))
       (map (site_at (sites l.text.nodes.now)) (drop l.place-index l.forms))
       ≡ fault_list l.fn.faults.items ++ forms_faults l.text.names.now (relations l.text.relations.now) (take l.fn.before (relations l.text.relations.now))
