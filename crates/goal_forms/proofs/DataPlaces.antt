@@ -1,31 +1,13 @@
--- The places of data in their table, and the numbers of prefixes.
-use Rattle.std.proofs.Common.{◌≡◌, ℕ, ◌+◌, List, [], ◌∷◌, ◌++◌, length, map, take, drop, reverse, refl, sym, ◌∙◌, ap, ap₂, arith, append-nil, Some, length-append}
-use Rattle.std.specs.Prelude.{unwrap_or, is_some}
+-- The places of data in their table.
+use Rattle.std.proofs.Common.{◌≡◌, ℕ, ◌+◌, List, [], ◌∷◌, ◌++◌, length, map, take, drop, reverse, refl, sym, ◌∙◌, ap, ap₂, arith, append-nil, length-append}
 use Rattle.std.proofs.lemmas.List.{reverse-append, reverse-reverse, length-map}
-use Rattle.kan_terms.specs.Table.{number_of, interned, Table}
-use Rattle.kan_terms.proofs.TableLaws.{number_of-interned}
-use Rattle.kan_grammar.specs.Data.Printed.{prefix_name}
-use Rattle.kan_grammar.specs.Data.Words.{quote, quasiquote, unquote}
-use Rattle.kan_grammar.specs.Texts.Sited.{Sited, with_sites, symbol_number}
+use Rattle.kan_terms.specs.Table.{Table}
+use Rattle.kan_grammar.specs.Texts.Sited.{Sited, with_sites}
 use Rattle.sexpr.specs.Seen.{written}
 use Rattle.sexpr.specs.declared.data.Datum.{Datum}
-use Rattle.goal_forms.specs.PrefixSymbols.{NamesPrefixes}
 use Rattle.goal_forms.specs.Parts.{site_at}
 use Rattle.goal_forms.specs.Places.{kept}
 use Rattle.goal_forms.specs.Flattening.{meaning}
-
--- a text keeps its number
-pub keeps_number : (table new : Table) (other text : List ℕ) (n : ℕ) → new ≡ interned table other → number_of table text ≡ Some n → number_of new text ≡ Some n
-keeps_number table new other text n grown number = ap (λ l. number_of l text) grown ∙ number_of-interned table other text n number
-
--- each prefix's symbol has a number
-pub each_prefix : (table : Table) (a b c : ℕ) → number_of table (prefix_name quote) ≡ Some a → number_of table (prefix_name quasiquote) ≡ Some b → number_of table (prefix_name unquote) ≡ Some c → NamesPrefixes table
-each_prefix table a b c first second third quote = ap is_some first
-each_prefix table a b c first second third quasiquote = ap is_some second
-each_prefix table a b c first second third unquote = ap is_some third
-
-pub numbered : (table : Table) (text : List ℕ) (n : ℕ) → number_of table text ≡ Some n → symbol_number table text ≡ n
-numbered table text n number = ap (λ r. unwrap_or r (length table)) number
 
 kept-reverse : (ds : List Sited) (ps : List ℕ) → kept ds ps ≡ reverse (map (site_at ds) ps)
 kept-reverse ds [] = refl

@@ -19,6 +19,7 @@ head_at_most_one t (Some (Sited.name at s ∷ params)) = by_test (is_other (word
     by_test : (b : Bool) → length {A = Defined} (if b then record { name = s; params = length params } ∷ [] else []) ≤ 1
     by_test true = omega arith
     by_test false = omega arith
+head_at_most_one t (Some (Sited.text at s ∷ params)) = omega arith
 head_at_most_one t (Some (Sited.num at n ∷ params)) = omega arith
 head_at_most_one t (Some (Sited.bool at b ∷ params)) = omega arith
 head_at_most_one t (Some (Sited.nil at ∷ params)) = omega arith
@@ -26,10 +27,12 @@ head_at_most_one t (Some (Sited.pair at a d ∷ params)) = omega arith
 
 at_most_one : (t : Table) (d : Sited) → length (definitions_of t d) ≤ 1
 at_most_one t (Sited.name at s) = omega arith
+at_most_one t (Sited.text at s) = omega arith
 at_most_one t (Sited.num at n) = omega arith
 at_most_one t (Sited.bool at b) = omega arith
 at_most_one t (Sited.nil at) = omega arith
 at_most_one t (Sited.pair at h (Sited.name end s)) = omega arith
+at_most_one t (Sited.pair at h (Sited.text end s)) = omega arith
 at_most_one t (Sited.pair at h (Sited.num end n)) = omega arith
 at_most_one t (Sited.pair at h (Sited.bool end b)) = omega arith
 at_most_one t (Sited.pair at h (Sited.nil end)) = omega arith

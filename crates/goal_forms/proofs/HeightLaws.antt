@@ -6,7 +6,7 @@ use Rattle.std.specs.List.{list_all}
 use Rattle.std.proofs.lemmas.Bool.{and_from, and_parts, leb-true, le-leb}
 use Rattle.kan_terms.specs.Tree.{Tree}
 use Rattle.kan_terms.specs.Table.{Table}
-use Rattle.kan_grammar.specs.Data.Words.{Atom, symbol, number, truth, out_of_range, reserved}
+use Rattle.kan_grammar.specs.Data.Words.{Atom, symbol, string, number, truth, out_of_range, reserved}
 use Rattle.kan_grammar.specs.Data.Written.{Written, Within, single, list, prefixed, close, dotted, element, is_allowed, are_allowed_within, are_allowed, is_allowed_atom, deepest}
 use Rattle.kan_grammar.specs.Data.Enclosing.{as_written}
 use Rattle.kan_grammar.specs.Data.Tokens.{tokens}
@@ -31,6 +31,7 @@ use Rattle.std.proofs.lemmas.List.Folds.{list_all-append}
 -- a constant is as high as its datum
 constant_high : (ns : Names) (d : Sited) → height (template_in ns (constant d)) ≡ pairs_high d
 constant_high ns (Sited.name at s) = refl
+constant_high ns (Sited.text at s) = refl
 constant_high ns (Sited.num at n) = refl
 constant_high ns (Sited.bool at b) = refl
 constant_high ns (Sited.nil at) = refl
@@ -44,6 +45,7 @@ quoted_high ns at d = omega arith
 mutual
   pub term_high : (t : Table) (ns : Names) (d : Sited) → height (template_in ns (term_form t d)) ≤ pairs_high d
   term_high t ns (Sited.name at s) = omega arith
+  term_high t ns (Sited.text at s) = omega arith
   term_high t ns (Sited.num at n) = omega arith
   term_high t ns (Sited.bool at b) = omega arith
   term_high t ns (Sited.nil at) = omega arith
@@ -81,6 +83,7 @@ mutual
 
   pub template_high : (t : Table) (ns : Names) (d : Sited) → height (template_in ns (template_form t d)) ≤ pairs_high d
   template_high t ns (Sited.name at s) = omega arith
+  template_high t ns (Sited.text at s) = omega arith
   template_high t ns (Sited.num at n) = omega arith
   template_high t ns (Sited.bool at b) = omega arith
   template_high t ns (Sited.nil at) = omega arith
@@ -113,6 +116,7 @@ slots_high i (s ∷ ss) = let others = slots_high (suc i) ss in omega (arith, ot
 -- the names in a list are at most as many as it is high
 pub bound_high : (d : Sited) → length (bound_names d) ≤ pairs_high d
 bound_high (Sited.name at s) = omega arith
+bound_high (Sited.text at s) = omega arith
 bound_high (Sited.num at n) = omega arith
 bound_high (Sited.bool at b) = omega arith
 bound_high (Sited.nil at) = omega arith
@@ -138,6 +142,7 @@ mutual
     where
       atom_same : (a : Atom) → pairs_high (atom_with_site t at a) ≡ height (atom_tree a)
       atom_same (symbol s) = refl
+      atom_same (string s) = refl
       atom_same (number n) = refl
       atom_same (truth b) = refl
       atom_same out_of_range = refl
@@ -157,6 +162,7 @@ mutual
     where
       by_atom : (a : Atom) → depth ≤ limit → depth + height (atom_tree a) ≤ limit
       by_atom (symbol s) le = omega (arith, le)
+      by_atom (string s) le = omega (arith, le)
       by_atom (number n) le = omega (arith, le)
       by_atom (truth b) le = omega (arith, le)
       by_atom out_of_range le = omega (arith, le)

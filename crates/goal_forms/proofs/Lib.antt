@@ -9,3 +9,4 @@ pub mod FlatHeightLaws
 pub mod DataPlaces
 pub mod HeightLaws
 pub mod DefinedLaws
+pub mod PrefixLaws

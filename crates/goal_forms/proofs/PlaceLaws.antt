@@ -5,7 +5,7 @@ use Rattle.std.proofs.Math.Seq.{get_or-append_seam}
 use Rattle.std.proofs.lemmas.Bool.{ltb-true, lt-ltb, and_parts, and_from}
 use Rattle.kan_terms.specs.Table.{IsDistinct, name_of, Table}
 use Rattle.kan_terms.proofs.TableLaws.{number_of-name_of}
-use Rattle.sexpr.specs.Seen.{symbol_atom}
+use Rattle.sexpr.specs.Seen.{string_atom, symbol_atom}
 use Rattle.kan_grammar.specs.Texts.Sited.{Sited, atom_with_site}
 use Rattle.goal_forms.specs.declared.flat_data.Part.TheVariants.{Pair}
 use Rattle.goal_forms.specs.PartRows.{is_there}
@@ -79,11 +79,16 @@ pub join_below : (at : ℕ) (ds new : List Sited) (p0 p1 p2 qs : List ℕ) (a d 
 join_below at ds new p0 p1 p2 qs a d top next below grown pushed =
     put_below ds new p2 qs (part_site ds at (Pair a d)) grown pushed (two_below ds p0 p1 p2 a d top next below).0
 
--- a symbol that has a name is that of its name
-pub symbol_named : (table : Table) (s at : ℕ) (text : List ℕ) → IsDistinct table → Some text ≡ name_of table s → Sited.name at s ≡ atom_with_site table at (symbol_atom (name_of table s))
+-- a symbol that has a name is that of its name, and a string that has a text that of its text
+pub symbol_named : (table : Table) (s at : ℕ) (text : List ℕ) → IsDistinct table.symbols → Some text ≡ name_of table.symbols s → Sited.name at s ≡ atom_with_site table at (symbol_atom (name_of table.symbols s))
 symbol_named table s at text distinct named =
-    let number = number_of-name_of table text s distinct (sym named) in
-    ap (λ n. Sited.name at (unwrap_or n (length table))) (sym number) ∙ ap (λ n. atom_with_site table at (symbol_atom n)) named
+    let number = number_of-name_of table.symbols text s distinct (sym named) in
+    ap (λ n. Sited.name at (unwrap_or n (length table.symbols))) (sym number) ∙ ap (λ n. atom_with_site table at (symbol_atom n)) named
+
+pub string_named : (table : Table) (s at : ℕ) (text : List ℕ) → IsDistinct table.strings → Some text ≡ name_of table.strings s → Sited.text at s ≡ atom_with_site table at (string_atom (name_of table.strings s))
+string_named table s at text distinct named =
+    let number = number_of-name_of table.strings text s distinct (sym named) in
+    ap (λ n. Sited.text at (unwrap_or n (length table.strings))) (sym number) ∙ ap (λ n. atom_with_site table at (string_atom n)) named
 
 -- the datum on top of its symbol is there
 pub prefix_below : (d0 d1 : List Sited) (p0 p1 p2 p3 : List ℕ) (d : ℕ) (n : Sited) → p0 ≡ p1 ++ d ∷ [] → are_below (length d0) p0 ≡ true →

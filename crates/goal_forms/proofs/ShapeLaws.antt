@@ -11,6 +11,7 @@ longer a (Some ds) = refl
 -- a pair counts one more than its rest
 pub count-pair : (s a d : Sited) → Some (a, d) ≡ parts s → count s ≡ option_map (λ n. suc n) (count d)
 count-pair (Sited.name at s) a d e = cc
+count-pair (Sited.text at n) a d e = cc
 count-pair (Sited.num at n) a d e = cc
 count-pair (Sited.bool at b) a d e = cc
 count-pair (Sited.nil at) a d e = cc
@@ -31,6 +32,7 @@ count_step k s a d whole e kept = shifted k (count d) ∙ ap (option_map (λ n. 
 -- what is no pair ends the count
 pub count_end : (k : ℕ) (s whole : Sited) → None ≡ parts s → true ≡ is_end s → option_map (λ n. k + n) (count s) ≡ count whole → Some k ≡ count whole
 count_end k (Sited.name at s) whole none ends kept = cc
+count_end k (Sited.text at n) whole none ends kept = cc
 count_end k (Sited.num at n) whole none ends kept = cc
 count_end k (Sited.bool at b) whole none ends kept = cc
 count_end k (Sited.nil at) whole none ends kept = let e : k ≡ k + 0 = omega arith in ap (λ m. Some m) e ∙ kept
@@ -38,6 +40,7 @@ count_end k (Sited.pair at b c) whole none ends kept = cc
 
 pub count_none : (k : ℕ) (s whole : Sited) → None ≡ parts s → false ≡ is_end s → option_map (λ n. k + n) (count s) ≡ count whole → None ≡ count whole
 count_none k (Sited.name at s) whole none ends kept = kept
+count_none k (Sited.text at n) whole none ends kept = kept
 count_none k (Sited.num at n) whole none ends kept = kept
 count_none k (Sited.bool at b) whole none ends kept = kept
 count_none k (Sited.nil at) whole none ends kept = cc
@@ -54,10 +57,12 @@ count_start s = same (count s)
 -- a list of one is a pair before an end
 pub only-is : (s a : Sited) → Some a ≡ only s → (at : ℕ) × (end : ℕ) × (s ≡ Sited.pair at a (Sited.nil end))
 only-is (Sited.name at s) a e = cc
+only-is (Sited.text at n) a e = cc
 only-is (Sited.num at n) a e = cc
 only-is (Sited.bool at b) a e = cc
 only-is (Sited.nil at) a e = cc
 only-is (Sited.pair at b (Sited.name end s)) a e = cc
+only-is (Sited.pair at b (Sited.text end n)) a e = cc
 only-is (Sited.pair at b (Sited.num end n)) a e = cc
 only-is (Sited.pair at b (Sited.bool end c)) a e = cc
 only-is (Sited.pair at b (Sited.nil end)) a e = (at, end, cc)
@@ -66,14 +71,17 @@ only-is (Sited.pair at b (Sited.pair end c d)) a e = cc
 -- a list of two is a pair before a list of one
 pub two-is : (s a d : Sited) → Some (a, d) ≡ two s → (at : ℕ) × (later : ℕ) × (end : ℕ) × (s ≡ Sited.pair at a (Sited.pair later d (Sited.nil end)))
 two-is (Sited.name at s) a d e = cc
+two-is (Sited.text at n) a d e = cc
 two-is (Sited.num at n) a d e = cc
 two-is (Sited.bool at b) a d e = cc
 two-is (Sited.nil at) a d e = cc
 two-is (Sited.pair at b (Sited.name end s)) a d e = cc
+two-is (Sited.pair at b (Sited.text end n)) a d e = cc
 two-is (Sited.pair at b (Sited.num end n)) a d e = cc
 two-is (Sited.pair at b (Sited.bool end c)) a d e = cc
 two-is (Sited.pair at b (Sited.nil end)) a d e = cc
 two-is (Sited.pair at b (Sited.pair later c (Sited.name end s))) a d e = cc
+two-is (Sited.pair at b (Sited.pair later c (Sited.text end n))) a d e = cc
 two-is (Sited.pair at b (Sited.pair later c (Sited.num end n))) a d e = cc
 two-is (Sited.pair at b (Sited.pair later c (Sited.bool end f))) a d e = cc
 two-is (Sited.pair at b (Sited.pair later c (Sited.nil end))) a d e = (at, later, end, ap (λ (p : Option (Sited × Sited)). Sited.pair at (left p) (Sited.pair later (right p) (Sited.nil end))) (sym e))

@@ -6,6 +6,7 @@ use Rattle.kan_grammar.specs.Texts.Sited.{Sited}
 -- how many pairs high a datum is
 abbrev pub pairs_high : Sited → ℕ
 pairs_high (Sited.name at s) = 0
+pairs_high (Sited.text at s) = 0
 pairs_high (Sited.num at n) = 0
 pairs_high (Sited.bool at b) = 0
 pairs_high (Sited.nil at) = 0

@@ -11,4 +11,4 @@ pub mod Places
 pub mod Flattening
 pub mod FlatHeights
 pub mod Heights
-pub mod PrefixSymbols
+pub mod Contexts

@@ -8,7 +8,7 @@ use Rattle.goal_forms.specs.Parts.{site_at}
 use Rattle.goal_forms.specs.declared.term.Task.{Task}
 use Rattle.goal_forms.specs.declared.term.Task.TheVariants.{Term, Terms, Template, Constant}
 use Rattle.goal_forms.specs.declared.term.Step.{Step}
-use Rattle.goal_forms.specs.declared.term.Step.TheVariants.{Variable, Misshapen, Symbol, Number, Truth, Nil, Pair, Same}
+use Rattle.goal_forms.specs.declared.term.Step.TheVariants.{Variable, Misshapen, Symbol, Text, Number, Truth, Nil, Pair, Same}
 
 -- a list of terms, where the parts behind its head are a proper list
 abbrev pub listed : Table → ℕ → Sited → TermForm
@@ -26,6 +26,7 @@ abbrev pub step_form : List Sited → Table → Step → TermForm
 step_form ds t (Variable at s) = Tree.leaf (Use.variable at s)
 step_form ds t (Misshapen at) = bad_term at
 step_form ds t (Symbol s) = Tree.sym s
+step_form ds t (Text s) = Tree.str s
 step_form ds t (Number n) = Tree.num n
 step_form ds t (Truth b) = Tree.truth b
 step_form ds t Nil = Tree.nil

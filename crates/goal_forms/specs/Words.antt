@@ -3,7 +3,7 @@ use Rattle.std.specs.Prelude.{ℕ, List as Numbers}
 use Rattle.kan_grammar.specs.Texts.Language as words
 use Rattle.kan_grammar.specs.Texts.Language.{word_among, goal_names, constraint_names, term_names}
 use Rattle.goal_forms.specs.declared.word.Word.{Word}
-use Rattle.goal_forms.specs.declared.word.Word.TheVariants.{Defrel, Run, RunAll, Succeed, Fail, Same, Differ, Symbolo, Numbero, Absento, Fresh, Conde, Conj, Disj, ConjTwo, DisjTwo, Quote, Quasiquote, Unquote, Cons, List, Other}
+use Rattle.goal_forms.specs.declared.word.Word.TheVariants.{Defrel, Run, RunAll, Succeed, Fail, Same, Differ, Symbolo, Numbero, Stringo, Absento, Fresh, Conde, Conj, Disj, ConjTwo, DisjTwo, Quote, Quasiquote, Unquote, Cons, List, Other}
 
 -- a name of the language
 abbrev pub word_of : Word → words.Word
@@ -16,6 +16,7 @@ word_of Same = words.Word.same
 word_of Differ = words.Word.differ
 word_of Symbolo = words.Word.symbolo
 word_of Numbero = words.Word.numbero
+word_of Stringo = words.Word.stringo
 word_of Absento = words.Word.absento
 word_of Fresh = words.Word.fresh
 word_of Conde = words.Word.conde

@@ -6,7 +6,7 @@ ghost use Rattle.kan_grammar.specs.Texts.Sited.{Sited, with_sites, atom_with_sit
 ghost use Rattle.kan_terms.specs.Table.{IsDistinct, name_of, number_of};
 ghost use Rattle.sexpr.specs.Meaning.{prefix_of};
 ghost use Rattle.kan_terms.specs.Table.{Table};
-ghost use Rattle.sexpr.specs.Seen.{symbol_atom, written};
+ghost use Rattle.sexpr.specs.Seen.{string_atom, symbol_atom, written};
 ghost use Rattle.goal_forms.specs.Parts.{sites, site_at, part_site};
 ghost use Rattle.std.specs.List.{list_all};
 ghost use Rattle.goal_forms.specs.Heights.{AreLow, is_low_datum};
@@ -17,7 +17,7 @@ ghost use Rattle.goal_forms.specs.declared.flatten.Work.TheVariants as works_of;
 ghost use Rattle.std.specs.Option.{option_copied};
 ghost use Rattle.goal_forms.specs.Places.{are_below, kept, joined, prefixed_last};
 
-use crate::flat_data::{Node, Nodes, Part};
+use crate::flat_data::{FlatPart, FlatData, Part};
 use crate::prefixes::Prefixes;
 use kan_terms::{Memory, Names};
 use sexpr::{Datum, DatumKind, Prefix};
@@ -38,19 +38,19 @@ pub enum Work<'a> {
 }
 
 // Adds a part to the table, and its place to those that were made.
-fn put(at: u32, part: Part, table: &mut Nodes, places: &mut Vec<u32>) -> Result<(), Memory>
+fn put(at: u32, part: Part, table: &mut FlatData, places: &mut Vec<u32>) -> Result<(), Memory>
     requires there { is_there (length (sites table.old)) part ≡ true }
     ensures table { OnOk result (sites table.new ≡ sites table.old ++ part_site (sites table.old) at part ∷ []) }
     ensures places { OnOk result (places.new.items ≡ places.old.items ++ length (sites table.old) ∷ []) }
 {
-    let place = table.push(Node { at, part })?;
+    let place = table.push(FlatPart { at, part })?;
     places.push(place)?;
     Ok(())
 }
 
 // The part that a symbol is; one without a name is nothing.
 fn symbol_part(names: &Names, symbol: u32) -> Part
-    ensures part { (ds : List Sited) → (at : ℕ) → part_site ds at result ≡ atom_with_site names.now at (symbol_atom (name_of names.now symbol)) }
+    ensures part { (ds : List Sited) → (at : ℕ) → part_site ds at result ≡ atom_with_site names.now at (symbol_atom (name_of names.now.symbols symbol)) }
     ensures there { (n : ℕ) → is_there n result ≡ true }
 {
     match names.name(symbol) {
@@ -59,8 +59,19 @@ fn symbol_part(names: &Names, symbol: u32) -> Part
     }
 }
 
+// The part that a string is; one without a text is nothing.
+fn text_part(names: &Names, text: u32) -> Part
+    ensures part { (ds : List Sited) → (at : ℕ) → part_site ds at result ≡ atom_with_site names.now at (string_atom (name_of names.now.strings text)) }
+    ensures there { (n : ℕ) → is_there n result ≡ true }
+{
+    match names.string(text) {
+        Some(_) => Part::Text(text),
+        None => Part::Nil,
+    }
+}
+
 // Makes the pair of the two parts that were made last.
-fn join(at: u32, table: &mut Nodes, places: &mut Vec<u32>) -> Result<(), Memory>
+fn join(at: u32, table: &mut FlatData, places: &mut Vec<u32>) -> Result<(), Memory>
     requires { are_below (length (sites table.old)) places.old.items ≡ true }
     ensures made { OnOk result (kept (sites table.new) places.new.items ≡ joined at (kept (sites table.old) places.old.items)) }
     ensures below { OnOk result (are_below (length (sites table.new)) places.new.items ≡ true) }
@@ -77,7 +88,7 @@ fn join(at: u32, table: &mut Nodes, places: &mut Vec<u32>) -> Result<(), Memory>
 }
 
 // Makes the list of a symbol and the part that was made last.
-fn prefix(at: u32, symbol: u32, table: &mut Nodes, places: &mut Vec<u32>) -> Result<(), Memory>
+fn prefix(at: u32, symbol: u32, table: &mut FlatData, places: &mut Vec<u32>) -> Result<(), Memory>
     requires { are_below (length (sites table.old)) places.old.items ≡ true }
     ensures made { OnOk result (kept (sites table.new) places.new.items ≡ prefixed_last at symbol (kept (sites table.old) places.old.items)) }
     ensures below { OnOk result (are_below (length (sites table.new)) places.new.items ≡ true) }
@@ -95,7 +106,7 @@ fn prefix(at: u32, symbol: u32, table: &mut Nodes, places: &mut Vec<u32>) -> Res
 }
 
 // Adds a part to the table as the one made last.
-fn make(at: u32, part: Part, table: &mut Nodes, places: &mut Vec<u32>) -> Result<(), Memory>
+fn make(at: u32, part: Part, table: &mut FlatData, places: &mut Vec<u32>) -> Result<(), Memory>
     requires there { is_there (length (sites table.old)) part ≡ true }
     requires below { are_below (length (sites table.old)) places.old.items ≡ true }
     ensures made { OnOk result (kept (sites table.new) places.new.items ≡ part_site (sites table.old) at part ∷ kept (sites table.old) places.old.items) }
@@ -132,7 +143,7 @@ fn turn_datum<'a>(
     datum: &'a Datum,
     names: &Names,
     prefixes: &Prefixes,
-    table: &mut Nodes,
+    table: &mut FlatData,
     places: &mut Vec<u32>,
     works: &mut Vec<Work<'a>>,
 ) -> Result<(), Memory>
@@ -146,6 +157,7 @@ fn turn_datum<'a>(
 {
     match &datum.kind {
         DatumKind::Symbol(symbol) => make(datum.at, symbol_part(names, *symbol), table, places)?,
+        DatumKind::Text(text) => make(datum.at, text_part(names, *text), table, places)?,
         DatumKind::Number(number) => make(datum.at, Part::Number(*number), table, places)?,
         DatumKind::Truth(truth) => make(datum.at, Part::Truth(*truth), table, places)?,
         DatumKind::List(items, last) => works.push(Work::Rest(
@@ -167,7 +179,7 @@ fn turn_rest<'a>(
     last: Option<&'a Datum>,
     at: u32,
     names: &Names,
-    table: &mut Nodes,
+    table: &mut FlatData,
     places: &mut Vec<u32>,
     works: &mut Vec<Work<'a>>,
 ) -> Result<(), Memory>
@@ -196,7 +208,7 @@ fn turn_work<'a>(
     work: Work<'a>,
     names: &Names,
     prefixes: &Prefixes,
-    table: &mut Nodes,
+    table: &mut FlatData,
     places: &mut Vec<u32>,
     works: &mut Vec<Work<'a>>,
 ) -> Result<(), Memory>
@@ -223,7 +235,7 @@ fn turn_one(
     datum: &Datum,
     names: &Names,
     prefixes: &Prefixes,
-    table: &mut Nodes,
+    table: &mut FlatData,
     places: &mut Vec<u32>,
 ) -> Result<(), Memory>
     requires numbered { AreNumbered names.now prefixes.now }
@@ -247,7 +259,7 @@ fn turn(
     forms: &[Datum],
     names: &Names,
     prefixes: &Prefixes,
-    table: &mut Nodes,
+    table: &mut FlatData,
     places: &mut Vec<u32>,
 ) -> Result<(), Memory>
     requires numbered { AreNumbered names.now prefixes.now }
@@ -270,7 +282,7 @@ pub fn turn_both(
     text: &[Datum],
     names: &Names,
     prefixes: &Prefixes,
-    table: &mut Nodes,
+    table: &mut FlatData,
 ) -> Result<Vec<u32>, Memory>
     requires { AreNumbered names.now prefixes.now }
     ensures made { IfOk result (λ places. map (site_at (sites table.new)) places.items ≡ map (meaning names.now) library.now ++ map (meaning names.now) text.now) }

@@ -7,7 +7,7 @@ ghost use Rattle.goal_forms.specs.FormSteps.{step_top, limit_at, run_with};
 ghost use Rattle.goal_forms.specs.Parts.{sites, site_at};
 ghost use Rattle.goal_forms.specs.DefinedRelations.{related_maybe};
 
-use crate::flat_data::{Nodes, Part};
+use crate::flat_data::{FlatData, Part};
 use crate::relations::Defined;
 use crate::shape::{count, head_word, is_proper, pair_parts};
 use crate::word::{Word, word_of_symbol};
@@ -29,15 +29,15 @@ pub enum Form {
 }
 
 /// What the top form at a place is.
-pub fn parse_form(nodes: &Nodes, names: &Names, place: u32) -> Form
-    ensures { step_top (sites nodes.now) names.now result ≡ form names.now (site_at (sites nodes.now) place) }
+pub fn parse_form(flat: &FlatData, names: &Names, place: u32) -> Form
+    ensures { step_top (sites flat.now) names.now result ≡ form names.now (site_at (sites flat.now) place) }
 {
-    let node = nodes.read(place);
+    let node = flat.read(place);
     match node.part {
-        Part::Pair(head, parts) => match head_word(nodes, names, head) {
-            Word::Defrel => parse_relation(nodes, names, node.at, parts),
-            Word::Run => parse_limited(nodes, names, node.at, parts),
-            Word::RunAll => parse_run(nodes, names, node.at, None, parts),
+        Part::Pair(head, parts) => match head_word(flat, names, head) {
+            Word::Defrel => parse_relation(flat, names, node.at, parts),
+            Word::Run => parse_limited(flat, names, node.at, parts),
+            Word::RunAll => parse_run(flat, names, node.at, None, parts),
             _ => Form::Unknown(node.at),
         },
         _ => Form::Unknown(node.at),
@@ -45,43 +45,43 @@ pub fn parse_form(nodes: &Nodes, names: &Names, place: u32) -> Form
 }
 
 // The relation with these parts.
-fn parse_relation(nodes: &Nodes, names: &Names, at: u32, parts: u32) -> Form
-    ensures { step_top (sites nodes.now) names.now result ≡ relation_form names.now at (site_at (sites nodes.now) parts) }
+fn parse_relation(flat: &FlatData, names: &Names, at: u32, parts: u32) -> Form
+    ensures { step_top (sites flat.now) names.now result ≡ relation_form names.now at (site_at (sites flat.now) parts) }
 {
-    match pair_parts(nodes, parts) {
-        Some((head, goals)) if is_proper(nodes, goals) => Form::Relation(head, goals),
+    match pair_parts(flat, parts) {
+        Some((head, goals)) if is_proper(flat, goals) => Form::Relation(head, goals),
         _ => Form::Misshapen(at),
     }
 }
 
 // The run with these parts, of which the first is its limit.
-fn parse_limited(nodes: &Nodes, names: &Names, at: u32, parts: u32) -> Form
-    ensures { step_top (sites nodes.now) names.now result ≡ limited_form names.now at (site_at (sites nodes.now) parts) }
+fn parse_limited(flat: &FlatData, names: &Names, at: u32, parts: u32) -> Form
+    ensures { step_top (sites flat.now) names.now result ≡ limited_form names.now at (site_at (sites flat.now) parts) }
 {
-    match pair_parts(nodes, parts) {
-        Some((limit, parts)) => parse_run(nodes, names, at, Some(limit), parts),
+    match pair_parts(flat, parts) {
+        Some((limit, parts)) => parse_run(flat, names, at, Some(limit), parts),
         None => Form::Misshapen(at),
     }
 }
 
 // The run with these parts behind its limit.
-fn parse_run(nodes: &Nodes, names: &Names, at: u32, limit: Option<u32>, parts: u32) -> Form
-    ensures { step_top (sites nodes.now) names.now result ≡ run_form names.now at (limit_at (sites nodes.now) limit) (site_at (sites nodes.now) parts) }
+fn parse_run(flat: &FlatData, names: &Names, at: u32, limit: Option<u32>, parts: u32) -> Form
+    ensures { step_top (sites flat.now) names.now result ≡ run_form names.now at (limit_at (sites flat.now) limit) (site_at (sites flat.now) parts) }
 {
-    match pair_parts(nodes, parts) {
-        Some((binder, goals)) if is_proper(nodes, goals) => parse_binder(
-            nodes, names, limit, binder, goals,
+    match pair_parts(flat, parts) {
+        Some((binder, goals)) if is_proper(flat, goals) => parse_binder(
+            flat, names, limit, binder, goals,
         ),
         _ => Form::Misshapen(at),
     }
 }
 
 // The run with this limit, this binder and these goals.
-fn parse_binder(nodes: &Nodes, names: &Names, limit: Option<u32>, binder: u32, goals: u32) -> Form
-    ensures { step_top (sites nodes.now) names.now result
-        ≡ run_with names.now (limit_at (sites nodes.now) limit) (site_at (sites nodes.now) binder) (site_at (sites nodes.now) goals) }
+fn parse_binder(flat: &FlatData, names: &Names, limit: Option<u32>, binder: u32, goals: u32) -> Form
+    ensures { step_top (sites flat.now) names.now result
+        ≡ run_with names.now (limit_at (sites flat.now) limit) (site_at (sites flat.now) binder) (site_at (sites flat.now) goals) }
 {
-    let node = nodes.read(binder);
+    let node = flat.read(binder);
     match node.part {
         Part::Name(symbol) => Form::RunOfOne(limit, node.at, symbol, goals),
         _ => Form::RunOfList(limit, binder, goals),
@@ -89,24 +89,24 @@ fn parse_binder(nodes: &Nodes, names: &Names, limit: Option<u32>, binder: u32, g
 }
 
 /// The relation that a top form defines, where it defines one.
-pub fn defined_by(nodes: &Nodes, names: &Names, place: u32) -> Option<Defined>
-    ensures { related_maybe result ≡ definitions_of names.now (site_at (sites nodes.now) place) }
+pub fn defined_by(flat: &FlatData, names: &Names, place: u32) -> Option<Defined>
+    ensures { related_maybe result ≡ definitions_of names.now (site_at (sites flat.now) place) }
 {
-    let (head, parts) = pair_parts(nodes, place)?;
-    let (relation, _) = pair_parts(nodes, parts)?;
-    match head_word(nodes, names, head) {
-        Word::Defrel => definitions_of_head(nodes, names, relation),
+    let (head, parts) = pair_parts(flat, place)?;
+    let (relation, _) = pair_parts(flat, parts)?;
+    match head_word(flat, names, head) {
+        Word::Defrel => definitions_of_head(flat, names, relation),
         _ => None,
     }
 }
 
 // The relation that a head defines, where it defines one.
-fn definitions_of_head(nodes: &Nodes, names: &Names, head: u32) -> Option<Defined>
-    ensures { related_maybe result ≡ definitions_of_head names.now (elements (site_at (sites nodes.now) head)) }
+fn definitions_of_head(flat: &FlatData, names: &Names, head: u32) -> Option<Defined>
+    ensures { related_maybe result ≡ definitions_of_head names.now (elements (site_at (sites flat.now) head)) }
 {
-    let (first, rest) = pair_parts(nodes, head)?;
-    let params = count(nodes, rest)?;
-    let Part::Name(name) = nodes.read(first).part else {
+    let (first, rest) = pair_parts(flat, head)?;
+    let params = count(flat, rest)?;
+    let Part::Name(name) = flat.read(first).part else {
         return None;
     };
     match word_of_symbol(names, name) {

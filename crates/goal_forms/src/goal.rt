@@ -10,7 +10,7 @@ ghost use Rattle.goal_forms.specs.Parts.{sites, site_at};
 ghost use Rattle.goal_forms.specs.TermSteps.{site_size};
 ghost use Rattle.goal_forms.specs.GoalSteps.{step_goal, step_goal_size};
 
-use crate::flat_data::{Nodes, Part};
+use crate::flat_data::{FlatData, Part};
 use crate::shape::{count, first, pair_parts, rest};
 use crate::word::{Word, word_of_symbol};
 use kan_terms::Names;
@@ -24,6 +24,7 @@ pub enum Goal {
     Differ(u32, u32),
     Symbol(u32),
     Number(u32),
+    Text(u32),
     /// A tag and a term.
     Absent(u32, u32),
     /// A binder, and the list of the goals in which it binds.
@@ -49,7 +50,7 @@ fn fits(word: Word, parts: Option<u32>) -> bool
     };
     match word {
         Word::Same | Word::Differ | Word::Absento | Word::ConjTwo | Word::DisjTwo => parts == 2,
-        Word::Symbolo | Word::Numbero => parts == 1,
+        Word::Symbolo | Word::Numbero | Word::Stringo => parts == 1,
         Word::Fresh => parts >= 1,
         Word::Conde | Word::Conj | Word::Disj | Word::Other => true,
         _ => false,
@@ -69,29 +70,30 @@ fn parse_atom(at: u32, word: Word) -> Goal
 }
 
 // The goal of a fresh with these parts.
-fn parse_fresh(nodes: &Nodes, names: &Names, at: u32, parts: u32) -> Goal
-    ensures form { step_goal (sites nodes.now) names.now result ≡ fresh_form names.now at (site_at (sites nodes.now) parts) }
-    ensures size { step_goal_size (sites nodes.now) result ≤ site_size (site_at (sites nodes.now) parts) }
+fn parse_fresh(flat: &FlatData, names: &Names, at: u32, parts: u32) -> Goal
+    ensures form { step_goal (sites flat.now) names.now result ≡ fresh_form names.now at (site_at (sites flat.now) parts) }
+    ensures size { step_goal_size (sites flat.now) result ≤ site_size (site_at (sites flat.now) parts) }
 {
-    match pair_parts(nodes, parts) {
+    match pair_parts(flat, parts) {
         Some((binder, goals)) => Goal::Fresh(binder, goals),
         None => Goal::Misshapen(at),
     }
 }
 
 // The goal that a head, which is this name of the language, makes of its parts.
-fn parse_word(nodes: &Nodes, names: &Names, at: u32, head: u32, symbol: u32, parts: u32) -> Goal
-    requires { is_count (parts_of (word names.now symbol)) (count (site_at (sites nodes.now) parts)) ≡ true }
-    ensures form { step_goal (sites nodes.now) names.now result ≡ goal_form names.now (pair at (name head symbol) (site_at (sites nodes.now) parts)) }
-    ensures size { step_goal_size (sites nodes.now) result ≤ site_size (site_at (sites nodes.now) parts) }
+fn parse_word(flat: &FlatData, names: &Names, at: u32, head: u32, symbol: u32, parts: u32) -> Goal
+    requires { is_count (parts_of (word names.now symbol)) (count (site_at (sites flat.now) parts)) ≡ true }
+    ensures form { step_goal (sites flat.now) names.now result ≡ goal_form names.now (pair at (name head symbol) (site_at (sites flat.now) parts)) }
+    ensures size { step_goal_size (sites flat.now) result ≤ site_size (site_at (sites flat.now) parts) }
 {
     match word_of_symbol(names, symbol) {
-        Word::Same => Goal::Same(first(nodes, parts), first(nodes, rest(nodes, parts))),
-        Word::Differ => Goal::Differ(first(nodes, parts), first(nodes, rest(nodes, parts))),
-        Word::Symbolo => Goal::Symbol(first(nodes, parts)),
-        Word::Numbero => Goal::Number(first(nodes, parts)),
-        Word::Absento => Goal::Absent(first(nodes, parts), first(nodes, rest(nodes, parts))),
-        Word::Fresh => parse_fresh(nodes, names, at, parts),
+        Word::Same => Goal::Same(first(flat, parts), first(flat, rest(flat, parts))),
+        Word::Differ => Goal::Differ(first(flat, parts), first(flat, rest(flat, parts))),
+        Word::Symbolo => Goal::Symbol(first(flat, parts)),
+        Word::Numbero => Goal::Number(first(flat, parts)),
+        Word::Stringo => Goal::Text(first(flat, parts)),
+        Word::Absento => Goal::Absent(first(flat, parts), first(flat, rest(flat, parts))),
+        Word::Fresh => parse_fresh(flat, names, at, parts),
         Word::Conde => Goal::Clauses(parts),
         Word::Conj | Word::ConjTwo => Goal::AllOf(parts),
         Word::Disj | Word::DisjTwo => Goal::OneOf(parts),
@@ -101,38 +103,38 @@ fn parse_word(nodes: &Nodes, names: &Names, at: u32, head: u32, symbol: u32, par
 }
 
 // The goal of a list with a symbol for its head.
-fn parse_form(nodes: &Nodes, names: &Names, at: u32, head: u32, symbol: u32, parts: u32) -> Goal
-    ensures form { step_goal (sites nodes.now) names.now result ≡ goal_form names.now (pair at (name head symbol) (site_at (sites nodes.now) parts)) }
-    ensures size { step_goal_size (sites nodes.now) result ≤ site_size (site_at (sites nodes.now) parts) }
+fn parse_form(flat: &FlatData, names: &Names, at: u32, head: u32, symbol: u32, parts: u32) -> Goal
+    ensures form { step_goal (sites flat.now) names.now result ≡ goal_form names.now (pair at (name head symbol) (site_at (sites flat.now) parts)) }
+    ensures size { step_goal_size (sites flat.now) result ≤ site_size (site_at (sites flat.now) parts) }
 {
-    if fits(word_of_symbol(names, symbol), count(nodes, parts)) {
-        parse_word(nodes, names, at, head, symbol, parts)
+    if fits(word_of_symbol(names, symbol), count(flat, parts)) {
+        parse_word(flat, names, at, head, symbol, parts)
     } else {
         Goal::Misshapen(at)
     }
 }
 
 /// What the goal at a place is.
-pub fn parse_goal(nodes: &Nodes, names: &Names, place: u32) -> Goal
-    ensures form { step_goal (sites nodes.now) names.now result ≡ goal_form names.now (site_at (sites nodes.now) place) }
-    ensures size { step_goal_size (sites nodes.now) result < site_size (site_at (sites nodes.now) place) }
+pub fn parse_goal(flat: &FlatData, names: &Names, place: u32) -> Goal
+    ensures form { step_goal (sites flat.now) names.now result ≡ goal_form names.now (site_at (sites flat.now) place) }
+    ensures size { step_goal_size (sites flat.now) result < site_size (site_at (sites flat.now) place) }
 {
-    let node = nodes.read(place);
+    let node = flat.read(place);
     match node.part {
         Part::Name(symbol) => parse_atom(node.at, word_of_symbol(names, symbol)),
-        Part::Pair(head, parts) => parse_list(nodes, names, node.at, head, parts),
+        Part::Pair(head, parts) => parse_list(flat, names, node.at, head, parts),
         _ => Goal::Misshapen(node.at),
     }
 }
 
 // The goal of a list by its head and its parts.
-fn parse_list(nodes: &Nodes, names: &Names, at: u32, head: u32, parts: u32) -> Goal
-    ensures form { step_goal (sites nodes.now) names.now result ≡ goal_form names.now (pair at (site_at (sites nodes.now) head) (site_at (sites nodes.now) parts)) }
-    ensures size { step_goal_size (sites nodes.now) result ≤ site_size (site_at (sites nodes.now) parts) }
+fn parse_list(flat: &FlatData, names: &Names, at: u32, head: u32, parts: u32) -> Goal
+    ensures form { step_goal (sites flat.now) names.now result ≡ goal_form names.now (pair at (site_at (sites flat.now) head) (site_at (sites flat.now) parts)) }
+    ensures size { step_goal_size (sites flat.now) result ≤ site_size (site_at (sites flat.now) parts) }
 {
-    let node = nodes.read(head);
+    let node = flat.read(head);
     match node.part {
-        Part::Name(symbol) => parse_form(nodes, names, at, node.at, symbol, parts),
+        Part::Name(symbol) => parse_form(flat, names, at, node.at, symbol, parts),
         _ => Goal::Misshapen(at),
     }
 }

@@ -18,9 +18,9 @@ mod term;
 mod word;
 
 pub use binder::{add_name, binder_names, bound_names, enter, may_bind, quoted_symbol};
-pub use context::Text;
+pub use context::Context;
 pub use definitions::{count_defined, define};
-pub use flat_data::{Node, Nodes, Part};
+pub use flat_data::{FlatPart, FlatData, Part};
 pub use flatten::turn_both;
 pub use form::{Form, defined_by, parse_form};
 pub use goal::{Goal, parse_goal};

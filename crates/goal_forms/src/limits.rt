@@ -4,13 +4,13 @@ ghost use Rattle.std.specs.Prelude.{◌≡◌};
 ghost use Rattle.goal_forms.specs.FormSteps.{allowed_limit, small_number};
 ghost use Rattle.goal_forms.specs.Parts.{sites, site_at};
 
-use crate::flat_data::{Nodes, Part};
+use crate::flat_data::{FlatData, Part};
 
 /// The limit of a run: a number or none, where it is allowed.
-pub fn limit(nodes: &Nodes, place: u32) -> Option<Option<u64>>
-    ensures { result ≡ allowed_limit (site_at (sites nodes.now) place) }
+pub fn limit(flat: &FlatData, place: u32) -> Option<Option<u64>>
+    ensures { result ≡ allowed_limit (site_at (sites flat.now) place) }
 {
-    match nodes.read(place).part {
+    match flat.read(place).part {
         Part::Truth(false) => Some(None),
         Part::Number(number) => Some(Some(small_number(number)?)),
         _ => None,

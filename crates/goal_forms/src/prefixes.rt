@@ -1,8 +1,7 @@
 //! The symbols that prefixes stand for.
 
 ghost use Rattle.std.specs.Prelude.{◌≡◌, ◌+◌, ◌<◌, ◌^◌, length, IfOk, OnOk};
-ghost use Rattle.sexpr.specs.Reads.{Extends};
-ghost use Rattle.goal_forms.specs.PrefixSymbols.{NamesPrefixes};
+ghost use Rattle.kan_grammar.specs.Texts.TextNames.{Extends, with_prefixes};
 ghost use Rattle.goal_forms.specs.Flattening.{AreNumbered};
 
 use kan_terms::{Memory, Names};
@@ -17,9 +16,9 @@ pub struct Prefixes {
 
 /// The numbers of the symbols that prefixes stand for; those that have none get one.
 pub fn number_prefixes(names: &mut Names) -> Result<Prefixes, Memory>
-    requires { length names.old + 3 < 2 ^ 32 }
+    requires { length names.old.symbols + 3 < 2 ^ 32 }
     ensures numbered { IfOk result (λ prefixes. AreNumbered names.new prefixes) }
-    ensures named { OnOk result (NamesPrefixes names.new) }
+    ensures table { OnOk result (names.new ≡ with_prefixes names.old) }
     ensures names { Extends 3 names.old names.new }
 {
     let quote = names.intern("quote")?;

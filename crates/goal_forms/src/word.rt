@@ -18,6 +18,7 @@ pub enum Word {
     Differ,
     Symbolo,
     Numbero,
+    Stringo,
     Absento,
     Fresh,
     Conde,
@@ -64,6 +65,8 @@ fn constraint_word(text: &str) -> Word
         Word::Symbolo
     } else if text == "numbero" {
         Word::Numbero
+    } else if text == "stringo" {
+        Word::Stringo
     } else if text == "absento" {
         Word::Absento
     } else {

@@ -18,10 +18,10 @@ ghost use Rattle.goal_forms.specs.Shapes.{parts};
 ghost use Rattle.goal_forms.specs.RelationTables.{relations};
 ghost use Rattle.goal_forms.specs.Places.{are_below};
 
-use goal_forms::{Text, binder_names, enter};
+use goal_forms::{Context, binder_names, enter};
 use crate::build_node::build_node;
 use goal_forms::{Goal, parse_goal};
-use crate::join_goal::{Row, add_slots, join_two, make};
+use crate::join_goal::{Row, add_slots, join_two, make, suspend};
 use goal_forms::{is_proper, pair_parts};
 use kan_model::{Draft, GoalNode};
 use kan_terms::Memory;
@@ -39,13 +39,15 @@ pub(crate) enum Work {
     Join(Row),
     /// The goal made last, with so many slots of its own.
     Fresh(u32),
+    /// The goal made last, which suspends where the dialect says so.
+    Suspend,
     /// That a scope is left: only so many slots keep their names.
     Leave(usize),
 }
 
 // Builds a goal that has no goals in it.
 fn build_own(
-    text: &Text,
+    context: &Context,
     scope: &[Option<u32>],
     goal: Goal,
     draft: &mut Draft,
@@ -54,13 +56,13 @@ fn build_own(
     requires room { HasRoom (tables draft.old) }
     requires below { are_below (length (tables draft.old).goals) places.old.items ≡ true }
     ensures made { OnOk result (built (tables draft.new) places.new.items
-        ≡ with_maybe (own_goal (relations text.now.relations.now) text.now.names.now (sites text.now.nodes.now) scope.now goal) (built (tables draft.old) places.old.items)) }
+        ≡ with_maybe (own_goal context.now.dialect (relations context.now.relations.now) context.now.names.now (sites context.now.flat.now) scope.now goal) (built (tables draft.old) places.old.items)) }
     ensures below { OnOk result (are_below (length (tables draft.new).goals) places.new.items ≡ true) }
     ensures grows { OnOk result (Grows (tables draft.old) (tables draft.new)) }
     ensures room { OnOk result (HasRoom (tables draft.new)) }
-    ensures low { OnOk result (KeepsLow (sites text.now.nodes.now) (tables draft.old) (tables draft.new)) }
+    ensures low { OnOk result (KeepsLow (sites context.now.flat.now) (tables draft.old) (tables draft.new)) }
 {
-    if let Some(node) = build_node(text, scope, goal, draft)? {
+    if let Some(node) = build_node(context, scope, goal, draft)? {
         make(node, draft, places)?;
     }
     Ok(())
@@ -68,20 +70,21 @@ fn build_own(
 
 // Puts the names of a binder into scope, and the goals in which it binds on the stack.
 fn enter_fresh(
-    text: &Text,
+    context: &Context,
     binder: u32,
     goals: u32,
     scope: &mut Vec<Option<u32>>,
     works: &mut Vec<Work>,
 ) -> Result<(), Memory>
-    ensures scope { OnOk result (scope.new.items ≡ within scope.old.items (binder_of text.now.names.now (site_at (sites text.now.nodes.now) binder)).value) }
+    ensures scope { OnOk result (scope.new.items ≡ within scope.old.items (binder_of context.now.names.now (site_at (sites context.now.flat.now) binder)).value) }
     ensures works { OnOk result (works.new.items ≡ works.old.items
-        ++ Work.Fresh (length (binder_of text.now.names.now (site_at (sites text.now.nodes.now) binder)).value) ∷ Work.Leave (length scope.old.items) ∷ Work.Row Row.All goals ∷ []) }
+        ++ Work.Suspend ∷ Work.Fresh (length (binder_of context.now.names.now (site_at (sites context.now.flat.now) binder)).value) ∷ Work.Leave (length scope.old.items) ∷ Work.Row Row.All goals ∷ []) }
 {
-    let bound = binder_names(text.alloc, text.nodes, binder)?;
+    let bound = binder_names(context.alloc, context.flat, binder)?;
     let Ok(count) = u32::try_from(bound.len()) else {
         return Err(Memory);
     };
+    works.push(Work::Suspend)?;
     works.push(Work::Fresh(count))?;
     works.push(Work::Leave(scope.len()))?;
     works.push(Work::Row(Row::All, goals))?;
@@ -91,19 +94,22 @@ fn enter_fresh(
 
 // Puts the goals in a goal on the stack, in their scope.
 fn wait_for(
-    text: &Text,
+    context: &Context,
     goal: Goal,
     scope: &mut Vec<Option<u32>>,
     works: &mut Vec<Work>,
 ) -> Result<(), Memory>
-    ensures scope { OnOk result (scope.new.items ≡ inner_names text.now.names.now (sites text.now.nodes.now) scope.old.items goal) }
-    ensures works { OnOk result (works.new.items ≡ works.old.items ++ inner_works text.now.names.now (sites text.now.nodes.now) scope.old.items goal) }
+    ensures scope { OnOk result (scope.new.items ≡ inner_names context.now.names.now (sites context.now.flat.now) scope.old.items goal) }
+    ensures works { OnOk result (works.new.items ≡ works.old.items ++ inner_works context.now.names.now (sites context.now.flat.now) scope.old.items goal) }
 {
     match goal {
-        Goal::Fresh(binder, goals) => enter_fresh(text, binder, goals, scope, works)?,
+        Goal::Fresh(binder, goals) => enter_fresh(context, binder, goals, scope, works)?,
         Goal::AllOf(goals) => works.push(Work::Row(Row::All, goals))?,
         Goal::OneOf(goals) => works.push(Work::Row(Row::One, goals))?,
-        Goal::Clauses(clauses) => works.push(Work::Row(Row::Clauses, clauses))?,
+        Goal::Clauses(clauses) => {
+            works.push(Work::Suspend)?;
+            works.push(Work::Row(Row::Clauses, clauses))?;
+        }
         _ => {}
     }
     Ok(())
@@ -111,7 +117,7 @@ fn wait_for(
 
 // Builds a goal but for those in it, which are put on the stack.
 fn build_goal(
-    text: &Text,
+    context: &Context,
     place: u32,
     scope: &mut Vec<Option<u32>>,
     draft: &mut Draft,
@@ -121,25 +127,25 @@ fn build_goal(
     requires room { HasRoom (tables draft.old) }
     requires below { are_below (length (tables draft.old).goals) places.old.items ≡ true }
     ensures made { OnOk result (
-        finish (relations text.now.relations.now) text.now.names.now (sites text.now.nodes.now) scope.new.items (reverse works.new.items) (built (tables draft.new) places.new.items)
-        ≡ finish (relations text.now.relations.now) text.now.names.now (sites text.now.nodes.now) scope.old.items (Work.Goal place ∷ reverse works.old.items) (built (tables draft.old) places.old.items)) }
-    ensures falls { OnOk result (works_size (sites text.now.nodes.now) works.new.items < work_size (sites text.now.nodes.now) (Work.Goal place) + works_size (sites text.now.nodes.now) works.old.items) }
+        finish context.now.dialect (relations context.now.relations.now) context.now.names.now (sites context.now.flat.now) scope.new.items (reverse works.new.items) (built (tables draft.new) places.new.items)
+        ≡ finish context.now.dialect (relations context.now.relations.now) context.now.names.now (sites context.now.flat.now) scope.old.items (Work.Goal place ∷ reverse works.old.items) (built (tables draft.old) places.old.items)) }
+    ensures falls { OnOk result (works_size (sites context.now.flat.now) works.new.items < work_size (sites context.now.flat.now) (Work.Goal place) + works_size (sites context.now.flat.now) works.old.items) }
     ensures below { OnOk result (are_below (length (tables draft.new).goals) places.new.items ≡ true) }
     ensures grows { OnOk result (Grows (tables draft.old) (tables draft.new)) }
     ensures room { OnOk result (HasRoom (tables draft.new)) }
-    ensures low { OnOk result (KeepsLow (sites text.now.nodes.now) (tables draft.old) (tables draft.new)) }
+    ensures low { OnOk result (KeepsLow (sites context.now.flat.now) (tables draft.old) (tables draft.new)) }
 {
-    let goal = parse_goal(text.nodes, text.names, place);
-    build_own(text, scope, goal, draft, places)?;
-    wait_for(text, goal, scope, works)?;
+    let goal = parse_goal(context.flat, context.names, place);
+    build_own(context, scope, goal, draft, places)?;
+    wait_for(context, goal, scope, works)?;
     Ok(())
 }
 
 // Puts the elements of a row behind its first one on the stack, where there are any, and that they are joined to it.
-fn wait_for_others(text: &Text, row: Row, rest: u32, works: &mut Vec<Work>) -> Result<(), Memory>
-    ensures { OnOk result (works.new.items ≡ works.old.items ++ other_works row rest (parts (site_at (sites text.now.nodes.now) rest))) }
+fn wait_for_others(context: &Context, row: Row, rest: u32, works: &mut Vec<Work>) -> Result<(), Memory>
+    ensures { OnOk result (works.new.items ≡ works.old.items ++ other_works row rest (parts (site_at (sites context.now.flat.now) rest))) }
 {
-    if pair_parts(text.nodes, rest).is_some() {
+    if pair_parts(context.flat, rest).is_some() {
         works.push(Work::Join(row))?;
         works.push(Work::Row(row, rest))?;
     }
@@ -159,7 +165,7 @@ fn first_work(row: Row, place: u32) -> Work
 
 // Puts the first element of a row and the others on the stack; a row that is empty is built.
 fn build_row(
-    text: &Text,
+    context: &Context,
     row: Row,
     place: u32,
     draft: &mut Draft,
@@ -169,16 +175,16 @@ fn build_row(
     requires room { HasRoom (tables draft.old) }
     requires below { are_below (length (tables draft.old).goals) places.old.items ≡ true }
     ensures made { OnOk result ((ns : Names) →
-        finish (relations text.now.relations.now) text.now.names.now (sites text.now.nodes.now) ns (reverse works.new.items) (built (tables draft.new) places.new.items)
-        ≡ finish (relations text.now.relations.now) text.now.names.now (sites text.now.nodes.now) ns (Work.Row row place ∷ reverse works.old.items) (built (tables draft.old) places.old.items)) }
-    ensures falls { OnOk result (works_size (sites text.now.nodes.now) works.new.items < work_size (sites text.now.nodes.now) (Work.Row row place) + works_size (sites text.now.nodes.now) works.old.items) }
+        finish context.now.dialect (relations context.now.relations.now) context.now.names.now (sites context.now.flat.now) ns (reverse works.new.items) (built (tables draft.new) places.new.items)
+        ≡ finish context.now.dialect (relations context.now.relations.now) context.now.names.now (sites context.now.flat.now) ns (Work.Row row place ∷ reverse works.old.items) (built (tables draft.old) places.old.items)) }
+    ensures falls { OnOk result (works_size (sites context.now.flat.now) works.new.items < work_size (sites context.now.flat.now) (Work.Row row place) + works_size (sites context.now.flat.now) works.old.items) }
     ensures below { OnOk result (are_below (length (tables draft.new).goals) places.new.items ≡ true) }
     ensures grows { OnOk result (Grows (tables draft.old) (tables draft.new)) }
     ensures room { OnOk result (HasRoom (tables draft.new)) }
     ensures terms { OnOk result ((tables draft.new).terms ≡ (tables draft.old).terms) }
 {
-    if let Some((first, rest)) = pair_parts(text.nodes, place) {
-        wait_for_others(text, row, rest, works)?;
+    if let Some((first, rest)) = pair_parts(context.flat, place) {
+        wait_for_others(context, row, rest, works)?;
         works.push(first_work(row, first))?;
     } else {
         make(row.empty(), draft, places)?;
@@ -188,7 +194,7 @@ fn build_row(
 
 // Puts the goals of a clause on the stack; one that is no list fails.
 fn build_clause(
-    text: &Text,
+    context: &Context,
     clause: u32,
     draft: &mut Draft,
     places: &mut Vec<u32>,
@@ -197,15 +203,15 @@ fn build_clause(
     requires room { HasRoom (tables draft.old) }
     requires below { are_below (length (tables draft.old).goals) places.old.items ≡ true }
     ensures made { OnOk result ((ns : Names) →
-        finish (relations text.now.relations.now) text.now.names.now (sites text.now.nodes.now) ns (reverse works.new.items) (built (tables draft.new) places.new.items)
-        ≡ finish (relations text.now.relations.now) text.now.names.now (sites text.now.nodes.now) ns (Work.Clause clause ∷ reverse works.old.items) (built (tables draft.old) places.old.items)) }
-    ensures falls { OnOk result (works_size (sites text.now.nodes.now) works.new.items < work_size (sites text.now.nodes.now) (Work.Clause clause) + works_size (sites text.now.nodes.now) works.old.items) }
+        finish context.now.dialect (relations context.now.relations.now) context.now.names.now (sites context.now.flat.now) ns (reverse works.new.items) (built (tables draft.new) places.new.items)
+        ≡ finish context.now.dialect (relations context.now.relations.now) context.now.names.now (sites context.now.flat.now) ns (Work.Clause clause ∷ reverse works.old.items) (built (tables draft.old) places.old.items)) }
+    ensures falls { OnOk result (works_size (sites context.now.flat.now) works.new.items < work_size (sites context.now.flat.now) (Work.Clause clause) + works_size (sites context.now.flat.now) works.old.items) }
     ensures below { OnOk result (are_below (length (tables draft.new).goals) places.new.items ≡ true) }
     ensures grows { OnOk result (Grows (tables draft.old) (tables draft.new)) }
     ensures room { OnOk result (HasRoom (tables draft.new)) }
     ensures terms { OnOk result ((tables draft.new).terms ≡ (tables draft.old).terms) }
 {
-    if is_proper(text.nodes, clause) {
+    if is_proper(context.flat, clause) {
         works.push(Work::Row(Row::All, clause))?;
     } else {
         make(GoalNode::Fail, draft, places)?;
@@ -215,7 +221,7 @@ fn build_clause(
 
 // Does a piece of work, but for what it leaves on the stack.
 fn build_next(
-    text: &Text,
+    context: &Context,
     work: Work,
     scope: &mut Vec<Option<u32>>,
     draft: &mut Draft,
@@ -225,20 +231,21 @@ fn build_next(
     requires room { HasRoom (tables draft.old) }
     requires below { are_below (length (tables draft.old).goals) places.old.items ≡ true }
     ensures made { OnOk result (
-        finish (relations text.now.relations.now) text.now.names.now (sites text.now.nodes.now) scope.new.items (reverse works.new.items) (built (tables draft.new) places.new.items)
-        ≡ finish (relations text.now.relations.now) text.now.names.now (sites text.now.nodes.now) scope.old.items (work ∷ reverse works.old.items) (built (tables draft.old) places.old.items)) }
-    ensures falls { OnOk result (works_size (sites text.now.nodes.now) works.new.items < work_size (sites text.now.nodes.now) work + works_size (sites text.now.nodes.now) works.old.items) }
+        finish context.now.dialect (relations context.now.relations.now) context.now.names.now (sites context.now.flat.now) scope.new.items (reverse works.new.items) (built (tables draft.new) places.new.items)
+        ≡ finish context.now.dialect (relations context.now.relations.now) context.now.names.now (sites context.now.flat.now) scope.old.items (work ∷ reverse works.old.items) (built (tables draft.old) places.old.items)) }
+    ensures falls { OnOk result (works_size (sites context.now.flat.now) works.new.items < work_size (sites context.now.flat.now) work + works_size (sites context.now.flat.now) works.old.items) }
     ensures below { OnOk result (are_below (length (tables draft.new).goals) places.new.items ≡ true) }
     ensures grows { OnOk result (Grows (tables draft.old) (tables draft.new)) }
     ensures room { OnOk result (HasRoom (tables draft.new)) }
-    ensures low { OnOk result (KeepsLow (sites text.now.nodes.now) (tables draft.old) (tables draft.new)) }
+    ensures low { OnOk result (KeepsLow (sites context.now.flat.now) (tables draft.old) (tables draft.new)) }
 {
     match work {
-        Work::Goal(place) => build_goal(text, place, scope, draft, places, works)?,
-        Work::Clause(place) => build_clause(text, place, draft, places, works)?,
-        Work::Row(row, place) => build_row(text, row, place, draft, places, works)?,
+        Work::Goal(place) => build_goal(context, place, scope, draft, places, works)?,
+        Work::Clause(place) => build_clause(context, place, draft, places, works)?,
+        Work::Row(row, place) => build_row(context, row, place, draft, places, works)?,
         Work::Join(row) => join_two(row, draft, places)?,
         Work::Fresh(count) => add_slots(count, draft, places)?,
+        Work::Suspend => suspend(context.dialect, draft, places)?,
         Work::Leave(slots) => scope.truncate(slots),
     }
     Ok(())
@@ -246,26 +253,26 @@ fn build_next(
 
 /// Builds the goals of a list, which hold together, where these names are in scope, and gives the place of their goal.
 pub(crate) fn build_goals(
-    text: &Text,
+    context: &Context,
     place: u32,
     mut scope: Vec<Option<u32>>,
     draft: &mut Draft,
 ) -> Result<u32, Memory>
     requires room { HasRoom (tables draft.old) }
-    ensures made { IfOk result (λ at. HasGoal (tables draft.new) at (conjunction (goals_in (relations text.now.relations.now) scope.items (goal_forms text.now.names.now (site_at (sites text.now.nodes.now) place))))) }
+    ensures made { IfOk result (λ at. HasGoal (tables draft.new) at (conjunction (goals_in context.now.dialect (relations context.now.relations.now) scope.items (goal_forms context.now.names.now (site_at (sites context.now.flat.now) place))))) }
     ensures grows { OnOk result (Grows (tables draft.old) (tables draft.new)) }
     ensures room { OnOk result (HasRoom (tables draft.new)) }
-    ensures low { OnOk result (KeepsLow (sites text.now.nodes.now) (tables draft.old) (tables draft.new)) }
+    ensures low { OnOk result (KeepsLow (sites context.now.flat.now) (tables draft.old) (tables draft.new)) }
     ensures equational { OnOk result (are_equational_entries (tables draft.new).goals ≡ (are_equational_entries (tables draft.old).goals
-        && is_equational (conjunction (goals_in (relations text.now.relations.now) scope.items (goal_forms text.now.names.now (site_at (sites text.now.nodes.now) place)))))) }
+        && is_equational (conjunction (goals_in context.now.dialect (relations context.now.relations.now) scope.items (goal_forms context.now.names.now (site_at (sites context.now.flat.now) place)))))) }
     ensures called { OnOk result ((rows : List RelationEntry) → are_there rows (tables draft.new).goals ≡ (are_there rows (tables draft.old).goals
-        && calls_named rows (conjunction (goals_in (relations text.now.relations.now) scope.items (goal_forms text.now.names.now (site_at (sites text.now.nodes.now) place)))))) }
+        && calls_named rows (conjunction (goals_in context.now.dialect (relations context.now.relations.now) scope.items (goal_forms context.now.names.now (site_at (sites context.now.flat.now) place)))))) }
 {
-    let mut places = Vec::new(text.alloc);
-    let mut works = Vec::new(text.alloc);
+    let mut places = Vec::new(context.alloc);
+    let mut works = Vec::new(context.alloc);
     works.push(Work::Row(Row::All, place))?;
     while let Some(work) = works.pop() {
-        build_next(text, work, &mut scope, draft, &mut places, &mut works)?;
+        build_next(context, work, &mut scope, draft, &mut places, &mut works)?;
     }
     let Some(goal) = places.pop() else {
         return Err(Memory);

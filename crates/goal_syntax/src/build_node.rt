@@ -14,51 +14,51 @@ ghost use Rattle.goal_forms.specs.RelationTables.{relations};
 use goal_forms::quoted_symbol;
 use crate::build_term::{build_arguments, build_term};
 use goal_forms::Goal;
-use goal_forms::Text;
+use goal_forms::Context;
 use goal_forms::Task;
 use kan_model::{Draft, GoalNode};
 use kan_terms::Memory;
 
 // Builds two terms, and gives their places.
 fn build_two(
-    text: &Text,
+    context: &Context,
     scope: &[Option<u32>],
     left: u32,
     right: u32,
     draft: &mut Draft,
 ) -> Result<(u32, u32), Memory>
     requires room { HasRoom (tables draft.old) }
-    ensures left { IfOk result (λ made. HasTemplate (tables draft.new) made.0 (template_in scope.now (term_form text.now.names.now (site_at (sites text.now.nodes.now) left)))) }
-    ensures right { IfOk result (λ made. HasTemplate (tables draft.new) made.1 (template_in scope.now (term_form text.now.names.now (site_at (sites text.now.nodes.now) right)))) }
+    ensures left { IfOk result (λ made. HasTemplate (tables draft.new) made.0 (template_in scope.now (term_form context.now.names.now (site_at (sites context.now.flat.now) left)))) }
+    ensures right { IfOk result (λ made. HasTemplate (tables draft.new) made.1 (template_in scope.now (term_form context.now.names.now (site_at (sites context.now.flat.now) right)))) }
     ensures grows { OnOk result (Grows (tables draft.old) (tables draft.new)) }
     ensures room { OnOk result (HasRoom (tables draft.new)) }
-    ensures low { OnOk result (KeepsLow (sites text.now.nodes.now) (tables draft.old) (tables draft.new)) }
+    ensures low { OnOk result (KeepsLow (sites context.now.flat.now) (tables draft.old) (tables draft.new)) }
     ensures same { OnOk result ((tables draft.new).goals ≡ (tables draft.old).goals) }
 {
-    let first = build_term(text, scope, Task::Term(left), draft)?;
-    let second = build_term(text, scope, Task::Term(right), draft)?;
+    let first = build_term(context, scope, Task::Term(left), draft)?;
+    let second = build_term(context, scope, Task::Term(right), draft)?;
     Ok((first, second))
 }
 
 // The symbol of a tag; one that is none stands for the first symbol.
-fn tag_symbol(text: &Text, place: u32) -> u32
-    ensures { result ≡ (tag_of text.now.names.now (site_at (sites text.now.nodes.now) place)).value }
+fn tag_symbol(context: &Context, place: u32) -> u32
+    ensures { result ≡ (tag_of context.now.names.now (site_at (sites context.now.flat.now) place)).value }
 {
-    quoted_symbol(text.nodes, text.names, place).unwrap_or(0)
+    quoted_symbol(context.flat, context.names, place).unwrap_or(0)
 }
 
 /// Builds the terms of a goal that has no goals in it, and gives its node.
 pub(crate) fn build_node(
-    text: &Text,
+    context: &Context,
     scope: &[Option<u32>],
     goal: Goal,
     draft: &mut Draft,
 ) -> Result<Option<GoalNode>, Memory>
     requires room { HasRoom (tables draft.old) }
-    ensures made { IfOk result (λ node. StandsFor (tables draft.new) node (own_goal (relations text.now.relations.now) text.now.names.now (sites text.now.nodes.now) scope.now goal)) }
+    ensures made { IfOk result (λ node. StandsFor (tables draft.new) node (own_goal context.now.dialect (relations context.now.relations.now) context.now.names.now (sites context.now.flat.now) scope.now goal)) }
     ensures grows { OnOk result (Grows (tables draft.old) (tables draft.new)) }
     ensures room { OnOk result (HasRoom (tables draft.new)) }
-    ensures low { OnOk result (KeepsLow (sites text.now.nodes.now) (tables draft.old) (tables draft.new)) }
+    ensures low { OnOk result (KeepsLow (sites context.now.flat.now) (tables draft.old) (tables draft.new)) }
     ensures same { OnOk result ((tables draft.new).goals ≡ (tables draft.old).goals) }
 {
     match goal {
@@ -66,28 +66,32 @@ pub(crate) fn build_node(
         Goal::Fail => Ok(Some(GoalNode::Fail)),
         Goal::Misshapen(_) => Ok(Some(GoalNode::Fail)),
         Goal::Same(left, right) => {
-            let (left, right) = build_two(text, scope, left, right, draft)?;
+            let (left, right) = build_two(context, scope, left, right, draft)?;
             Ok(Some(GoalNode::Same(left, right)))
         }
         Goal::Differ(left, right) => {
-            let (left, right) = build_two(text, scope, left, right, draft)?;
+            let (left, right) = build_two(context, scope, left, right, draft)?;
             Ok(Some(GoalNode::Differ(left, right)))
         }
         Goal::Symbol(term) => {
-            let term = build_term(text, scope, Task::Term(term), draft)?;
+            let term = build_term(context, scope, Task::Term(term), draft)?;
             Ok(Some(GoalNode::Symbol(term)))
         }
         Goal::Number(term) => {
-            let term = build_term(text, scope, Task::Term(term), draft)?;
+            let term = build_term(context, scope, Task::Term(term), draft)?;
             Ok(Some(GoalNode::Number(term)))
         }
+        Goal::Text(term) => {
+            let term = build_term(context, scope, Task::Term(term), draft)?;
+            Ok(Some(GoalNode::Text(term)))
+        }
         Goal::Absent(tag, term) => {
-            let term = build_term(text, scope, Task::Term(term), draft)?;
-            Ok(Some(GoalNode::Absent(tag_symbol(text, tag), term)))
+            let term = build_term(context, scope, Task::Term(term), draft)?;
+            Ok(Some(GoalNode::Absent(tag_symbol(context, tag), term)))
         }
         Goal::Call(_, symbol, args) => {
-            let (at, count) = build_arguments(text, scope, args, draft)?;
-            let relation = text.relations.number(symbol).unwrap_or(0);
+            let (at, count) = build_arguments(context, scope, args, draft)?;
+            let relation = context.relations.number(symbol).unwrap_or(0);
             Ok(Some(GoalNode::Call(relation, at, count)))
         }
         Goal::Fresh(_, _) | Goal::AllOf(_) | Goal::OneOf(_) | Goal::Clauses(_) => Ok(None),

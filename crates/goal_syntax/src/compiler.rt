@@ -11,7 +11,7 @@ ghost use Rattle.kan_model.specs.Programs.Closed as programs;
 ghost use Rattle.kan_model.specs.Programs.Scope.{is_small};
 ghost use Rattle.kan_grammar.specs.Texts.Sited.{with_sites};
 ghost use Rattle.sexpr.specs.Seen.{written};
-ghost use Rattle.kan_model.specs.Programs.Tables.{nothing_open};
+ghost use Rattle.kan_model.specs.Programs.Tables.{are_closed};
 ghost use Rattle.kan_grammar.specs.Texts.TopForms.{definitions, form};
 ghost use Rattle.kan_model.specs.declared.nodes.Query.{Query as AskedOf};
 ghost use Rattle.goal_forms.specs.Heights.{AreLow};
@@ -29,10 +29,10 @@ ghost use Rattle.goal_forms.specs.Flattening.{AreNumbered, meaning};
 
 use crate::build_form::{build_form, build_relation};
 use crate::refusal::SyntaxError;
-use goal_forms::{Form, Text, define, number_prefixes, parse_form};
+use goal_forms::{Form, Context, define, number_prefixes, parse_form};
 use crate::judge_text::first_of_forms;
 use crate::named::are_named;
-use goal_forms::Nodes;
+use goal_forms::FlatData;
 use goal_forms::{Prefixes, turn_both};
 use kan_model::{Draft, Program, Query};
 use kan_terms::{ListOf, Memory, Names};
@@ -55,56 +55,56 @@ pub struct Compiled {
 }
 
 // Builds the relation of a top form of a library, which has no runs.
-fn build_library_form(text: &Text, place: u32, draft: &mut Draft) -> Result<(), Memory>
+fn build_library_form(context: &Context, place: u32, draft: &mut Draft) -> Result<(), Memory>
     requires room { HasRoom (tables draft.old) }
     ensures means { OnOk result ((qs : List AskedOf) → (rs : List model.Relation) → (asked : List model.Query) → Means (tables draft.old) qs rs asked → Means (tables draft.new) qs
-        (rs ++ relations_in (relations text.now.relations.now) (form text.now.names.now (site_at (sites text.now.nodes.now) place))) asked) }
+        (rs ++ relations_in context.now.dialect (relations context.now.relations.now) (form context.now.names.now (site_at (sites context.now.flat.now) place))) asked) }
     ensures room { OnOk result (HasRoom (tables draft.new)) }
-    ensures closed { OnOk result (KeepsClosed (sites text.now.nodes.now) (tables draft.old) (tables draft.new) (bodies_named (relations_in (relations text.now.relations.now) (form text.now.names.now (site_at (sites text.now.nodes.now) place))))) }
+    ensures closed { OnOk result (KeepsClosed (sites context.now.flat.now) (tables draft.old) (tables draft.new) (bodies_named (relations_in context.now.dialect (relations context.now.relations.now) (form context.now.names.now (site_at (sites context.now.flat.now) place))))) }
     ensures equational { OnOk result (are_equational_entries (tables draft.new).goals ≡ (are_equational_entries (tables draft.old).goals
-        && list_all is_equational_body (relations_in (relations text.now.relations.now) (form text.now.names.now (site_at (sites text.now.nodes.now) place))))) }
+        && list_all is_equational_body (relations_in context.now.dialect (relations context.now.relations.now) (form context.now.names.now (site_at (sites context.now.flat.now) place))))) }
 {
-    if let Form::Relation(head, goals) = parse_form(text.nodes, text.names, place) {
-        build_relation(text, head, goals, draft)?;
+    if let Form::Relation(head, goals) = parse_form(context.flat, context.names, place) {
+        build_relation(context, head, goals, draft)?;
     }
     Ok(())
 }
 
 // Builds the relations of a library.
-fn build_library(text: &Text, forms: &[u32], draft: &mut Draft) -> Result<(), Memory>
+fn build_library(context: &Context, forms: &[u32], draft: &mut Draft) -> Result<(), Memory>
     requires room { HasRoom (tables draft.old) }
     ensures means { OnOk result ((qs : List AskedOf) → (rs : List model.Relation) → (asked : List model.Query) → Means (tables draft.old) qs rs asked → Means (tables draft.new) qs
-        (rs ++ relations_of text.now.names.now (relations text.now.relations.now) (map (site_at (sites text.now.nodes.now)) forms.now)) asked) }
+        (rs ++ relations_of context.now.dialect context.now.names.now (relations context.now.relations.now) (map (site_at (sites context.now.flat.now)) forms.now)) asked) }
     ensures room { OnOk result (HasRoom (tables draft.new)) }
-    ensures closed { OnOk result (KeepsClosed (sites text.now.nodes.now) (tables draft.old) (tables draft.new) (bodies_named (relations_of text.now.names.now (relations text.now.relations.now) (map (site_at (sites text.now.nodes.now)) forms.now)))) }
+    ensures closed { OnOk result (KeepsClosed (sites context.now.flat.now) (tables draft.old) (tables draft.new) (bodies_named (relations_of context.now.dialect context.now.names.now (relations context.now.relations.now) (map (site_at (sites context.now.flat.now)) forms.now)))) }
     ensures equational { OnOk result (are_equational_entries (tables draft.new).goals ≡ (are_equational_entries (tables draft.old).goals
-        && list_all is_equational_body (relations_of text.now.names.now (relations text.now.relations.now) (map (site_at (sites text.now.nodes.now)) forms.now)))) }
+        && list_all is_equational_body (relations_of context.now.dialect context.now.names.now (relations context.now.relations.now) (map (site_at (sites context.now.flat.now)) forms.now)))) }
 {
     for place in forms {
-        build_library_form(text, *place, draft)?;
+        build_library_form(context, *place, draft)?;
     }
     Ok(())
 }
 
 // Builds the relations and the runs of a text.
 fn build_text(
-    text: &Text,
+    context: &Context,
     forms: &[u32],
     draft: &mut Draft,
     queries: &mut Queries,
 ) -> Result<(), Memory>
     requires room { HasRoom (tables draft.old) }
     ensures means { OnOk result ((rs : List model.Relation) → (asked : List model.Query) → Means (tables draft.old) queries.old rs asked → Means (tables draft.new) queries.new
-        (rs ++ relations_of text.now.names.now (relations text.now.relations.now) (map (site_at (sites text.now.nodes.now)) forms.now))
-        (asked ++ queries_of text.now.names.now (relations text.now.relations.now) (map (site_at (sites text.now.nodes.now)) forms.now))) }
+        (rs ++ relations_of context.now.dialect context.now.names.now (relations context.now.relations.now) (map (site_at (sites context.now.flat.now)) forms.now))
+        (asked ++ queries_of context.now.dialect context.now.names.now (relations context.now.relations.now) (map (site_at (sites context.now.flat.now)) forms.now))) }
     ensures room { OnOk result (HasRoom (tables draft.new)) }
-    ensures closed { OnOk result (KeepsClosed (sites text.now.nodes.now) (tables draft.old) (tables draft.new) (all_named (relations_of text.now.names.now (relations text.now.relations.now) (map (site_at (sites text.now.nodes.now)) forms.now)) (queries_of text.now.names.now (relations text.now.relations.now) (map (site_at (sites text.now.nodes.now)) forms.now)))) }
+    ensures closed { OnOk result (KeepsClosed (sites context.now.flat.now) (tables draft.old) (tables draft.new) (all_named (relations_of context.now.dialect context.now.names.now (relations context.now.relations.now) (map (site_at (sites context.now.flat.now)) forms.now)) (queries_of context.now.dialect context.now.names.now (relations context.now.relations.now) (map (site_at (sites context.now.flat.now)) forms.now)))) }
     ensures equational { OnOk result (are_equational_entries (tables draft.new).goals ≡ (are_equational_entries (tables draft.old).goals
-        && are_equational (relations_of text.now.names.now (relations text.now.relations.now) (map (site_at (sites text.now.nodes.now)) forms.now))
-        (queries_of text.now.names.now (relations text.now.relations.now) (map (site_at (sites text.now.nodes.now)) forms.now)))) }
+        && are_equational (relations_of context.now.dialect context.now.names.now (relations context.now.relations.now) (map (site_at (sites context.now.flat.now)) forms.now))
+        (queries_of context.now.dialect context.now.names.now (relations context.now.relations.now) (map (site_at (sites context.now.flat.now)) forms.now)))) }
 {
     for place in forms {
-        build_form(text, parse_form(text.nodes, text.names, *place), draft, queries)?;
+        build_form(context, parse_form(context.flat, context.names, *place), draft, queries)?;
     }
     Ok(())
 }
@@ -128,10 +128,10 @@ fn are_narrow(program: &Program) -> bool
 // no memory for it; no text comes to that.
 fn close(draft: Draft, queries: Queries, names: &Names) -> Result<Compiled, Memory>
     requires room { HasRoom (tables draft) }
-    requires closed { nothing_open (tables draft) (map goal_place queries) ≡ true }
+    requires closed { are_closed (tables draft) (map goal_place queries) ≡ true }
     ensures tables { IfOk result (λ made. programs.tables made.program ≡ tables draft) }
     ensures queries { IfOk result (λ made. made.queries ≡ queries) }
-    ensures closed { IfOk result (λ made. nothing_open (tables draft) (map goal_place queries) ≡ true) }
+    ensures closed { IfOk result (λ made. are_closed (tables draft) (map goal_place queries) ≡ true) }
     ensures small { IfOk result (λ made. is_small (programs.meaning made.program) ≡ true) }
     ensures named { IfOk result (λ made. are_named names.now (programs.tables made.program) ≡ true) }
 {
@@ -145,46 +145,46 @@ fn close(draft: Draft, queries: Queries, names: &Names) -> Result<Compiled, Memo
 }
 
 // Builds the program and the runs of a text behind a library.
-fn build_program(text: &Text, library: &[u32], forms: &[u32]) -> Result<Compiled, Memory>
-    requires low { AreLow (sites text.now.nodes.now) }
-    requires alone { faults_of text.now.names.now [] (map (site_at (sites text.now.nodes.now)) library.now) ≡ [] }
-    requires accepted { faults_of text.now.names.now (map (site_at (sites text.now.nodes.now)) library.now) (map (site_at (sites text.now.nodes.now)) forms.now) ≡ [] }
-    requires relations { relations text.now.relations.now ≡ definitions text.now.names.now (map (site_at (sites text.now.nodes.now)) library.now) ++ definitions text.now.names.now (map (site_at (sites text.now.nodes.now)) forms.now) }
-    ensures text_meaning { IfOk result (λ made. IsMeant (text_meaning text.now.names.now (map (site_at (sites text.now.nodes.now)) library.now) (map (site_at (sites text.now.nodes.now)) forms.now)) made.program made.queries) }
-    ensures named { IfOk result (λ made. are_named text.now.names.now (programs.tables made.program) ≡ true) }
+fn build_program(context: &Context, library: &[u32], forms: &[u32]) -> Result<Compiled, Memory>
+    requires low { AreLow (sites context.now.flat.now) }
+    requires alone { faults_of context.now.names.now [] (map (site_at (sites context.now.flat.now)) library.now) ≡ [] }
+    requires accepted { faults_of context.now.names.now (map (site_at (sites context.now.flat.now)) library.now) (map (site_at (sites context.now.flat.now)) forms.now) ≡ [] }
+    requires relations { relations context.now.relations.now ≡ definitions context.now.names.now (map (site_at (sites context.now.flat.now)) library.now) ++ definitions context.now.names.now (map (site_at (sites context.now.flat.now)) forms.now) }
+    ensures meant { IfOk result (λ made. IsMeant (text_meaning context.now.dialect context.now.names.now (map (site_at (sites context.now.flat.now)) library.now) (map (site_at (sites context.now.flat.now)) forms.now)) made.program made.queries) }
+    ensures named { IfOk result (λ made. are_named context.now.names.now (programs.tables made.program) ≡ true) }
 {
-    let mut draft = Draft::new(text.alloc);
-    let mut queries = ListOf::new(text.alloc);
-    build_library(text, library, &mut draft)?;
-    build_text(text, forms, &mut draft, &mut queries)?;
-    let compiled = close(draft, queries, text.names)?;
+    let mut draft = Draft::new(context.alloc);
+    let mut queries = ListOf::new(context.alloc);
+    build_library(context, library, &mut draft)?;
+    build_text(context, forms, &mut draft, &mut queries)?;
+    let compiled = close(draft, queries, context.names)?;
     Ok(compiled)
 }
 
 // Compiles the top forms of a text behind those of a library.
 fn compile_forms(
     alloc: Global,
-    nodes: &Nodes,
+    flat: &FlatData,
     names: &Names,
     library: &[u32],
     forms: &[u32],
 ) -> Result<Compiled, SyntaxError>
     requires few { length library.now + length forms.now < 2 ^ 32 }
-    requires low { AreLow (sites nodes.now) }
-    requires alone { faults_of names.now [] (map (site_at (sites nodes.now)) library.now) ≡ [] }
-    ensures { CompilesForms names.now (map (site_at (sites nodes.now)) library.now) (map (site_at (sites nodes.now)) forms.now) result }
+    requires low { AreLow (sites flat.now) }
+    requires alone { faults_of names.now [] (map (site_at (sites flat.now)) library.now) ≡ [] }
+    ensures { CompilesForms context.now.dialect names.now (map (site_at (sites flat.now)) library.now) (map (site_at (sites flat.now)) forms.now) result }
 {
-    let (relations, before) = define(alloc, nodes, names, library, forms)?;
-    let text = Text {
+    let (relations, before) = define(alloc, flat, names, library, forms)?;
+    let context = Context {
         alloc,
-        nodes,
+        flat,
         names,
         relations: &relations,
     };
-    if let Some(fault) = first_of_forms(&text, before, forms)? {
+    if let Some(fault) = first_of_forms(&context, before, forms)? {
         return Err(SyntaxError::Fault(fault.at, fault.number));
     }
-    let compiled = build_program(&text, library, forms)?;
+    let compiled = build_program(&context, library, forms)?;
     Ok(compiled)
 }
 
@@ -201,9 +201,9 @@ fn compile_data(
     requires low_library { AreLow (map (meaning names.now) library.now) }
     requires low_text { AreLow (map (meaning names.now) text.now) }
     requires alone { IsAccepted names.now [] (map (written names.now) library.now) }
-    ensures { CompilesForms names.now (map (with_sites names.now) (map (written names.now) library.now)) (map (with_sites names.now) (map (written names.now) text.now)) result }
+    ensures { CompilesForms context.now.dialect names.now (map (with_sites names.now) (map (written names.now) library.now)) (map (with_sites names.now) (map (written names.now) text.now)) result }
 {
-    let mut table = Nodes::new(alloc);
+    let mut table = FlatData::new(alloc);
     let places = turn_both(alloc, library, text, names, prefixes, &mut table)?;
     let (first, later) = places.as_slice().split_at(library.len());
     compile_forms(alloc, &table, names, first, later)

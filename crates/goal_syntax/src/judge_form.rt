@@ -14,8 +14,8 @@ use crate::fault::{Fault, report};
 use goal_forms::Form;
 use crate::judge_binder::{judge_binder, judge_names};
 use crate::judge_goal::judge_goals;
-use goal_forms::{Text, binder_names, enter, head_name, head_params, limit, may_bind, unnamed};
-use goal_forms::{Nodes, Part};
+use goal_forms::{Context, binder_names, enter, head_name, head_params, limit, may_bind, unnamed};
+use goal_forms::{FlatData, Part};
 use goal_forms::Relations;
 use goal_forms::{is_proper, pair_parts};
 use goal_forms::{Word, word_of_symbol};
@@ -33,39 +33,39 @@ fn is_new(relations: &Relations, before: u32, symbol: u32) -> bool
 }
 
 // Notes the fault of a relation's name that is one of the language or has a relation among the first ones.
-fn judge_again(text: &Text, before: u32, head: u32, faults: &mut Vec<Fault>) -> Result<(), Memory>
+fn judge_again(context: &Context, before: u32, head: u32, faults: &mut Vec<Fault>) -> Result<(), Memory>
     ensures { OnOk result (fault_list faults.new.items ≡ fault_list faults.old.items
-        ++ again_faults text.now.names.now (take before (relations_of text.now.relations.now)) (name_of_head (site_at (sites text.now.nodes.now) head))) }
+        ++ again_faults context.now.names.now (take before (relations_of context.now.relations.now)) (name_of_head (site_at (sites context.now.flat.now) head))) }
 {
-    let Some((at, symbol)) = head_name(text.nodes, head) else {
+    let Some((at, symbol)) = head_name(context.flat, head) else {
         return Ok(());
     };
-    let is_other = matches!(word_of_symbol(text.names, symbol), Word::Other);
-    if !(is_other && is_new(text.relations, before, symbol)) {
+    let is_other = matches!(word_of_symbol(context.names, symbol), Word::Other);
+    if !(is_other && is_new(context.relations, before, symbol)) {
         report(faults, at, 14)?;
     }
     Ok(())
 }
 
 // Notes the faults of a relation's head.
-fn judge_head(text: &Text, head: u32, faults: &mut Vec<Fault>) -> Result<(), Memory>
+fn judge_head(context: &Context, head: u32, faults: &mut Vec<Fault>) -> Result<(), Memory>
     ensures { OnOk result (fault_list faults.new.items
-        ≡ fault_list faults.old.items ++ (head_of text.now.names.now (site_at (sites text.now.nodes.now) head)).faults) }
+        ≡ fault_list faults.old.items ++ (head_of context.now.names.now (site_at (sites context.now.flat.now) head)).faults) }
 {
-    match pair_parts(text.nodes, head) {
-        Some((name, params)) if is_proper(text.nodes, params) => {
-            judge_name(text.nodes, name, faults)?;
-            judge_names(text.alloc, text.nodes, text.names, params, faults)
+    match pair_parts(context.flat, head) {
+        Some((name, params)) if is_proper(context.flat, params) => {
+            judge_name(context.flat, name, faults)?;
+            judge_names(context.alloc, context.flat, context.names, params, faults)
         }
-        _ => report(faults, text.nodes.read(head).at, 10),
+        _ => report(faults, context.flat.read(head).at, 10),
     }
 }
 
 // Notes the fault of a relation's name that is no symbol.
-fn judge_name(nodes: &Nodes, name: u32, faults: &mut Vec<Fault>) -> Result<(), Memory>
-    ensures { OnOk result (fault_list faults.new.items ≡ fault_list faults.old.items ++ name_faults (site_at (sites nodes.now) name)) }
+fn judge_name(flat: &FlatData, name: u32, faults: &mut Vec<Fault>) -> Result<(), Memory>
+    ensures { OnOk result (fault_list faults.new.items ≡ fault_list faults.old.items ++ name_faults (site_at (sites flat.now) name)) }
 {
-    let node = nodes.read(name);
+    let node = flat.read(name);
     match node.part {
         Part::Name(_) => Ok(()),
         _ => report(faults, node.at, 10),
@@ -73,25 +73,25 @@ fn judge_name(nodes: &Nodes, name: u32, faults: &mut Vec<Fault>) -> Result<(), M
 }
 
 // Notes the fault of a run's limit, where it has one.
-fn judge_limit(nodes: &Nodes, place: Option<u32>, faults: &mut Vec<Fault>) -> Result<(), Memory>
-    ensures { OnOk result (fault_list faults.new.items ≡ fault_list faults.old.items ++ (limit_at (sites nodes.now) place).faults) }
+fn judge_limit(flat: &FlatData, place: Option<u32>, faults: &mut Vec<Fault>) -> Result<(), Memory>
+    ensures { OnOk result (fault_list faults.new.items ≡ fault_list faults.old.items ++ (limit_at (sites flat.now) place).faults) }
 {
     let Some(place) = place else {
         return Ok(());
     };
-    match limit(nodes, place) {
+    match limit(flat, place) {
         Some(_) => Ok(()),
-        None => report(faults, nodes.read(place).at, 10),
+        None => report(faults, flat.read(place).at, 10),
     }
 }
 
 // The one name of a run; its fault is noted.
-fn bind_one(text: &Text, at: u32, symbol: u32, faults: &mut Vec<Fault>) -> Result<Vec<u32>, Memory>
-    ensures bound { IfOk result (λ bound. bound.items ≡ (one_name text.now.names.now at symbol).value) }
-    ensures faults { OnOk result (fault_list faults.new.items ≡ fault_list faults.old.items ++ (one_name text.now.names.now at symbol).faults) }
+fn bind_one(context: &Context, at: u32, symbol: u32, faults: &mut Vec<Fault>) -> Result<Vec<u32>, Memory>
+    ensures bound { IfOk result (λ bound. bound.items ≡ (one_name context.now.names.now at symbol).value) }
+    ensures faults { OnOk result (fault_list faults.new.items ≡ fault_list faults.old.items ++ (one_name context.now.names.now at symbol).faults) }
 {
-    let mut bound = Vec::new(text.alloc);
-    if !may_bind(text.names, &bound, symbol) {
+    let mut bound = Vec::new(context.alloc);
+    if !may_bind(context.names, &bound, symbol) {
         report(faults, at, 10)?;
     }
     bound.push(symbol)?;
@@ -100,48 +100,48 @@ fn bind_one(text: &Text, at: u32, symbol: u32, faults: &mut Vec<Fault>) -> Resul
 
 // Notes the faults of a form's goals, where these names come behind those in scope.
 fn judge_body(
-    text: &Text,
+    context: &Context,
     bound: &[u32],
     goals: u32,
     mut scope: Vec<Option<u32>>,
     faults: &mut Vec<Fault>,
 ) -> Result<(), Memory>
     ensures { OnOk result (fault_list faults.new.items ≡ fault_list faults.old.items
-        ++ goals_faults (relations_of text.now.relations.now) (within scope.items bound.now) (goal_forms text.now.names.now (site_at (sites text.now.nodes.now) goals))) }
+        ++ goals_faults (relations_of context.now.relations.now) (within scope.items bound.now) (goal_forms context.now.names.now (site_at (sites context.now.flat.now) goals))) }
 {
     enter(bound, &mut scope)?;
-    judge_goals(text, goals, scope, faults)?;
+    judge_goals(context, goals, scope, faults)?;
     Ok(())
 }
 
 /// Notes the faults of a top form before which this many relations are defined.
 pub(crate) fn judge_form(
-    text: &Text,
+    context: &Context,
     before: u32,
     form: Form,
     faults: &mut Vec<Fault>,
 ) -> Result<(), Memory>
     ensures { OnOk result (fault_list faults.new.items ≡ fault_list faults.old.items
-        ++ form_faults text.now.names.now (relations_of text.now.relations.now) (take before (relations_of text.now.relations.now))
-        (step_top (sites text.now.nodes.now) text.now.names.now form)) }
+        ++ form_faults context.now.names.now (relations_of context.now.relations.now) (take before (relations_of context.now.relations.now))
+        (step_top (sites context.now.flat.now) context.now.names.now form)) }
 {
     match form {
         Form::Relation(head, goals) => {
-            judge_again(text, before, head, faults)?;
-            judge_head(text, head, faults)?;
-            let bound = head_params(text.alloc, text.nodes, head)?;
-            judge_body(text, &bound, goals, Vec::new(text.alloc), faults)
+            judge_again(context, before, head, faults)?;
+            judge_head(context, head, faults)?;
+            let bound = head_params(context.alloc, context.flat, head)?;
+            judge_body(context, &bound, goals, Vec::new(context.alloc), faults)
         }
         Form::RunOfOne(limit, at, symbol, goals) => {
-            judge_limit(text.nodes, limit, faults)?;
-            let bound = bind_one(text, at, symbol, faults)?;
-            judge_body(text, &bound, goals, Vec::new(text.alloc), faults)
+            judge_limit(context.flat, limit, faults)?;
+            let bound = bind_one(context, at, symbol, faults)?;
+            judge_body(context, &bound, goals, Vec::new(context.alloc), faults)
         }
         Form::RunOfList(limit, binder, goals) => {
-            judge_limit(text.nodes, limit, faults)?;
-            judge_binder(text.alloc, text.nodes, text.names, binder, faults)?;
-            let bound = binder_names(text.alloc, text.nodes, binder)?;
-            judge_body(text, &bound, goals, unnamed(text.alloc)?, faults)
+            judge_limit(context.flat, limit, faults)?;
+            judge_binder(context.alloc, context.flat, context.names, binder, faults)?;
+            let bound = binder_names(context.alloc, context.flat, binder)?;
+            judge_body(context, &bound, goals, unnamed(context.alloc)?, faults)
         }
         Form::Misshapen(at) => report(faults, at, 10),
         Form::Unknown(at) => report(faults, at, 9),

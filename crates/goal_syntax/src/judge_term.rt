@@ -9,7 +9,7 @@ ghost use Rattle.goal_forms.specs.TermSteps.{task_form, step_size};
 ghost use Rattle.goal_syntax.specs.Judging.TermsLeft.{own_uses, later_uses, waiting_uses, waiting_size};
 
 use crate::fault::{Fault, report};
-use goal_forms::Nodes;
+use goal_forms::FlatData;
 use goal_forms::slot_of;
 use goal_forms::{Step, Task, parse_task};
 use kan_terms::{Memory, Names};
@@ -32,11 +32,11 @@ fn judge_step(scope: &[Option<u32>], step: Step, faults: &mut Vec<Fault>) -> Res
 }
 
 // Puts the tasks of a step on the stack, the first one on top.
-fn wait_for(nodes: &Nodes, names: &Names, step: Step, waiting: &mut Vec<Task>) -> Result<(), Memory>
-    ensures uses { OnOk result (waiting_uses (sites nodes.now) names.now waiting.new.items
-        ≡ later_uses (sites nodes.now) names.now step ++ waiting_uses (sites nodes.now) names.now waiting.old.items) }
-    ensures size { OnOk result (waiting_size (sites nodes.now) waiting.new.items
-        ≡ step_size (sites nodes.now) step + waiting_size (sites nodes.now) waiting.old.items) }
+fn wait_for(flat: &FlatData, names: &Names, step: Step, waiting: &mut Vec<Task>) -> Result<(), Memory>
+    ensures uses { OnOk result (waiting_uses (sites flat.now) names.now waiting.new.items
+        ≡ later_uses (sites flat.now) names.now step ++ waiting_uses (sites flat.now) names.now waiting.old.items) }
+    ensures size { OnOk result (waiting_size (sites flat.now) waiting.new.items
+        ≡ step_size (sites flat.now) step + waiting_size (sites flat.now) waiting.old.items) }
 {
     match step {
         Step::Pair(first, rest) => {
@@ -52,21 +52,21 @@ fn wait_for(nodes: &Nodes, names: &Names, step: Step, waiting: &mut Vec<Task>) -
 /// Notes the faults of a task's term, where these names are in scope.
 pub(crate) fn judge_term(
     alloc: Global,
-    nodes: &Nodes,
+    flat: &FlatData,
     names: &Names,
     scope: &[Option<u32>],
     task: Task,
     faults: &mut Vec<Fault>,
 ) -> Result<(), Memory>
     ensures { OnOk result (fault_list faults.new.items
-        ≡ fault_list faults.old.items ++ term_faults scope.now (task_form (sites nodes.now) names.now task)) }
+        ≡ fault_list faults.old.items ++ term_faults scope.now (task_form (sites flat.now) names.now task)) }
 {
     let mut waiting = Vec::new(alloc);
     waiting.push(task)?;
     while let Some(next) = waiting.pop() {
-        let step = parse_task(nodes, names, next);
+        let step = parse_task(flat, names, next);
         judge_step(scope, step, faults)?;
-        wait_for(nodes, names, step, &mut waiting)?;
+        wait_for(flat, names, step, &mut waiting)?;
     }
     Ok(())
 }

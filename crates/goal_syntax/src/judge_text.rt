@@ -9,7 +9,7 @@ ghost use Rattle.goal_forms.specs.DefinedRelations.{related};
 ghost use Rattle.goal_forms.specs.RelationTables.{relations};
 
 use crate::fault::Fault;
-use goal_forms::{Text, count_defined, parse_form};
+use goal_forms::{Context, count_defined, parse_form};
 use crate::judge_form::judge_form;
 use kan_terms::Memory;
 
@@ -43,40 +43,40 @@ pub(crate) fn least(mut faults: Vec<Fault>) -> Option<Fault>
 
 /// Notes the faults of top forms, before which this many relations are defined.
 pub(crate) fn judge_forms(
-    text: &Text,
+    context: &Context,
     mut before: u32,
     forms: &[u32],
     faults: &mut Vec<Fault>,
 ) -> Result<(), Memory>
-    requires few { length (relations text.now.relations.now) < 2 ^ 32 }
-    requires before { before ≤ length (relations text.now.relations.now) }
-    requires later { relations text.now.relations.now ≡ take before (relations text.now.relations.now)
-        ++ definitions text.now.names.now (map (site_at (sites text.now.nodes.now)) forms.now) }
+    requires few { length (relations context.now.relations.now) < 2 ^ 32 }
+    requires before { before ≤ length (relations context.now.relations.now) }
+    requires later { relations context.now.relations.now ≡ take before (relations context.now.relations.now)
+        ++ definitions context.now.names.now (map (site_at (sites context.now.flat.now)) forms.now) }
     ensures { OnOk result (fault_list faults.new.items ≡ fault_list faults.old.items
-        ++ forms_faults text.now.names.now (relations text.now.relations.now) (take before (relations text.now.relations.now))
-        (map (site_at (sites text.now.nodes.now)) forms.now)) }
+        ++ forms_faults context.now.names.now (relations context.now.relations.now) (take before (relations context.now.relations.now))
+        (map (site_at (sites context.now.flat.now)) forms.now)) }
 {
     for place in forms {
-        judge_form(text, before, parse_form(text.nodes, text.names, *place), faults)?;
-        before += count_defined(text.nodes, text.names, *place);
+        judge_form(context, before, parse_form(context.flat, context.names, *place), faults)?;
+        before += count_defined(context.flat, context.names, *place);
     }
     Ok(())
 }
 
 /// The fault that comes first of top forms before which this many relations are defined, where they have one.
 pub(crate) fn first_of_forms(
-    text: &Text,
+    context: &Context,
     before: u32,
     forms: &[u32],
 ) -> Result<Option<Fault>, Memory>
-    requires few { length (relations text.now.relations.now) < 2 ^ 32 }
-    requires before { before ≤ length (relations text.now.relations.now) }
-    requires later { relations text.now.relations.now ≡ take before (relations text.now.relations.now)
-        ++ definitions text.now.names.now (map (site_at (sites text.now.nodes.now)) forms.now) }
+    requires few { length (relations context.now.relations.now) < 2 ^ 32 }
+    requires before { before ≤ length (relations context.now.relations.now) }
+    requires later { relations context.now.relations.now ≡ take before (relations context.now.relations.now)
+        ++ definitions context.now.names.now (map (site_at (sites context.now.flat.now)) forms.now) }
     ensures { IfOk result (λ fault. option_map fault_of fault
-        ≡ least (forms_faults text.now.names.now (relations text.now.relations.now) (take before (relations text.now.relations.now)) (map (site_at (sites text.now.nodes.now)) forms.now))) }
+        ≡ least (forms_faults context.now.names.now (relations context.now.relations.now) (take before (relations context.now.relations.now)) (map (site_at (sites context.now.flat.now)) forms.now))) }
 {
-    let mut faults = Vec::new(text.alloc);
-    judge_forms(text, before, forms, &mut faults)?;
+    let mut faults = Vec::new(context.alloc);
+    judge_forms(context, before, forms, &mut faults)?;
     Ok(least(faults))
 }

@@ -5,11 +5,13 @@ use Rattle.std.specs.List.{list_all, flat_map}
 use Rattle.std.proofs.lemmas.Bool.{eqb-true, eq-eqb, and_from, and_parts}
 use Rattle.std.proofs.lemmas.Option.{slice_get-map}
 use Rattle.kan_model.specs.Programs.Goals.{Goal, Relation}
+use Rattle.kan_grammar.specs.declared.dialect.Dialect.{Dialect}
+use Rattle.kan_grammar.specs.declared.dialect.Dialect.TheVariants.{Book, All}
 use Rattle.kan_grammar.specs.Data.Faults.{fault}
 use Rattle.kan_model.specs.Programs.Scope.{takes, calls_there}
 use Rattle.kan_grammar.specs.Texts.GoalForms.{GoalForm, GoalForms, none, more}
 use Rattle.kan_grammar.specs.Texts.TopForms.{Defined}
-use Rattle.kan_grammar.specs.Texts.Resolved.{Names, relation_number, arity, conjunction, disjunction, within, goal_in, goals_in, template_in}
+use Rattle.kan_grammar.specs.Texts.Resolved.{Names, relation_number, arity, conjunction, disjunction, suspended_in, within, goal_in, goals_in, template_in}
 use Rattle.kan_grammar.specs.Texts.TextFaults.{unless, term_faults, call_faults, goal_faults, goals_faults}
 use Rattle.std.proofs.lemmas.List.{length-map}
 use Rattle.goal_syntax.proofs.Accepted.InScopeLaws.{none_parts, both_none}
@@ -64,30 +66,40 @@ disjunction_there rs (g ∷ i ∷ gs) h =
     let both = and_parts (calls_there rs g) (list_all (calls_there rs) (i ∷ gs)) h in
     and_from (calls_there rs g) (calls_there rs (disjunction (i ∷ gs))) both.0 (disjunction_there rs (i ∷ gs) both.1)
 
+-- a goal that suspends has its calls there where it has
+pub suspended_there : (dialect : Dialect) (rs : List Relation) (g : Goal) → calls_there rs g ≡ true → calls_there rs (suspended_in dialect g) ≡ true
+suspended_there Book rs g h = h
+suspended_there All rs g h = h
+
 -- goals without faults
 mutual
-  pub goal_there : (ds : List Defined) (rs : List Relation) (ns : Names) (g : GoalForm) → TakeAs ds rs → goal_faults ds ns g ≡ [] → calls_there rs (goal_in ds ns g) ≡ true
-  goal_there ds rs ns GoalForm.succeed same h = refl
-  goal_there ds rs ns GoalForm.fail same h = refl
-  goal_there ds rs ns (GoalForm.same u v) same h = refl
-  goal_there ds rs ns (GoalForm.differ u v) same h = refl
-  goal_there ds rs ns (GoalForm.symbol u) same h = refl
-  goal_there ds rs ns (GoalForm.number u) same h = refl
-  goal_there ds rs ns (GoalForm.absent tag u) same h = refl
-  goal_there ds rs ns (GoalForm.fresh b gs) same h =
-      conjunction_there rs (goals_in ds (within ns b.value) gs) (goals_there ds rs (within ns b.value) gs same (none_parts b.faults (goals_faults ds (within ns b.value) gs) h).1)
-  goal_there ds rs ns (GoalForm.all_of gs) same h = conjunction_there rs (goals_in ds ns gs) (goals_there ds rs ns gs same h)
-  goal_there ds rs ns (GoalForm.one_of gs) same h = disjunction_there rs (goals_in ds ns gs) (goals_there ds rs ns gs same h)
-  goal_there ds rs ns (GoalForm.call at s args) same h =
+  pub goal_there : (dialect : Dialect) (ds : List Defined) (rs : List Relation) (ns : Names) (g : GoalForm) → TakeAs ds rs → goal_faults ds ns g ≡ [] → calls_there rs (goal_in dialect ds ns g) ≡ true
+  goal_there dialect ds rs ns GoalForm.succeed same h = refl
+  goal_there dialect ds rs ns GoalForm.fail same h = refl
+  goal_there dialect ds rs ns (GoalForm.same u v) same h = refl
+  goal_there dialect ds rs ns (GoalForm.differ u v) same h = refl
+  goal_there dialect ds rs ns (GoalForm.symbol u) same h = refl
+  goal_there dialect ds rs ns (GoalForm.number u) same h = refl
+  goal_there dialect ds rs ns (GoalForm.text u) same h = refl
+  goal_there dialect ds rs ns (GoalForm.absent tag u) same h = refl
+  goal_there dialect ds rs ns (GoalForm.fresh b gs) same h =
+      let bound = within ns b.value in
+      let goals = goals_in dialect ds bound gs in
+      suspended_there dialect rs (Goal.fresh (length b.value) (conjunction goals)) (conjunction_there rs goals (goals_there dialect ds rs bound gs same (none_parts b.faults (goals_faults ds bound gs) h).1))
+  goal_there dialect ds rs ns (GoalForm.all_of gs) same h = conjunction_there rs (goals_in dialect ds ns gs) (goals_there dialect ds rs ns gs same h)
+  goal_there dialect ds rs ns (GoalForm.one_of gs) same h = disjunction_there rs (goals_in dialect ds ns gs) (goals_there dialect ds rs ns gs same h)
+  goal_there dialect ds rs ns (GoalForm.clauses gs) same h =
+      suspended_there dialect rs (disjunction (goals_in dialect ds ns gs)) (disjunction_there rs (goals_in dialect ds ns gs) (goals_there dialect ds rs ns gs same h))
+  goal_there dialect ds rs ns (GoalForm.call at s args) same h =
       let called = call_takes (arity ds s) at (length args) (none_parts (call_faults (arity ds s) at (length args)) (flat_map (term_faults ns) args) h).0 in
       ap (λ n. takes (slice_get rs (unwrap_or (relation_number ds s) 0)) n) (length-map args (template_in ns)) ∙ relation_takes ds rs s (length args) same called
-  goal_there ds rs ns (GoalForm.misshapen at) same h = refl
+  goal_there dialect ds rs ns (GoalForm.misshapen at) same h = refl
 
-  pub goals_there : (ds : List Defined) (rs : List Relation) (ns : Names) (gs : GoalForms) → TakeAs ds rs → goals_faults ds ns gs ≡ [] → list_all (calls_there rs) (goals_in ds ns gs) ≡ true
-  goals_there ds rs ns none same h = refl
-  goals_there ds rs ns (more g gs) same h =
+  pub goals_there : (dialect : Dialect) (ds : List Defined) (rs : List Relation) (ns : Names) (gs : GoalForms) → TakeAs ds rs → goals_faults ds ns gs ≡ [] → list_all (calls_there rs) (goals_in dialect ds ns gs) ≡ true
+  goals_there dialect ds rs ns none same h = refl
+  goals_there dialect ds rs ns (more g gs) same h =
       let both = none_parts (goal_faults ds ns g) (goals_faults ds ns gs) h in
-      and_from (calls_there rs (goal_in ds ns g)) (list_all (calls_there rs) (goals_in ds ns gs)) (goal_there ds rs ns g same both.0) (goals_there ds rs ns gs same both.1)
+      and_from (calls_there rs (goal_in dialect ds ns g)) (list_all (calls_there rs) (goals_in dialect ds ns gs)) (goal_there dialect ds rs ns g same both.0) (goals_there dialect ds rs ns gs same both.1)
 
 -- what a name takes it takes where more relations are behind
 arity_more : (ds later : List Defined) (s k : ℕ) → arity ds s ≡ Some k → arity (ds ++ later) s ≡ Some k
@@ -112,12 +124,14 @@ mutual
   goal_more ds later ns (GoalForm.differ u v) h = h
   goal_more ds later ns (GoalForm.symbol u) h = h
   goal_more ds later ns (GoalForm.number u) h = h
+  goal_more ds later ns (GoalForm.text u) h = h
   goal_more ds later ns (GoalForm.absent tag u) h = h
   goal_more ds later ns (GoalForm.fresh b gs) h =
       let both = none_parts b.faults (goals_faults ds (within ns b.value) gs) h in
       both_none b.faults (goals_faults (ds ++ later) (within ns b.value) gs) both.0 (goals_more ds later (within ns b.value) gs both.1)
   goal_more ds later ns (GoalForm.all_of gs) h = goals_more ds later ns gs h
   goal_more ds later ns (GoalForm.one_of gs) h = goals_more ds later ns gs h
+  goal_more ds later ns (GoalForm.clauses gs) h = goals_more ds later ns gs h
   goal_more ds later ns (GoalForm.call at s args) h =
       let both = none_parts (call_faults (arity ds s) at (length args)) (flat_map (term_faults ns) args) h in
       both_none (call_faults (arity (ds ++ later) s) at (length args)) (flat_map (term_faults ns) args) (call_more ds later s at (length args) both.0) both.1

@@ -3,6 +3,7 @@ use Rattle.std.proofs.Common.{◌≡◌, ℕ, suc, List, [], ◌∷◌, ◌++◌
 use Rattle.std.specs.Prelude.{Bool, true, false, ◌&&◌, Option, Some, None, is_some, option_map, if◌then◌else◌}
 use Rattle.std.proofs.lemmas.List.{map-append}
 use Rattle.kan_terms.specs.Table.{Table}
+use Rattle.kan_grammar.specs.declared.dialect.Dialect.{Dialect}
 use Rattle.kan_grammar.specs.Data.Faults.{fault}
 use Rattle.kan_grammar.specs.Texts.Sited.{Sited, elements, is_proper}
 use Rattle.kan_model.specs.Programs.Goals.{Relation}
@@ -26,8 +27,10 @@ defined_params ds = map (λ d. d.params) ds
 bound_count : (t : Table) (before : List ℕ) (d : Sited) (es : List Sited) → names_faults t before d ≡ [] → elements d ≡ Some es → length (bound_names d) ≡ length es
 bound_count t before (Sited.nil at) es h e = let same : [] ≡ es = cc in ap length same
 bound_count t before (Sited.name at s) es h e = absurd cc
+bound_count t before (Sited.text at n) es h e = absurd cc
 bound_count t before (Sited.num at n) es h e = absurd cc
 bound_count t before (Sited.bool at b) es h e = absurd cc
+bound_count t before (Sited.pair at (Sited.text a n) d) es h e = absurd cc
 bound_count t before (Sited.pair at (Sited.num a n) d) es h e = absurd cc
 bound_count t before (Sited.pair at (Sited.bool a b) d) es h e = absurd cc
 bound_count t before (Sited.pair at (Sited.nil a) d) es h e = absurd cc
@@ -60,9 +63,11 @@ bad_head false at start t params h = absurd cc
 head_defines : (t : Table) (before : List Defined) (hd : Sited) → again_faults t before (head_name hd) ≡ [] → (head t hd).faults ≡ [] →
     defined_params (definitions_of_head t (elements hd)) ≡ length (head t hd).value ∷ []
 head_defines t before (Sited.name at s) h k = absurd cc
+head_defines t before (Sited.text at n) h k = absurd cc
 head_defines t before (Sited.num at n) h k = absurd cc
 head_defines t before (Sited.bool at b) h k = absurd cc
 head_defines t before (Sited.nil at) h k = absurd cc
+head_defines t before (Sited.pair at (Sited.text a n) params) h k = absurd (bad_head (is_proper params) a at t params k)
 head_defines t before (Sited.pair at (Sited.num a n) params) h k = absurd (bad_head (is_proper params) a at t params k)
 head_defines t before (Sited.pair at (Sited.bool a n) params) h k = absurd (bad_head (is_proper params) a at t params k)
 head_defines t before (Sited.pair at (Sited.nil a) params) h k = absurd (bad_head (is_proper params) a at t params k)
@@ -85,54 +90,59 @@ head_defines t before (Sited.pair at (Sited.name a s) params) h k = by_params (e
     by_params (Some es) e f g = by_word (word t s) (is_new (arity before s)) es (bound_count t [] params es g e) f
 
 -- of two forms that define no relation neither does the one that is taken
-neither : (rs : List Defined) (b : Bool) (f g : Form) → relations_in rs f ≡ [] → relations_in rs g ≡ [] → relations_in rs (if b then f else g) ≡ []
-neither rs true f g h k = h
-neither rs false f g h k = k
+neither : (dialect : Dialect) (rs : List Defined) (b : Bool) (f g : Form) → relations_in dialect rs f ≡ [] → relations_in dialect rs g ≡ [] → relations_in dialect rs (if b then f else g) ≡ []
+neither dialect rs true f g h k = h
+neither dialect rs false f g h k = k
 
 -- runs define no relation
-run_defines : (rs : List Defined) (t : Table) (at : ℕ) (l : Checked (Option ℕ)) (parts : Sited) → relations_in rs (run_form t at l parts) ≡ []
-run_defines rs t at l (Sited.name a s) = refl
-run_defines rs t at l (Sited.num a n) = refl
-run_defines rs t at l (Sited.bool a b) = refl
-run_defines rs t at l (Sited.nil a) = refl
-run_defines rs t at l (Sited.pair a (Sited.name q s) goals) = neither rs (is_proper goals) _ _ refl refl
-run_defines rs t at l (Sited.pair a (Sited.num q n) goals) = neither rs (is_proper goals) _ _ refl refl
-run_defines rs t at l (Sited.pair a (Sited.bool q b) goals) = neither rs (is_proper goals) _ _ refl refl
-run_defines rs t at l (Sited.pair a (Sited.nil q) goals) = neither rs (is_proper goals) _ _ refl refl
-run_defines rs t at l (Sited.pair a (Sited.pair q b c) goals) = neither rs (is_proper goals) _ _ refl refl
+run_defines : (dialect : Dialect) (rs : List Defined) (t : Table) (at : ℕ) (l : Checked (Option ℕ)) (parts : Sited) → relations_in dialect rs (run_form t at l parts) ≡ []
+run_defines dialect rs t at l (Sited.name a s) = refl
+run_defines dialect rs t at l (Sited.text a n) = refl
+run_defines dialect rs t at l (Sited.num a n) = refl
+run_defines dialect rs t at l (Sited.bool a b) = refl
+run_defines dialect rs t at l (Sited.nil a) = refl
+run_defines dialect rs t at l (Sited.pair a (Sited.name q s) goals) = neither dialect rs (is_proper goals) _ _ refl refl
+run_defines dialect rs t at l (Sited.pair a (Sited.text q n) goals) = neither dialect rs (is_proper goals) _ _ refl refl
+run_defines dialect rs t at l (Sited.pair a (Sited.num q n) goals) = neither dialect rs (is_proper goals) _ _ refl refl
+run_defines dialect rs t at l (Sited.pair a (Sited.bool q b) goals) = neither dialect rs (is_proper goals) _ _ refl refl
+run_defines dialect rs t at l (Sited.pair a (Sited.nil q) goals) = neither dialect rs (is_proper goals) _ _ refl refl
+run_defines dialect rs t at l (Sited.pair a (Sited.pair q b c) goals) = neither dialect rs (is_proper goals) _ _ refl refl
 
-limited_defines : (rs : List Defined) (t : Table) (at : ℕ) (parts : Sited) → relations_in rs (limited_form t at parts) ≡ []
-limited_defines rs t at (Sited.name a s) = refl
-limited_defines rs t at (Sited.num a n) = refl
-limited_defines rs t at (Sited.bool a b) = refl
-limited_defines rs t at (Sited.nil a) = refl
-limited_defines rs t at (Sited.pair a l parts) = run_defines rs t at (limit l) parts
+limited_defines : (dialect : Dialect) (rs : List Defined) (t : Table) (at : ℕ) (parts : Sited) → relations_in dialect rs (limited_form t at parts) ≡ []
+limited_defines dialect rs t at (Sited.name a s) = refl
+limited_defines dialect rs t at (Sited.text a n) = refl
+limited_defines dialect rs t at (Sited.num a n) = refl
+limited_defines dialect rs t at (Sited.bool a b) = refl
+limited_defines dialect rs t at (Sited.nil a) = refl
+limited_defines dialect rs t at (Sited.pair a l parts) = run_defines dialect rs t at (limit l) parts
 
 -- a form behind a word
 abbrev pub worded : Table → ℕ → Sited → Word → Form
 worded t at parts w = elim w [ Word.defrel ↦ relation_form t at parts | Word.run ↦ limited_form t at parts | Word.run_all ↦ run_form t at no_limit parts | _ ↦ unknown at ]
 
 -- a form whose parts define no relation behind defrel
-word_defines : (rs : List Defined) (t : Table) (at : ℕ) (parts : Sited) (w : Word) → relations_in rs (relation_form t at parts) ≡ [] → relations_in rs (worded t at parts w) ≡ []
-word_defines rs t at parts Word.defrel h = h
-word_defines rs t at parts Word.run h = limited_defines rs t at parts
-word_defines rs t at parts Word.run_all h = run_defines rs t at no_limit parts
-word_defines rs t at parts w h = refl
+word_defines : (dialect : Dialect) (rs : List Defined) (t : Table) (at : ℕ) (parts : Sited) (w : Word) → relations_in dialect rs (relation_form t at parts) ≡ [] → relations_in dialect rs (worded t at parts w) ≡ []
+word_defines dialect rs t at parts Word.defrel h = h
+word_defines dialect rs t at parts Word.run h = limited_defines dialect rs t at parts
+word_defines dialect rs t at parts Word.run_all h = run_defines dialect rs t at no_limit parts
+word_defines dialect rs t at parts w h = refl
 
 -- a form without faults gives the relation that it defines
-pub form_defines : (t : Table) (ds before rs : List Defined) (d : Sited) → form_faults t ds before (form t d) ≡ [] → relation_params (relations_in rs (form t d)) ≡ defined_params (definitions_of t d)
-form_defines t ds before rs (Sited.name at s) h = refl
-form_defines t ds before rs (Sited.num at n) h = refl
-form_defines t ds before rs (Sited.bool at b) h = refl
-form_defines t ds before rs (Sited.nil at) h = refl
-form_defines t ds before rs (Sited.pair at w (Sited.name a s)) h = ap relation_params (word_defines rs t at (Sited.name a s) (head_word t w) refl)
-form_defines t ds before rs (Sited.pair at w (Sited.num a n)) h = ap relation_params (word_defines rs t at (Sited.num a n) (head_word t w) refl)
-form_defines t ds before rs (Sited.pair at w (Sited.bool a b)) h = ap relation_params (word_defines rs t at (Sited.bool a b) (head_word t w) refl)
-form_defines t ds before rs (Sited.pair at w (Sited.nil a)) h = ap relation_params (word_defines rs t at (Sited.nil a) (head_word t w) refl)
-form_defines t ds before rs (Sited.pair at w (Sited.pair a hd goals)) h = by_word (head_word t w) h
+pub form_defines : (dialect : Dialect) (t : Table) (ds before rs : List Defined) (d : Sited) → form_faults t ds before (form t d) ≡ [] → relation_params (relations_in dialect rs (form t d)) ≡ defined_params (definitions_of t d)
+form_defines dialect t ds before rs (Sited.name at s) h = refl
+form_defines dialect t ds before rs (Sited.text at n) h = refl
+form_defines dialect t ds before rs (Sited.num at n) h = refl
+form_defines dialect t ds before rs (Sited.bool at b) h = refl
+form_defines dialect t ds before rs (Sited.nil at) h = refl
+form_defines dialect t ds before rs (Sited.pair at w (Sited.name a s)) h = ap relation_params (word_defines dialect rs t at (Sited.name a s) (head_word t w) refl)
+form_defines dialect t ds before rs (Sited.pair at w (Sited.text a n)) h = ap relation_params (word_defines dialect rs t at (Sited.text a n) (head_word t w) refl)
+form_defines dialect t ds before rs (Sited.pair at w (Sited.num a n)) h = ap relation_params (word_defines dialect rs t at (Sited.num a n) (head_word t w) refl)
+form_defines dialect t ds before rs (Sited.pair at w (Sited.bool a b)) h = ap relation_params (word_defines dialect rs t at (Sited.bool a b) (head_word t w) refl)
+form_defines dialect t ds before rs (Sited.pair at w (Sited.nil a)) h = ap relation_params (word_defines dialect rs t at (Sited.nil a) (head_word t w) refl)
+form_defines dialect t ds before rs (Sited.pair at w (Sited.pair a hd goals)) h = by_word (head_word t w) h
   where
     by_goals : (b : Bool) → form_faults t ds before (if b then relation (head_name hd) (head t hd) (goal_forms t goals) else misshapen at) ≡ [] →
-        relation_params (relations_in rs (if b then relation (head_name hd) (head t hd) (goal_forms t goals) else misshapen at)) ≡ defined_params (definitions_of_head t (elements hd))
+        relation_params (relations_in dialect rs (if b then relation (head_name hd) (head t hd) (goal_forms t goals) else misshapen at)) ≡ defined_params (definitions_of_head t (elements hd))
     by_goals false e = absurd cc
     by_goals true e =
         let front = none_parts (again_faults t before (head_name hd) ++ (head t hd).faults) (goals_faults ds (within [] (head t hd).value) (goal_forms t goals)) e in
@@ -140,17 +150,17 @@ form_defines t ds before rs (Sited.pair at w (Sited.pair a hd goals)) h = by_wor
         sym (head_defines t before hd both.0 both.1)
 
     by_word : (v : Word) → form_faults t ds before (worded t at (Sited.pair a hd goals) v) ≡ [] →
-        relation_params (relations_in rs (worded t at (Sited.pair a hd goals) v)) ≡ defined_params (elim v as (λ x. List Defined) [ Word.defrel ↦ definitions_of_head t (elements hd) | _ ↦ [] ])
+        relation_params (relations_in dialect rs (worded t at (Sited.pair a hd goals) v)) ≡ defined_params (elim v as (λ x. List Defined) [ Word.defrel ↦ definitions_of_head t (elements hd) | _ ↦ [] ])
     by_word Word.defrel e = by_goals (is_proper goals) e
-    by_word Word.run e = ap relation_params (run_defines rs t at (limit hd) goals)
-    by_word Word.run_all e = ap relation_params (run_defines rs t at no_limit (Sited.pair a hd goals))
+    by_word Word.run e = ap relation_params (run_defines dialect rs t at (limit hd) goals)
+    by_word Word.run_all e = ap relation_params (run_defines dialect rs t at no_limit (Sited.pair a hd goals))
     by_word v e = refl
 
 -- so do forms in a row
-pub forms_define : (t : Table) (ds before rs : List Defined) (forms : List Sited) → forms_faults t ds before forms ≡ [] → relation_params (relations_of t rs forms) ≡ defined_params (definitions t forms)
-forms_define t ds before rs [] h = refl
-forms_define t ds before rs (d ∷ later) h =
+pub forms_define : (dialect : Dialect) (t : Table) (ds before rs : List Defined) (forms : List Sited) → forms_faults t ds before forms ≡ [] → relation_params (relations_of dialect t rs forms) ≡ defined_params (definitions t forms)
+forms_define dialect t ds before rs [] h = refl
+forms_define dialect t ds before rs (d ∷ later) h =
     let both = none_parts (form_faults t ds before (form t d)) (forms_faults t ds (before ++ definitions_of t d) later) h in
-    map-append (λ r. r.params) (relations_in rs (form t d)) (relations_of t rs later)
-    ∙ ap₂ (λ l m. l ++ m) (form_defines t ds before rs d both.0) (forms_define t ds (before ++ definitions_of t d) rs later both.1)
+    map-append (λ r. r.params) (relations_in dialect rs (form t d)) (relations_of dialect t rs later)
+    ∙ ap₂ (λ l m. l ++ m) (form_defines dialect t ds before rs d both.0) (forms_define dialect t ds (before ++ definitions_of t d) rs later both.1)
     ∙ sym (map-append (λ e. e.params) (definitions_of t d) (definitions t later))

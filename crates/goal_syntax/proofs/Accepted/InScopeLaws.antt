@@ -7,12 +7,14 @@ use Rattle.std.proofs.lemmas.Grind.{flat_map-append}
 use Rattle.std.proofs.lemmas.List.{length-map}
 use Rattle.kan_terms.specs.Tree.{Tree, leaves}
 use Rattle.kan_model.specs.Programs.Goals.{Goal}
+use Rattle.kan_grammar.specs.declared.dialect.Dialect.{Dialect}
+use Rattle.kan_grammar.specs.declared.dialect.Dialect.TheVariants.{Book, All}
 use Rattle.kan_grammar.specs.Data.Faults.{fault}
 use Rattle.kan_model.specs.Programs.Scope.{all_below, in_scope}
 use Rattle.kan_grammar.specs.Texts.TermForms.{Use, variable, misshapen, TermForm}
 use Rattle.kan_grammar.specs.Texts.GoalForms.{GoalForm, GoalForms, none, more}
 use Rattle.kan_grammar.specs.Texts.TopForms.{Defined}
-use Rattle.kan_grammar.specs.Texts.Resolved.{Names, slot_of, is_named, or_else, leaf_in, template_in, arity, conjunction, disjunction, within, goal_in, goals_in}
+use Rattle.kan_grammar.specs.Texts.Resolved.{Names, slot_of, is_named, or_else, leaf_in, template_in, arity, conjunction, disjunction, suspended_in, within, goal_in, goals_in}
 use Rattle.kan_grammar.specs.Texts.TextFaults.{unless, use_faults, term_faults, call_faults, goal_faults, goals_faults}
 
 -- where nothing stands in a list of two parts, nothing stands in them
@@ -47,6 +49,7 @@ use_below ns (misshapen at) h = absurd cc
 pub term_below : (ns : Names) (u : TermForm) → term_faults ns u ≡ [] → all_below (length ns) (template_in ns u) ≡ true
 term_below ns (Tree.leaf u) h = use_below ns u (none_parts (use_faults ns u) [] h).0
 term_below ns (Tree.sym s) h = refl
+term_below ns (Tree.str s) h = refl
 term_below ns (Tree.num n) h = refl
 term_below ns (Tree.truth b) h = refl
 term_below ns Tree.nil h = refl
@@ -87,26 +90,36 @@ disjunction_in_scope n (g ∷ i ∷ gs) h =
 pub within_length : (ns : Names) (names : List ℕ) → length (within ns names) ≡ length ns + length names
 within_length ns names = length-append ns (map (λ s. Some s) names) ∙ ap (λ n. length ns + n) (length-map names (λ s. Some s))
 
+-- a goal that suspends is in scope where it is
+pub suspended_in_scope : (dialect : Dialect) (n : ℕ) (g : Goal) → in_scope n g ≡ true → in_scope n (suspended_in dialect g) ≡ true
+suspended_in_scope Book n g h = h
+suspended_in_scope All n g h = h
+
 -- goals without faults
 mutual
-  pub goal_below : (ds : List Defined) (ns : Names) (g : GoalForm) → goal_faults ds ns g ≡ [] → in_scope (length ns) (goal_in ds ns g) ≡ true
-  goal_below ds ns GoalForm.succeed h = refl
-  goal_below ds ns GoalForm.fail h = refl
-  goal_below ds ns (GoalForm.same u v) h = two_below ns u v h
-  goal_below ds ns (GoalForm.differ u v) h = two_below ns u v h
-  goal_below ds ns (GoalForm.symbol u) h = term_below ns u h
-  goal_below ds ns (GoalForm.number u) h = term_below ns u h
-  goal_below ds ns (GoalForm.absent tag u) h = term_below ns u (none_parts tag.faults (term_faults ns u) h).1
-  goal_below ds ns (GoalForm.fresh b gs) h =
-      let inner = conjunction_in_scope (length (within ns b.value)) (goals_in ds (within ns b.value) gs) (goals_below ds (within ns b.value) gs (none_parts b.faults (goals_faults ds (within ns b.value) gs) h).1) in
-      ap (λ n. in_scope n (conjunction (goals_in ds (within ns b.value) gs))) (sym (within_length ns b.value)) ∙ inner
-  goal_below ds ns (GoalForm.all_of gs) h = conjunction_in_scope (length ns) (goals_in ds ns gs) (goals_below ds ns gs h)
-  goal_below ds ns (GoalForm.one_of gs) h = disjunction_in_scope (length ns) (goals_in ds ns gs) (goals_below ds ns gs h)
-  goal_below ds ns (GoalForm.call at s args) h = terms_below ns args (none_parts (call_faults (arity ds s) at (length args)) (flat_map (term_faults ns) args) h).1
-  goal_below ds ns (GoalForm.misshapen at) h = absurd cc
+  pub goal_below : (dialect : Dialect) (ds : List Defined) (ns : Names) (g : GoalForm) → goal_faults ds ns g ≡ [] → in_scope (length ns) (goal_in dialect ds ns g) ≡ true
+  goal_below dialect ds ns GoalForm.succeed h = refl
+  goal_below dialect ds ns GoalForm.fail h = refl
+  goal_below dialect ds ns (GoalForm.same u v) h = two_below ns u v h
+  goal_below dialect ds ns (GoalForm.differ u v) h = two_below ns u v h
+  goal_below dialect ds ns (GoalForm.symbol u) h = term_below ns u h
+  goal_below dialect ds ns (GoalForm.number u) h = term_below ns u h
+  goal_below dialect ds ns (GoalForm.text u) h = term_below ns u h
+  goal_below dialect ds ns (GoalForm.absent tag u) h = term_below ns u (none_parts tag.faults (term_faults ns u) h).1
+  goal_below dialect ds ns (GoalForm.fresh b gs) h =
+      let bound = within ns b.value in
+      let goals = goals_in dialect ds bound gs in
+      let inner = conjunction_in_scope (length bound) goals (goals_below dialect ds bound gs (none_parts b.faults (goals_faults ds bound gs) h).1) in
+      suspended_in_scope dialect (length ns) (Goal.fresh (length b.value) (conjunction goals)) (ap (λ n. in_scope n (conjunction goals)) (sym (within_length ns b.value)) ∙ inner)
+  goal_below dialect ds ns (GoalForm.all_of gs) h = conjunction_in_scope (length ns) (goals_in dialect ds ns gs) (goals_below dialect ds ns gs h)
+  goal_below dialect ds ns (GoalForm.one_of gs) h = disjunction_in_scope (length ns) (goals_in dialect ds ns gs) (goals_below dialect ds ns gs h)
+  goal_below dialect ds ns (GoalForm.clauses gs) h =
+      suspended_in_scope dialect (length ns) (disjunction (goals_in dialect ds ns gs)) (disjunction_in_scope (length ns) (goals_in dialect ds ns gs) (goals_below dialect ds ns gs h))
+  goal_below dialect ds ns (GoalForm.call at s args) h = terms_below ns args (none_parts (call_faults (arity ds s) at (length args)) (flat_map (term_faults ns) args) h).1
+  goal_below dialect ds ns (GoalForm.misshapen at) h = absurd cc
 
-  pub goals_below : (ds : List Defined) (ns : Names) (gs : GoalForms) → goals_faults ds ns gs ≡ [] → list_all (in_scope (length ns)) (goals_in ds ns gs) ≡ true
-  goals_below ds ns none h = refl
-  goals_below ds ns (more g gs) h =
+  pub goals_below : (dialect : Dialect) (ds : List Defined) (ns : Names) (gs : GoalForms) → goals_faults ds ns gs ≡ [] → list_all (in_scope (length ns)) (goals_in dialect ds ns gs) ≡ true
+  goals_below dialect ds ns none h = refl
+  goals_below dialect ds ns (more g gs) h =
       let both = none_parts (goal_faults ds ns g) (goals_faults ds ns gs) h in
-      and_from (in_scope (length ns) (goal_in ds ns g)) (list_all (in_scope (length ns)) (goals_in ds ns gs)) (goal_below ds ns g both.0) (goals_below ds ns gs both.1)
+      and_from (in_scope (length ns) (goal_in dialect ds ns g)) (list_all (in_scope (length ns)) (goals_in dialect ds ns gs)) (goal_below dialect ds ns g both.0) (goals_below dialect ds ns gs both.1)

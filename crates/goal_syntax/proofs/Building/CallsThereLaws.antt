@@ -6,14 +6,17 @@ use Rattle.std.proofs.lemmas.List.Folds.{list_all-append}
 use Rattle.kan_terms.specs.Table.{Table}
 use Rattle.kan_model.specs.Programs.Goals.{Goal}
 use Rattle.kan_model.specs.Programs.Scope.{is_low}
+use Rattle.kan_grammar.specs.declared.dialect.Dialect.{Dialect}
+use Rattle.kan_grammar.specs.declared.dialect.Dialect.TheVariants.{Book, All}
 use Rattle.kan_grammar.specs.Texts.Sited.{Sited}
 use Rattle.kan_grammar.specs.Texts.Binders.{binder}
 use Rattle.kan_grammar.specs.Texts.ProgramText.{relations_in, relations_of, queries_in, queries_of}
-use Rattle.kan_grammar.specs.Texts.Resolved.{Names, conjunction, goals_in, within}
+use Rattle.kan_grammar.specs.Texts.Resolved.{Names, conjunction, goals_in, suspended_in, within}
 use Rattle.kan_grammar.specs.Texts.GoalForms.{GoalForms}
 use Rattle.kan_model.specs.Programs.Tables.{RelationEntry, Tables, templates_of, with_relation}
 use Rattle.kan_grammar.specs.Texts.TopForms.{Defined, form}
-use Rattle.goal_syntax.specs.Building.FormsBuilt.{asked_equation, asked_list}
+use Rattle.goal_syntax.specs.Building.Equations.{is_equational}
+use Rattle.goal_syntax.specs.Building.FormsBuilt.{asked_equation, asked_fresh}
 use Rattle.goal_syntax.specs.Building.CallsThere.{calls_named, bodies_named, queries_named, all_named, are_there, KeepsClosed}
 use Rattle.goal_syntax.specs.Building.LowTemplates.{KeepsLow}
 use Rattle.goal_forms.specs.Parts.{site_at}
@@ -78,41 +81,41 @@ list_closed ds t place names goals ts us vs ws bound low same kept terms called 
 }
 
 -- what the first of some forms give, and the next one
-bodies_next : (t : Table) (rules : List Defined) (ds : List Sited) (forms : List ℕ) (i : ℕ) (rows : List RelationEntry) → i < length forms →
-    bodies_named (relations_of t rules (map (site_at ds) (take (i + 1) forms))) rows
-    ≡ (bodies_named (relations_of t rules (map (site_at ds) (take i forms))) rows && bodies_named (relations_in rules (form t (site_at ds (get_or forms i 0)))) rows)
-bodies_next t rules ds forms i rows here =
-    ap (λ rs. bodies_named rs rows) (flat_next (λ d. relations_in rules (form t d)) ds forms i here)
-    ∙ list_all-append (λ r. calls_named rows r.body) (relations_of t rules (map (site_at ds) (take i forms))) (relations_in rules (form t (site_at ds (get_or forms i 0))))
+bodies_next : (dialect : Dialect) (t : Table) (rules : List Defined) (ds : List Sited) (forms : List ℕ) (i : ℕ) (rows : List RelationEntry) → i < length forms →
+    bodies_named (relations_of dialect t rules (map (site_at ds) (take (i + 1) forms))) rows
+    ≡ (bodies_named (relations_of dialect t rules (map (site_at ds) (take i forms))) rows && bodies_named (relations_in dialect rules (form t (site_at ds (get_or forms i 0)))) rows)
+bodies_next dialect t rules ds forms i rows here =
+    ap (λ rs. bodies_named rs rows) (flat_next (λ d. relations_in dialect rules (form t d)) ds forms i here)
+    ∙ list_all-append (λ r. calls_named rows r.body) (relations_of dialect t rules (map (site_at ds) (take i forms))) (relations_in dialect rules (form t (site_at ds (get_or forms i 0))))
 
-queries_next : (t : Table) (rules : List Defined) (ds : List Sited) (forms : List ℕ) (i : ℕ) (rows : List RelationEntry) → i < length forms →
-    queries_named (queries_of t rules (map (site_at ds) (take (i + 1) forms))) rows
-    ≡ (queries_named (queries_of t rules (map (site_at ds) (take i forms))) rows && queries_named (queries_in rules (form t (site_at ds (get_or forms i 0)))) rows)
-queries_next t rules ds forms i rows here =
-    ap (λ qs. queries_named qs rows) (flat_next (λ d. queries_in rules (form t d)) ds forms i here)
-    ∙ list_all-append (λ q. calls_named rows q.goal) (queries_of t rules (map (site_at ds) (take i forms))) (queries_in rules (form t (site_at ds (get_or forms i 0))))
+queries_next : (dialect : Dialect) (t : Table) (rules : List Defined) (ds : List Sited) (forms : List ℕ) (i : ℕ) (rows : List RelationEntry) → i < length forms →
+    queries_named (queries_of dialect t rules (map (site_at ds) (take (i + 1) forms))) rows
+    ≡ (queries_named (queries_of dialect t rules (map (site_at ds) (take i forms))) rows && queries_named (queries_in dialect rules (form t (site_at ds (get_or forms i 0)))) rows)
+queries_next dialect t rules ds forms i rows here =
+    ap (λ qs. queries_named qs rows) (flat_next (λ d. queries_in dialect rules (form t d)) ds forms i here)
+    ∙ list_all-append (λ q. calls_named rows q.goal) (queries_of dialect t rules (map (site_at ds) (take i forms))) (queries_in dialect rules (form t (site_at ds (get_or forms i 0))))
 
-pub library_closed : (t : Table) (rules : List Defined) (ds : List Sited) (forms : List ℕ) (i : ℕ) (ts us vs : Tables) → i < length forms →
-    KeepsClosed ds ts us (bodies_named (relations_of t rules (map (site_at ds) (take i forms)))) → KeepsClosed ds us vs (bodies_named (relations_in rules (form t (site_at ds (get_or forms i 0))))) →
-    KeepsClosed ds ts vs (bodies_named (relations_of t rules (map (site_at ds) (take (i + 1) forms))))
-library_closed t rules ds forms i ts us vs here before next =
-    let first = bodies_named (relations_of t rules (map (site_at ds) (take i forms))) in
-    let second = bodies_named (relations_in rules (form t (site_at ds (get_or forms i 0)))) in
-    closed_as ds ts vs (λ rows. first rows && second rows) (bodies_named (relations_of t rules (map (site_at ds) (take (i + 1) forms)))) (λ rows. sym (bodies_next t rules ds forms i rows here))
+pub library_closed : (dialect : Dialect) (t : Table) (rules : List Defined) (ds : List Sited) (forms : List ℕ) (i : ℕ) (ts us vs : Tables) → i < length forms →
+    KeepsClosed ds ts us (bodies_named (relations_of dialect t rules (map (site_at ds) (take i forms)))) → KeepsClosed ds us vs (bodies_named (relations_in dialect rules (form t (site_at ds (get_or forms i 0))))) →
+    KeepsClosed ds ts vs (bodies_named (relations_of dialect t rules (map (site_at ds) (take (i + 1) forms))))
+library_closed dialect t rules ds forms i ts us vs here before next =
+    let first = bodies_named (relations_of dialect t rules (map (site_at ds) (take i forms))) in
+    let second = bodies_named (relations_in dialect rules (form t (site_at ds (get_or forms i 0)))) in
+    closed_as ds ts vs (λ rows. first rows && second rows) (bodies_named (relations_of dialect t rules (map (site_at ds) (take (i + 1) forms)))) (λ rows. sym (bodies_next dialect t rules ds forms i rows here))
     (closed_on ds ts us vs first second before next)
 
-pub text_closed : (t : Table) (rules : List Defined) (ds : List Sited) (forms : List ℕ) (i : ℕ) (ts us vs : Tables) → i < length forms →
-    KeepsClosed ds ts us (all_named (relations_of t rules (map (site_at ds) (take i forms))) (queries_of t rules (map (site_at ds) (take i forms)))) →
-    KeepsClosed ds us vs (all_named (relations_in rules (form t (site_at ds (get_or forms i 0)))) (queries_in rules (form t (site_at ds (get_or forms i 0))))) →
-    KeepsClosed ds ts vs (all_named (relations_of t rules (map (site_at ds) (take (i + 1) forms))) (queries_of t rules (map (site_at ds) (take (i + 1) forms))))
-text_closed t rules ds forms i ts us vs here before next =
-    let r1 = relations_of t rules (map (site_at ds) (take i forms)) in
-    let q1 = queries_of t rules (map (site_at ds) (take i forms)) in
-    let r2 = relations_in rules (form t (site_at ds (get_or forms i 0))) in
-    let q2 = queries_in rules (form t (site_at ds (get_or forms i 0))) in
-    closed_as ds ts vs (λ rows. all_named r1 q1 rows && all_named r2 q2 rows) (all_named (relations_of t rules (map (site_at ds) (take (i + 1) forms))) (queries_of t rules (map (site_at ds) (take (i + 1) forms))))
+pub text_closed : (dialect : Dialect) (t : Table) (rules : List Defined) (ds : List Sited) (forms : List ℕ) (i : ℕ) (ts us vs : Tables) → i < length forms →
+    KeepsClosed ds ts us (all_named (relations_of dialect t rules (map (site_at ds) (take i forms))) (queries_of dialect t rules (map (site_at ds) (take i forms)))) →
+    KeepsClosed ds us vs (all_named (relations_in dialect rules (form t (site_at ds (get_or forms i 0)))) (queries_in dialect rules (form t (site_at ds (get_or forms i 0))))) →
+    KeepsClosed ds ts vs (all_named (relations_of dialect t rules (map (site_at ds) (take (i + 1) forms))) (queries_of dialect t rules (map (site_at ds) (take (i + 1) forms))))
+text_closed dialect t rules ds forms i ts us vs here before next =
+    let r1 = relations_of dialect t rules (map (site_at ds) (take i forms)) in
+    let q1 = queries_of dialect t rules (map (site_at ds) (take i forms)) in
+    let r2 = relations_in dialect rules (form t (site_at ds (get_or forms i 0))) in
+    let q2 = queries_in dialect rules (form t (site_at ds (get_or forms i 0))) in
+    closed_as ds ts vs (λ rows. all_named r1 q1 rows && all_named r2 q2 rows) (all_named (relations_of dialect t rules (map (site_at ds) (take (i + 1) forms))) (queries_of dialect t rules (map (site_at ds) (take (i + 1) forms))))
     (λ rows. and_four true (bodies_named r1 rows) (queries_named q1 rows) (bodies_named r2 rows) (queries_named q2 rows)
-    ∙ sym (ap₂ (λ x y. x && y) (bodies_next t rules ds forms i rows here) (queries_next t rules ds forms i rows here)))
+    ∙ sym (ap₂ (λ x y. x && y) (bodies_next dialect t rules ds forms i rows here) (queries_next dialect t rules ds forms i rows here)))
     (closed_on ds ts us vs (all_named r1 q1) (all_named r2 q2) before next)
 
 -- an equation between templates adds no call
@@ -128,13 +131,30 @@ joined_closed ds ts us vs p low called terms joined = record {
 }
 
 -- the goal of a run over a list of names, where those are in scope
-pub run_closed : (ds : List Sited) (t : Table) (place : ℕ) (rules : List Defined) (gs : GoalForms) (names : List ℕ) (start scope : Names) (ts us vs ws : Tables) →
+pub run_closed : (dialect : Dialect) (ds : List Sited) (t : Table) (place : ℕ) (rules : List Defined) (gs : GoalForms) (names : List ℕ) (start scope : Names) (ts us vs ws : Tables) →
     start ≡ None ∷ [] → scope ≡ within start names → names ≡ (binder t (site_at ds place)).value →
     (length names ≤ 2048 → list_all is_low (templates_of ts.terms) ≡ true → list_all is_low (templates_of us.terms) ≡ true) → ((rows : List RelationEntry) → are_there rows us.goals ≡ are_there rows ts.goals) →
-    KeepsClosed ds us vs (λ rows. calls_named rows (conjunction (goals_in rules scope gs))) → ws.terms ≡ vs.terms → ((rows : List RelationEntry) → are_there rows ws.goals ≡ (are_there rows vs.goals && true)) →
-    KeepsClosed ds ts ws (λ rows. calls_named rows (asked_list rules (binder t (site_at ds place)).value gs))
-run_closed ds t place rules gs names start scope ts us vs ws began scoped bound low same kept terms called =
+    KeepsClosed ds us vs (λ rows. calls_named rows (conjunction (goals_in dialect rules scope gs))) → ws.terms ≡ vs.terms → ((rows : List RelationEntry) → are_there rows ws.goals ≡ (are_there rows vs.goals && true)) →
+    KeepsClosed ds ts ws (λ rows. calls_named rows (asked_fresh dialect rules (binder t (site_at ds place)).value gs))
+run_closed dialect ds t place rules gs names start scope ts us vs ws began scoped bound low same kept terms called =
     let value = (binder t (site_at ds place)).value in
-    closed_as ds ts ws (λ rows. calls_named rows (conjunction (asked_equation names ∷ goals_in rules scope gs))) (λ rows. calls_named rows (asked_list rules value gs))
-    (λ rows. ap₂ (λ (n : List ℕ) (s : Names). calls_named rows (conjunction (asked_equation n ∷ goals_in rules s gs))) bound (scoped ∙ ap₂ within began bound))
-    (list_closed ds t place names (goals_in rules scope gs) ts us vs ws bound low same kept terms called)
+    closed_as ds ts ws (λ rows. calls_named rows (conjunction (asked_equation names ∷ goals_in dialect rules scope gs))) (λ rows. calls_named rows (asked_fresh dialect rules value gs))
+    (λ rows. ap₂ (λ (n : List ℕ) (s : Names). calls_named rows (conjunction (asked_equation n ∷ goals_in dialect rules s gs))) bound (scoped ∙ ap₂ within began bound))
+    (list_closed ds t place names (goals_in dialect rules scope gs) ts us vs ws bound low same kept terms called)
+
+-- a goal has the calls that it has where it suspends
+pub suspended_called : (dialect : Dialect) (rows : List RelationEntry) (g : Goal) → calls_named rows g ≡ calls_named rows (suspended_in dialect g)
+suspended_called Book rows g = refl
+suspended_called All rows g = refl
+
+pub suspended_closed : (dialect : Dialect) (ds : List Sited) (ts us vs : Tables) (g : Goal) → KeepsClosed ds ts us (λ rows. calls_named rows g) → vs.terms ≡ us.terms →
+    ((rows : List RelationEntry) → are_there rows vs.goals ≡ are_there rows us.goals) → KeepsClosed ds ts vs (λ rows. calls_named rows (suspended_in dialect g))
+suspended_closed dialect ds ts us vs g kept terms called = record {
+  low = low_on ds ts us vs kept.low (low_same ds us vs terms);
+  called = λ rows. called rows ∙ kept.called rows ∙ ap (λ b. are_there rows ts.goals && b) (suspended_called dialect rows g);
+}
+
+-- and the constraints
+pub suspended_equational : (dialect : Dialect) (g : Goal) (x y z : Bool) → y ≡ (x && is_equational g) → z ≡ y → z ≡ (x && is_equational (suspended_in dialect g))
+suspended_equational Book g x y z made same = same ∙ made
+suspended_equational All g x y z made same = same ∙ made

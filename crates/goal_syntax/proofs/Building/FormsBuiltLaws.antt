@@ -8,6 +8,7 @@ use Rattle.std.proofs.lemmas.List.Folds.{list_all-append}
 use Rattle.kan_model.specs.Programs.Goals as model
 use Rattle.kan_model.specs.Programs.Goals.{Template, Goal}
 use Rattle.kan_model.specs.Programs.Tables.{Tables, RelationEntry, goals_of, with_relation}
+use Rattle.kan_grammar.specs.declared.dialect.Dialect.{Dialect}
 use Rattle.kan_grammar.specs.Texts.GoalForms.{GoalForms}
 use Rattle.kan_grammar.specs.Texts.TopForms.{Defined}
 use Rattle.kan_grammar.specs.Texts.Resolved.{conjunction, goals_in, within}
@@ -67,18 +68,18 @@ relation_added us r g qs rs asked made means = record {
   goals_there = means.goals_there;
 }
 
-abbrev relation_from : List Defined → GoalForms → ℕ → List ℕ → model.Relation
-relation_from ds gs k names = record { params = k; body = conjunction (goals_in ds (within [] names) gs) }
+abbrev relation_from : Dialect → List Defined → GoalForms → ℕ → List ℕ → model.Relation
+relation_from dialect ds gs k names = record { params = k; body = conjunction (goals_in dialect ds (within [] names) gs) }
 
-pub relation_means : (ts us vs : Tables) (ds : List Defined) (given bound params : List ℕ) (gs : GoalForms) (r : RelationEntry) → given ≡ bound → bound ≡ params → r.params ≡ length bound →
-    HasGoal us r.body (conjunction (goals_in ds (within [] given) gs)) → Grows ts us → vs ≡ with_relation us r →
-    (qs : List Query) (rs : List model.Relation) (asked : List model.Query) → Means ts qs rs asked → Means vs qs (rs ++ relation_meant ds params gs ∷ []) asked
-relation_means ts us vs ds given bound params gs r shown bounds counted made grows added qs rs asked means =
-    let all : Means (with_relation us r) qs (rs ++ relation_from ds gs r.params given ∷ []) asked =
+pub relation_means : (dialect : Dialect) (ts us vs : Tables) (ds : List Defined) (given bound params : List ℕ) (gs : GoalForms) (r : RelationEntry) → given ≡ bound → bound ≡ params → r.params ≡ length bound →
+    HasGoal us r.body (conjunction (goals_in dialect ds (within [] given) gs)) → Grows ts us → vs ≡ with_relation us r →
+    (qs : List Query) (rs : List model.Relation) (asked : List model.Query) → Means ts qs rs asked → Means vs qs (rs ++ relation_meant dialect ds params gs ∷ []) asked
+relation_means dialect ts us vs ds given bound params gs r shown bounds counted made grows added qs rs asked means =
+    let all : Means (with_relation us r) qs (rs ++ relation_from dialect ds gs r.params given ∷ []) asked =
     relation_added us r _ qs rs asked made (means_grown ts us qs rs asked means grows) in
     let names : given ≡ params = shown ∙ bounds in
     let count : r.params ≡ length params = counted ∙ ap length bounds in
-    let same : relation_from ds gs r.params given ≡ relation_meant ds params gs = ap₂ (relation_from ds gs) count names in
+    let same : relation_from dialect ds gs r.params given ≡ relation_meant dialect ds params gs = ap₂ (relation_from dialect ds gs) count names in
     rw (added, sym same) all
 
 -- one query more

@@ -145,6 +145,7 @@ terms_of_pair ns t (Sited.pair at x y) a d e =
     let both : (a, d) ≡ (x, y) = ap (λ o. unwrap_or o (a, d)) e in
     ap₂ (λ b ds. template_in ns (term_form t b) ∷ map (template_in ns) (term_forms t ds)) (sym (ap (λ p. p.0) both)) (sym (ap (λ p. p.1) both))
 terms_of_pair ns t (Sited.name at s) a d e = cc
+terms_of_pair ns t (Sited.text at s) a d e = cc
 terms_of_pair ns t (Sited.num at s) a d e = cc
 terms_of_pair ns t (Sited.bool at s) a d e = cc
 terms_of_pair ns t (Sited.nil at) a d e = cc

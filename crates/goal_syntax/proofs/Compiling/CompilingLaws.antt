@@ -8,6 +8,7 @@ use Rattle.std.proofs.lemmas.Grind.{flat_map-append}
 use Rattle.std.proofs.lemmas.List.{map-append, take_all}
 use Rattle.std.proofs.lemmas.List.Folds.{list_all-append, list_all_at}
 use Rattle.kan_terms.specs.Table.{Table}
+use Rattle.kan_grammar.specs.declared.dialect.Dialect.{Dialect}
 use Rattle.kan_grammar.specs.Texts.Sited.{Sited}
 use Rattle.kan_model.specs.Programs.Goals as model
 use Rattle.kan_model.specs.Programs.Goals.{Goal}
@@ -17,7 +18,7 @@ use Rattle.kan_model.specs.Programs.Scope.{is_narrow, is_small}
 use Rattle.kan_model.specs.Programs.Nodes.{goal_place}
 use Rattle.kan_model.specs.Programs.Closed as programs
 use Rattle.kan_model.specs.declared.program.Program.{Program}
-use Rattle.kan_model.specs.Programs.Tables.{Tables, goals_of, nothing_open}
+use Rattle.kan_model.specs.Programs.Tables.{Tables, goals_of, are_closed}
 use Rattle.kan_grammar.specs.Texts.TopForms.{Defined, form, definitions, definitions_of}
 use Rattle.kan_model.specs.declared.nodes.Query.{Query}
 use Rattle.goal_syntax.specs.Building.FormsBuilt.{Means, query_made, relation_made}
@@ -56,54 +57,54 @@ and_three false y z = refl
 and_three true y z = refl
 
 -- a form of a library adds its relation
-pub library_means : (t : Table) (rules : List Defined) (ds : List Sited) (forms : List ℕ) (i : ℕ) (ts us vs : Tables) → i < length forms →
-    ((qs : List Query) → (rs : List model.Relation) → (asked : List model.Query) → Means ts qs rs asked → Means us qs (rs ++ relations_of t rules (map (site_at ds) (take i forms))) asked) →
-    ((qs : List Query) → (rs : List model.Relation) → (asked : List model.Query) → Means us qs rs asked → Means vs qs (rs ++ relations_in rules (form t (site_at ds (get_or forms i 0)))) asked) →
-    (qs : List Query) (rs : List model.Relation) (asked : List model.Query) → Means ts qs rs asked → Means vs qs (rs ++ relations_of t rules (map (site_at ds) (take (i + 1) forms))) asked
-library_means t rules ds forms i ts us vs here before step qs rs asked means =
-    let so_far : List model.Relation = relations_of t rules (map (site_at ds) (take i forms)) in
-    let all : rs ++ relations_of t rules (map (site_at ds) (take (i + 1) forms)) ≡ (rs ++ so_far) ++ relations_in rules (form t (site_at ds (get_or forms i 0))) =
-    ap (λ l. rs ++ l) (flat_next (λ d. relations_in rules (form t d)) ds forms i here) ∙ sym (append_assoc rs so_far (relations_in rules (form t (site_at ds (get_or forms i 0))))) in
+pub library_means : (dialect : Dialect) (t : Table) (rules : List Defined) (ds : List Sited) (forms : List ℕ) (i : ℕ) (ts us vs : Tables) → i < length forms →
+    ((qs : List Query) → (rs : List model.Relation) → (asked : List model.Query) → Means ts qs rs asked → Means us qs (rs ++ relations_of dialect t rules (map (site_at ds) (take i forms))) asked) →
+    ((qs : List Query) → (rs : List model.Relation) → (asked : List model.Query) → Means us qs rs asked → Means vs qs (rs ++ relations_in dialect rules (form t (site_at ds (get_or forms i 0)))) asked) →
+    (qs : List Query) (rs : List model.Relation) (asked : List model.Query) → Means ts qs rs asked → Means vs qs (rs ++ relations_of dialect t rules (map (site_at ds) (take (i + 1) forms))) asked
+library_means dialect t rules ds forms i ts us vs here before step qs rs asked means =
+    let so_far : List model.Relation = relations_of dialect t rules (map (site_at ds) (take i forms)) in
+    let all : rs ++ relations_of dialect t rules (map (site_at ds) (take (i + 1) forms)) ≡ (rs ++ so_far) ++ relations_in dialect rules (form t (site_at ds (get_or forms i 0))) =
+    ap (λ l. rs ++ l) (flat_next (λ d. relations_in dialect rules (form t d)) ds forms i here) ∙ sym (append_assoc rs so_far (relations_in dialect rules (form t (site_at ds (get_or forms i 0))))) in
     rw all (step qs (rs ++ so_far) asked (before qs rs asked means))
 
-pub library_equational : (t : Table) (rules : List Defined) (ds : List Sited) (forms : List ℕ) (i : ℕ) (x y z : Bool) → i < length forms →
-    y ≡ (x && list_all is_equational_body (relations_of t rules (map (site_at ds) (take i forms)))) → z ≡ (y && list_all is_equational_body (relations_in rules (form t (site_at ds (get_or forms i 0))))) →
-    z ≡ (x && list_all is_equational_body (relations_of t rules (map (site_at ds) (take (i + 1) forms))))
-library_equational t rules ds forms i x y z here before step =
-    let so_far : List model.Relation = relations_of t rules (map (site_at ds) (take i forms)) in
-    let next : List model.Relation = relations_in rules (form t (site_at ds (get_or forms i 0))) in
+pub library_equational : (dialect : Dialect) (t : Table) (rules : List Defined) (ds : List Sited) (forms : List ℕ) (i : ℕ) (x y z : Bool) → i < length forms →
+    y ≡ (x && list_all is_equational_body (relations_of dialect t rules (map (site_at ds) (take i forms)))) → z ≡ (y && list_all is_equational_body (relations_in dialect rules (form t (site_at ds (get_or forms i 0))))) →
+    z ≡ (x && list_all is_equational_body (relations_of dialect t rules (map (site_at ds) (take (i + 1) forms))))
+library_equational dialect t rules ds forms i x y z here before step =
+    let so_far : List model.Relation = relations_of dialect t rules (map (site_at ds) (take i forms)) in
+    let next : List model.Relation = relations_in dialect rules (form t (site_at ds (get_or forms i 0))) in
     step ∙ ap (λ b. b && list_all is_equational_body next) before ∙ and_three x (list_all is_equational_body so_far) (list_all is_equational_body next)
-    ∙ ap (λ b. x && b) (sym (ap (list_all is_equational_body) (flat_next (λ d. relations_in rules (form t d)) ds forms i here) ∙ list_all-append is_equational_body so_far next))
+    ∙ ap (λ b. x && b) (sym (ap (list_all is_equational_body) (flat_next (λ d. relations_in dialect rules (form t d)) ds forms i here) ∙ list_all-append is_equational_body so_far next))
 
 -- a form of a text adds its relation or its run
-pub text_means : (t : Table) (rules : List Defined) (ds : List Sited) (forms : List ℕ) (i : ℕ) (ts us vs : Tables) (old qs new : List Query) → i < length forms →
-    ((rs : List model.Relation) → (asked : List model.Query) → Means ts old rs asked → Means us qs (rs ++ relations_of t rules (map (site_at ds) (take i forms))) (asked ++ queries_of t rules (map (site_at ds) (take i forms)))) →
-    ((rs : List model.Relation) → (asked : List model.Query) → Means us qs rs asked → Means vs new (rs ++ relations_in rules (form t (site_at ds (get_or forms i 0)))) (asked ++ queries_in rules (form t (site_at ds (get_or forms i 0))))) →
+pub text_means : (dialect : Dialect) (t : Table) (rules : List Defined) (ds : List Sited) (forms : List ℕ) (i : ℕ) (ts us vs : Tables) (old qs new : List Query) → i < length forms →
+    ((rs : List model.Relation) → (asked : List model.Query) → Means ts old rs asked → Means us qs (rs ++ relations_of dialect t rules (map (site_at ds) (take i forms))) (asked ++ queries_of dialect t rules (map (site_at ds) (take i forms)))) →
+    ((rs : List model.Relation) → (asked : List model.Query) → Means us qs rs asked → Means vs new (rs ++ relations_in dialect rules (form t (site_at ds (get_or forms i 0)))) (asked ++ queries_in dialect rules (form t (site_at ds (get_or forms i 0))))) →
     (rs : List model.Relation) (asked : List model.Query) → Means ts old rs asked →
-    Means vs new (rs ++ relations_of t rules (map (site_at ds) (take (i + 1) forms))) (asked ++ queries_of t rules (map (site_at ds) (take (i + 1) forms)))
-text_means t rules ds forms i ts us vs old qs new here before step rs asked means =
-    let so_far : List model.Relation = relations_of t rules (map (site_at ds) (take i forms)) in
-    let runs : List model.Query = queries_of t rules (map (site_at ds) (take i forms)) in
-    let all : rs ++ relations_of t rules (map (site_at ds) (take (i + 1) forms)) ≡ (rs ++ so_far) ++ relations_in rules (form t (site_at ds (get_or forms i 0))) =
-    ap (λ l. rs ++ l) (flat_next (λ d. relations_in rules (form t d)) ds forms i here) ∙ sym (append_assoc rs so_far (relations_in rules (form t (site_at ds (get_or forms i 0))))) in
-    let all_runs : asked ++ queries_of t rules (map (site_at ds) (take (i + 1) forms)) ≡ (asked ++ runs) ++ queries_in rules (form t (site_at ds (get_or forms i 0))) =
-    ap (λ l. asked ++ l) (flat_next (λ d. queries_in rules (form t d)) ds forms i here) ∙ sym (append_assoc asked runs (queries_in rules (form t (site_at ds (get_or forms i 0))))) in
+    Means vs new (rs ++ relations_of dialect t rules (map (site_at ds) (take (i + 1) forms))) (asked ++ queries_of dialect t rules (map (site_at ds) (take (i + 1) forms)))
+text_means dialect t rules ds forms i ts us vs old qs new here before step rs asked means =
+    let so_far : List model.Relation = relations_of dialect t rules (map (site_at ds) (take i forms)) in
+    let runs : List model.Query = queries_of dialect t rules (map (site_at ds) (take i forms)) in
+    let all : rs ++ relations_of dialect t rules (map (site_at ds) (take (i + 1) forms)) ≡ (rs ++ so_far) ++ relations_in dialect rules (form t (site_at ds (get_or forms i 0))) =
+    ap (λ l. rs ++ l) (flat_next (λ d. relations_in dialect rules (form t d)) ds forms i here) ∙ sym (append_assoc rs so_far (relations_in dialect rules (form t (site_at ds (get_or forms i 0))))) in
+    let all_runs : asked ++ queries_of dialect t rules (map (site_at ds) (take (i + 1) forms)) ≡ (asked ++ runs) ++ queries_in dialect rules (form t (site_at ds (get_or forms i 0))) =
+    ap (λ l. asked ++ l) (flat_next (λ d. queries_in dialect rules (form t d)) ds forms i here) ∙ sym (append_assoc asked runs (queries_in dialect rules (form t (site_at ds (get_or forms i 0))))) in
     rw (all, all_runs) (step (rs ++ so_far) (asked ++ runs) (before rs asked means))
 
-pub text_equational : (t : Table) (rules : List Defined) (ds : List Sited) (forms : List ℕ) (i : ℕ) (x y z : Bool) → i < length forms →
-    y ≡ (x && are_equational (relations_of t rules (map (site_at ds) (take i forms))) (queries_of t rules (map (site_at ds) (take i forms)))) →
-    z ≡ (y && are_equational (relations_in rules (form t (site_at ds (get_or forms i 0)))) (queries_in rules (form t (site_at ds (get_or forms i 0))))) →
-    z ≡ (x && are_equational (relations_of t rules (map (site_at ds) (take (i + 1) forms))) (queries_of t rules (map (site_at ds) (take (i + 1) forms))))
-text_equational t rules ds forms i x y z here before step =
-    let so_far : List model.Relation = relations_of t rules (map (site_at ds) (take i forms)) in
-    let runs : List model.Query = queries_of t rules (map (site_at ds) (take i forms)) in
-    let next : List model.Relation = relations_in rules (form t (site_at ds (get_or forms i 0))) in
-    let next_runs : List model.Query = queries_in rules (form t (site_at ds (get_or forms i 0))) in
+pub text_equational : (dialect : Dialect) (t : Table) (rules : List Defined) (ds : List Sited) (forms : List ℕ) (i : ℕ) (x y z : Bool) → i < length forms →
+    y ≡ (x && are_equational (relations_of dialect t rules (map (site_at ds) (take i forms))) (queries_of dialect t rules (map (site_at ds) (take i forms)))) →
+    z ≡ (y && are_equational (relations_in dialect rules (form t (site_at ds (get_or forms i 0)))) (queries_in dialect rules (form t (site_at ds (get_or forms i 0))))) →
+    z ≡ (x && are_equational (relations_of dialect t rules (map (site_at ds) (take (i + 1) forms))) (queries_of dialect t rules (map (site_at ds) (take (i + 1) forms))))
+text_equational dialect t rules ds forms i x y z here before step =
+    let so_far : List model.Relation = relations_of dialect t rules (map (site_at ds) (take i forms)) in
+    let runs : List model.Query = queries_of dialect t rules (map (site_at ds) (take i forms)) in
+    let next : List model.Relation = relations_in dialect rules (form t (site_at ds (get_or forms i 0))) in
+    let next_runs : List model.Query = queries_in dialect rules (form t (site_at ds (get_or forms i 0))) in
     step ∙ ap (λ b. b && are_equational next next_runs) before
     ∙ and_four x (list_all is_equational_body so_far) (list_all is_equational_query runs) (list_all is_equational_body next) (list_all is_equational_query next_runs)
     ∙ ap (λ b. x && b) (sym (ap₂ (λ p q. p && q)
-    (ap (list_all is_equational_body) (flat_next (λ d. relations_in rules (form t d)) ds forms i here) ∙ list_all-append is_equational_body so_far next)
-    (ap (list_all is_equational_query) (flat_next (λ d. queries_in rules (form t d)) ds forms i here) ∙ list_all-append is_equational_query runs next_runs)))
+    (ap (list_all is_equational_body) (flat_next (λ d. relations_in dialect rules (form t d)) ds forms i here) ∙ list_all-append is_equational_body so_far next)
+    (ap (list_all is_equational_query) (flat_next (λ d. queries_in dialect rules (form t d)) ds forms i here) ∙ list_all-append is_equational_query runs next_runs)))
 
 -- a goal that is there has the width that is noted
 found_width : (gs : List Goal) (i w : ℕ) → Some w ≡ option_map noted_width (slice_get gs i) → (i < length gs) × (w ≡ noted_width (get_or gs i Goal.fail))
@@ -138,31 +139,31 @@ pub narrow_all : (gs : List Goal) (i : ℕ) → None ≡ option_map noted_width 
 narrow_all gs i e before = sym (ap (list_all is_narrow) (sym (take_all i gs (no_width gs i e))) ∙ before)
 
 -- the program and the runs that were built of a text are those that are meant
-pub program_meant : (t : Table) (library forms : List Sited) (rules : List Defined) (start mid last : Tables) (program : Program) (none queries closed_with : List Query) →
+pub program_meant : (dialect : Dialect) (t : Table) (library forms : List Sited) (rules : List Defined) (start mid last : Tables) (program : Program) (none queries closed_with : List Query) →
     rules ≡ definitions t library ++ definitions t forms → start ≡ empty_tables → none ≡ [] →
-    ((qs : List Query) → (rs : List model.Relation) → (asked : List model.Query) → Means start qs rs asked → Means mid qs (rs ++ relations_of t rules library) asked) →
-    are_equational_entries mid.goals ≡ (are_equational_entries start.goals && list_all is_equational_body (relations_of t rules library)) →
-    ((rs : List model.Relation) → (asked : List model.Query) → Means mid none rs asked → Means last queries (rs ++ relations_of t rules forms) (asked ++ queries_of t rules forms)) →
-    are_equational_entries last.goals ≡ (are_equational_entries mid.goals && are_equational (relations_of t rules forms) (queries_of t rules forms)) →
-    programs.tables program ≡ last → closed_with ≡ queries → nothing_open last (map goal_place queries) ≡ true → is_small (programs.meaning program) ≡ true → HasRoom last →
-    IsMeant (text_meaning t library forms) program closed_with
+    ((qs : List Query) → (rs : List model.Relation) → (asked : List model.Query) → Means start qs rs asked → Means mid qs (rs ++ relations_of dialect t rules library) asked) →
+    are_equational_entries mid.goals ≡ (are_equational_entries start.goals && list_all is_equational_body (relations_of dialect t rules library)) →
+    ((rs : List model.Relation) → (asked : List model.Query) → Means mid none rs asked → Means last queries (rs ++ relations_of dialect t rules forms) (asked ++ queries_of dialect t rules forms)) →
+    are_equational_entries last.goals ≡ (are_equational_entries mid.goals && are_equational (relations_of dialect t rules forms) (queries_of dialect t rules forms)) →
+    programs.tables program ≡ last → closed_with ≡ queries → are_closed last (map goal_place queries) ≡ true → is_small (programs.meaning program) ≡ true → HasRoom last →
+    IsMeant (text_meaning dialect t library forms) program closed_with
 unfolding text_meaning
-program_meant t library forms rules start mid last program none queries closed_with split begins no_queries library_builds library_equations text_builds text_equations same given closed small room =
+program_meant dialect t library forms rules start mid last program none queries closed_with split begins no_queries library_builds library_equations text_builds text_equations same given closed small room =
     let all : rules ≡ definitions t (library ++ forms) = split ∙ sym (flat_map-append (definitions_of t) library forms) in
     let first : Means start none [] [] = rw (begins, no_queries) nothing_means in
-    let means : Means last queries (relations_of t rules library ++ relations_of t rules forms) (queries_of t rules forms) = text_builds (relations_of t rules library) [] (library_builds none [] [] first) in
-    let joined : relations_of t rules library ++ relations_of t rules forms ≡ relations_of t (definitions t (library ++ forms)) (library ++ forms) =
-    sym (flat_map-append (λ d. relations_in rules (form t d)) library forms) ∙ ap (λ ds. relations_of t ds (library ++ forms)) all in
-    let runs : queries_of t rules forms ≡ queries_of t (definitions t (library ++ forms)) forms = ap (λ ds. queries_of t ds forms) all in
+    let means : Means last queries (relations_of dialect t rules library ++ relations_of dialect t rules forms) (queries_of dialect t rules forms) = text_builds (relations_of dialect t rules library) [] (library_builds none [] [] first) in
+    let joined : relations_of dialect t rules library ++ relations_of dialect t rules forms ≡ relations_of dialect t (definitions t (library ++ forms)) (library ++ forms) =
+    sym (flat_map-append (λ d. relations_in dialect rules (form t d)) library forms) ∙ ap (λ ds. relations_of dialect t ds (library ++ forms)) all in
+    let runs : queries_of dialect t rules forms ≡ queries_of dialect t (definitions t (library ++ forms)) forms = ap (λ ds. queries_of dialect t ds forms) all in
     let begun : are_equational_entries start.goals ≡ true = ap (λ (ts : Tables). are_equational_entries ts.goals) begins in
-    let entries : are_equational_entries last.goals ≡ are_equational (relations_of t rules library ++ relations_of t rules forms) (queries_of t rules forms) =
-    text_equations ∙ ap (λ b. b && are_equational (relations_of t rules forms) (queries_of t rules forms)) (library_equations ∙ ap (λ b. b && list_all is_equational_body (relations_of t rules library)) begun)
-    ∙ sym (and_three (list_all is_equational_body (relations_of t rules library)) (list_all is_equational_body (relations_of t rules forms)) (list_all is_equational_query (queries_of t rules forms)))
-    ∙ ap (λ b. b && list_all is_equational_query (queries_of t rules forms)) (sym (list_all-append is_equational_body (relations_of t rules library) (relations_of t rules forms))) in
+    let entries : are_equational_entries last.goals ≡ are_equational (relations_of dialect t rules library ++ relations_of dialect t rules forms) (queries_of dialect t rules forms) =
+    text_equations ∙ ap (λ b. b && are_equational (relations_of dialect t rules forms) (queries_of dialect t rules forms)) (library_equations ∙ ap (λ b. b && list_all is_equational_body (relations_of dialect t rules library)) begun)
+    ∙ sym (and_three (list_all is_equational_body (relations_of dialect t rules library)) (list_all is_equational_body (relations_of dialect t rules forms)) (list_all is_equational_query (queries_of dialect t rules forms)))
+    ∙ ap (λ b. b && list_all is_equational_query (queries_of dialect t rules forms)) (sym (list_all-append is_equational_body (relations_of dialect t rules library) (relations_of dialect t rules forms))) in
     rw given (record {
       relations = ap (λ (ts : Tables). map (relation_made (goals_of ts)) ts.relations) same ∙ means.relations ∙ joined;
       queries_are = ap (λ ts. map (query_made (goals_of ts)) queries) same ∙ means.queries ∙ runs;
-      closed = ap (λ ts. nothing_open ts (map goal_place queries)) same ∙ closed;
+      closed = ap (λ ts. are_closed ts (map goal_place queries)) same ∙ closed;
       small = small;
       room = rw same room;
       equational = ap (λ (ts : Tables). are_equational_entries ts.goals) same ∙ entries ∙ ap₂ are_equational joined runs;

@@ -18,7 +18,7 @@ use Rattle.goal_forms.specs.GoalSteps.{step_goal, step_goal_size}
 use Rattle.goal_syntax.specs.Judging.GoalsLeft.{own_faults, fresh_faults, inner_faults, inner_waiting, stack_faults, stack_parts, waiting_parts}
 use Rattle.goal_forms.specs.GoalSteps.{inner_names}
 use Rattle.goal_forms.specs.declared.goal.Goal as opened
-use Rattle.goal_forms.specs.declared.goal.Goal.TheVariants.{Succeed, Fail, Same, Differ, Symbol, Number, Absent, Fresh, AllOf, OneOf, Clauses, Call, Misshapen}
+use Rattle.goal_forms.specs.declared.goal.Goal.TheVariants.{Succeed, Fail, Same, Differ, Symbol, Number, Text, Absent, Fresh, AllOf, OneOf, Clauses, Call, Misshapen}
 use Rattle.goal_syntax.specs.declared.judge_goal.Waiting.{Waiting}
 use Rattle.goal_syntax.specs.declared.judge_goal.Waiting.TheVariants as waiting
 
@@ -30,6 +30,7 @@ goal-faults rs t ds ns (Same a b) = append-nil _
 goal-faults rs t ds ns (Differ a b) = append-nil _
 goal-faults rs t ds ns (Symbol a) = append-nil _
 goal-faults rs t ds ns (Number a) = append-nil _
+goal-faults rs t ds ns (Text a) = append-nil _
 goal-faults rs t ds ns (Absent a b) = append-nil _
 goal-faults rs t ds ns (Fresh b gs) = refl
 goal-faults rs t ds ns (AllOf gs) = refl
@@ -55,6 +56,7 @@ inner-stack rs t ds ns (Same a b) ws = ap (λ l. stack_faults rs t ds ns (revers
 inner-stack rs t ds ns (Differ a b) ws = ap (λ l. stack_faults rs t ds ns (reverse l)) (append-nil ws)
 inner-stack rs t ds ns (Symbol a) ws = ap (λ l. stack_faults rs t ds ns (reverse l)) (append-nil ws)
 inner-stack rs t ds ns (Number a) ws = ap (λ l. stack_faults rs t ds ns (reverse l)) (append-nil ws)
+inner-stack rs t ds ns (Text a) ws = ap (λ l. stack_faults rs t ds ns (reverse l)) (append-nil ws)
 inner-stack rs t ds ns (Absent a b) ws = ap (λ l. stack_faults rs t ds ns (reverse l)) (append-nil ws)
 inner-stack rs t ds ns (Fresh b gs) ws =
     let bound = binder t (site_at ds b) in
@@ -76,6 +78,7 @@ inner-parts ds ns (Same a b) = refl
 inner-parts ds ns (Differ a b) = refl
 inner-parts ds ns (Symbol a) = refl
 inner-parts ds ns (Number a) = refl
+inner-parts ds ns (Text a) = refl
 inner-parts ds ns (Absent a b) = refl
 inner-parts ds ns (Fresh b gs) = omega arith
 inner-parts ds ns (AllOf gs) = omega arith
@@ -111,6 +114,7 @@ judged_parts ds ns old new g size smaller waits =
 -- a datum with two parts is a pair of them
 pub parts-is : (s a d : Sited) → Some (a, d) ≡ parts s → (at : ℕ) × (s ≡ Sited.pair at a d)
 parts-is (Sited.name at s) a d e = cc
+parts-is (Sited.text at n) a d e = cc
 parts-is (Sited.num at n) a d e = cc
 parts-is (Sited.bool at b) a d e = cc
 parts-is (Sited.nil at) a d e = cc
@@ -126,6 +130,7 @@ parts-is (Sited.pair at b c) a d e = (at, ap (λ p. Sited.pair at (left p) (righ
 
 pub goals-none : (t : Table) (s : Sited) → None ≡ parts s → goal_forms t s ≡ none
 goals-none t (Sited.name at s) e = refl
+goals-none t (Sited.text at n) e = refl
 goals-none t (Sited.num at n) e = refl
 goals-none t (Sited.bool at b) e = refl
 goals-none t (Sited.nil at) e = refl
@@ -133,6 +138,7 @@ goals-none t (Sited.pair at b c) e = cc
 
 pub clauses-none : (t : Table) (s : Sited) → None ≡ parts s → clause_forms t s ≡ none
 clauses-none t (Sited.name at s) e = refl
+clauses-none t (Sited.text at n) e = refl
 clauses-none t (Sited.num at n) e = refl
 clauses-none t (Sited.bool at b) e = refl
 clauses-none t (Sited.nil at) e = refl
@@ -140,6 +146,7 @@ clauses-none t (Sited.pair at b c) e = cc
 
 some_parts : (s : Sited) → 0 < site_size s
 some_parts (Sited.name at s) = omega arith
+some_parts (Sited.text at n) = omega arith
 some_parts (Sited.num at n) = omega arith
 some_parts (Sited.bool at b) = omega arith
 some_parts (Sited.nil at) = omega arith

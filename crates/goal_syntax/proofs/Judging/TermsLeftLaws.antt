@@ -11,7 +11,7 @@ use Rattle.goal_forms.specs.TermSteps.{task_form, task_size, step_form, step_siz
 use Rattle.goal_syntax.specs.Judging.TermsLeft.{own_uses, task_uses, later_uses, waiting_uses, waiting_size}
 use Rattle.goal_forms.specs.declared.term.Task.{Task}
 use Rattle.goal_forms.specs.declared.term.Step.{Step}
-use Rattle.goal_forms.specs.declared.term.Step.TheVariants.{Variable, Misshapen, Symbol, Number, Truth, Nil, Pair, Same}
+use Rattle.goal_forms.specs.declared.term.Step.TheVariants.{Variable, Misshapen, Symbol, Text, Number, Truth, Nil, Pair, Same}
 
 -- a task put on top comes first
 pub waiting_uses-push : (ds : List Sited) (t : Table) (tasks : List Task) (task : Task) → waiting_uses ds t (tasks ++ task ∷ []) ≡ task_uses ds t task ++ waiting_uses ds t tasks
@@ -47,6 +47,7 @@ pub step-uses : (ds : List Sited) (t : Table) (s : Step) → own_uses s ++ later
 step-uses ds t (Variable at x) = refl
 step-uses ds t (Misshapen at) = refl
 step-uses ds t (Symbol x) = refl
+step-uses ds t (Text s) = refl
 step-uses ds t (Number n) = refl
 step-uses ds t (Truth b) = refl
 step-uses ds t Nil = refl

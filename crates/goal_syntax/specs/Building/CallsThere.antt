@@ -15,6 +15,7 @@ calls_named rs Goal.fail = true
 calls_named rs (Goal.both g h) = calls_named rs g && calls_named rs h
 calls_named rs (Goal.either g h) = calls_named rs g && calls_named rs h
 calls_named rs (Goal.fresh k g) = calls_named rs g
+calls_named rs (Goal.later g) = calls_named rs g
 calls_named rs (Goal.call r args) = entry_takes (slice_get rs r) (length args)
 
 -- the same of the bodies of relations, and of the goals of runs

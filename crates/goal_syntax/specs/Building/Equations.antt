@@ -17,6 +17,7 @@ is_equational Goal.fail = true
 is_equational (Goal.both g h) = is_equational g && is_equational h
 is_equational (Goal.either g h) = is_equational g && is_equational h
 is_equational (Goal.fresh k g) = is_equational g
+is_equational (Goal.later g) = is_equational g
 is_equational (Goal.call r args) = true
 
 abbrev pub is_equational_body : Relation → Bool
@@ -34,6 +35,7 @@ abbrev pub is_equational_entry : GoalEntry → Bool
 is_equational_entry (GoalEntry.differ a b) = false
 is_equational_entry (GoalEntry.symbol a) = false
 is_equational_entry (GoalEntry.number a) = false
+is_equational_entry (GoalEntry.text a) = false
 is_equational_entry (GoalEntry.absent tag a) = false
 is_equational_entry e = true
 

@@ -1,12 +1,15 @@
 -- What the relations of tables and the queries that are built of a text mean.
-use Rattle.std.specs.Prelude.{◌≡◌, ℕ, true, nat_lt, List, [], ◌∷◌, Option, Some, None, map, length}
-use Rattle.std.specs.List.{list_all}
+use Rattle.std.specs.Prelude.{◌≡◌, ℕ, true, nat_lt, List, [], ◌∷◌, ◌++◌, Option, Some, None, map, length}
+use Rattle.std.specs.List.{list_all, flat_map}
 use Rattle.kan_terms.specs.Tree.{leaf}
 use Rattle.kan_model.specs.Programs.Goals as model
+use Rattle.kan_grammar.specs.declared.dialect.Dialect.{Dialect}
+use Rattle.kan_terms.specs.Table.{Table}
+use Rattle.kan_grammar.specs.Texts.Sited.{Sited}
 use Rattle.kan_grammar.specs.Texts.GoalForms.{GoalForms}
-use Rattle.kan_grammar.specs.Texts.TopForms.{Defined, NameAt, name_at}
+use Rattle.kan_grammar.specs.Texts.TopForms.{Defined, NameAt, name_at, Form, relation, form}
 use Rattle.kan_grammar.specs.Texts.ProgramText.{slot_list}
-use Rattle.kan_grammar.specs.Texts.Resolved.{conjunction, goals_in, within}
+use Rattle.kan_grammar.specs.Texts.Resolved.{conjunction, goals_in, suspended_in, within}
 use Rattle.kan_model.specs.Programs.Tables.{Tables, RelationEntry, goal_at, goals_of}
 use Rattle.kan_model.specs.declared.nodes.Query.{Query}
 
@@ -14,9 +17,12 @@ use Rattle.kan_model.specs.declared.nodes.Query.{Query}
 abbrev pub asked_equation : List ℕ → model.Goal
 asked_equation names = model.Goal.prim (model.Primitive.same (slot_list 1 names) (leaf 0))
 
--- the goal of a run over a list of names
-abbrev pub asked_list : List Defined → List ℕ → GoalForms → model.Goal
-asked_list rs names gs = model.Goal.fresh (length names) (conjunction (asked_equation names ∷ goals_in rs (within (None ∷ []) names) gs))
+-- the goal of a run over a list of names, and before it suspends
+abbrev pub asked_fresh : Dialect → List Defined → List ℕ → GoalForms → model.Goal
+asked_fresh dialect rs names gs = model.Goal.fresh (length names) (conjunction (asked_equation names ∷ goals_in dialect rs (within (None ∷ []) names) gs))
+
+abbrev pub asked_list : Dialect → List Defined → List ℕ → GoalForms → model.Goal
+asked_list dialect rs names gs = suspended_in dialect (asked_fresh dialect rs names gs)
 
 -- the relation of an entry, and the run of a query, with the goals of a table
 abbrev pub relation_made : List model.Goal → RelationEntry → model.Relation
@@ -33,8 +39,8 @@ pub record Means (ts : Tables) (qs : List Query) (rs : List model.Relation) (ask
   pub goals_there : list_all (λ q. nat_lt q.goal (length ts.goals)) qs ≡ true
 
 -- the relation of these parameters and goals, and the query for a goal
-abbrev pub relation_meant : List Defined → List ℕ → GoalForms → model.Relation
-relation_meant rs params gs = record { params = length params; body = conjunction (goals_in rs (within [] params) gs) }
+abbrev pub relation_meant : Dialect → List Defined → List ℕ → GoalForms → model.Relation
+relation_meant dialect rs params gs = record { params = length params; body = conjunction (goals_in dialect rs (within [] params) gs) }
 
 abbrev pub query_asked : ℕ → Option ℕ → Query
 query_asked goal limit = record { goal = goal; limit = limit }
@@ -43,3 +49,20 @@ query_asked goal limit = record { goal = goal; limit = limit }
 abbrev pub name_symbol : Option NameAt → ℕ
 name_symbol None = 0
 name_symbol (Some (name_at at s)) = s
+
+-- the name of the relation of a top form: the symbol at the head of a defrel
+abbrev pub names_in : Form → List ℕ
+names_in (relation name params gs) = name_symbol name ∷ []
+names_in f = []
+
+-- the names of the relations of some top forms, in their order
+abbrev pub relation_names : Table → List Sited → List ℕ
+relation_names t forms = flat_map (λ d. names_in (form t d)) forms
+
+-- the names of the relations of tables
+abbrev pub entry_names : Tables → List ℕ
+entry_names ts = map (λ r. r.name) ts.relations
+
+-- relations of these names came to tables, behind those that were there
+abbrev pub AddsNames : Tables → Tables → List ℕ → Type 0
+AddsNames ts us names = entry_names us ≡ entry_names ts ++ names

@@ -1,6 +1,7 @@
 -- The goals that were built, and the entries that stand for goals.
 use Rattle.std.specs.Prelude.{◌≡◌, ℕ, Bool, true, ◌&&◌, List, ◌∷◌, Option, Some, None, map, length, reverse}
 use Rattle.kan_terms.specs.Table.{Table}
+use Rattle.kan_grammar.specs.declared.dialect.Dialect.{Dialect}
 use Rattle.kan_grammar.specs.Texts.Sited.{Sited}
 use Rattle.kan_model.specs.Programs.Goals.{Goal}
 use Rattle.kan_grammar.specs.Texts.TopForms.{Defined}
@@ -53,9 +54,9 @@ StandsFor ts (Some node) (Some g) = Stands ts (goal_entry node) g
 StandsFor ts n g = ⊥
 
 -- the goal of one that has no goals in it
-abbrev pub own_goal : List Defined → Table → List Sited → Names → opened.Goal → Option Goal
-own_goal rs t ds ns (Fresh b gs) = None
-own_goal rs t ds ns (AllOf gs) = None
-own_goal rs t ds ns (OneOf gs) = None
-own_goal rs t ds ns (Clauses cs) = None
-own_goal rs t ds ns g = Some (goal_in rs ns (step_goal ds t g))
+abbrev pub own_goal : Dialect → List Defined → Table → List Sited → Names → opened.Goal → Option Goal
+own_goal dialect rs t ds ns (Fresh b gs) = None
+own_goal dialect rs t ds ns (AllOf gs) = None
+own_goal dialect rs t ds ns (OneOf gs) = None
+own_goal dialect rs t ds ns (Clauses cs) = None
+own_goal dialect rs t ds ns g = Some (goal_in dialect rs ns (step_goal ds t g))

@@ -1,6 +1,7 @@
 -- What is made of the goals that are left to be built.
 use Rattle.std.specs.Prelude.{ℕ, ◌+◌, true, false, List, [], ◌∷◌, length, take, Option, Some, None}
 use Rattle.kan_terms.specs.Table.{Table}
+use Rattle.kan_grammar.specs.declared.dialect.Dialect.{Dialect}
 use Rattle.kan_grammar.specs.Texts.Sited.{Sited, site, is_proper}
 use Rattle.kan_model.specs.Programs.Goals.{Goal}
 use Rattle.kan_grammar.specs.Texts.Binders.{binder}
@@ -13,6 +14,7 @@ use Rattle.goal_forms.specs.TermSteps.{site_size}
 use Rattle.goal_syntax.specs.Building.GoalsBuilt.{Built, with_goal}
 use Rattle.goal_forms.specs.declared.goal.Goal as opened
 use Rattle.goal_forms.specs.declared.goal.Goal.TheVariants.{Fresh, AllOf, OneOf, Clauses}
+use Rattle.kan_grammar.specs.declared.dialect.Dialect.TheVariants.{Book, All}
 use Rattle.goal_syntax.specs.declared.join_goal.Row.{Row}
 use Rattle.goal_syntax.specs.declared.join_goal.Row.TheVariants as rows
 use Rattle.goal_syntax.specs.declared.build_goal.Work.{Work}
@@ -56,12 +58,22 @@ abbrev pub fresh_last : ℕ → List Goal → List Goal
 fresh_last k [] = []
 fresh_last k (g ∷ made) = Goal.fresh k g ∷ made
 
+-- the goal made last suspends
+abbrev pub later_last : List Goal → List Goal
+later_last [] = []
+later_last (g ∷ made) = Goal.later g ∷ made
+
 -- so for what was built
 abbrev pub joined : Row → Built → Built
 joined row b = record b { made = join_last row b.made }
 
 abbrev pub freshened : ℕ → Built → Built
 freshened k b = record b { made = fresh_last k b.made }
+
+-- the goal built last suspends, in the dialect in which fresh and conde do
+abbrev pub suspended : Dialect → Built → Built
+suspended Book b = b
+suspended All b = record b { made = later_last b.made }
 
 -- the work on the first element of a row, and on the others, where there are any; the entries of an empty row, and of two goals that are joined
 abbrev pub first_work : Row → ℕ → Work
@@ -84,14 +96,15 @@ join_entry rows.One g h = GoalEntry.either g h
 join_entry rows.Clauses g h = GoalEntry.either g h
 
 -- what is made once all work on a stack is done, the top first
-abbrev pub finish : List Defined → Table → List Sited → Names → List Work → Built → Built
-finish rs t ds ns [] b = b
-finish rs t ds ns (works.Goal p ∷ ws) b = finish rs t ds ns ws (with_goal (goal_in rs ns (goal_form t (site_at ds p))) b)
-finish rs t ds ns (works.Clause p ∷ ws) b = finish rs t ds ns ws (with_goal (goal_in rs ns (clause_form t (site_at ds p))) b)
-finish rs t ds ns (works.Row row p ∷ ws) b = finish rs t ds ns ws (with_goal (row_goal row (goals_in rs ns (row_forms row t (site_at ds p)))) b)
-finish rs t ds ns (works.Join row ∷ ws) b = finish rs t ds ns ws (joined row b)
-finish rs t ds ns (works.Fresh k ∷ ws) b = finish rs t ds ns ws (freshened k b)
-finish rs t ds ns (works.Leave n ∷ ws) b = finish rs t ds (take n ns) ws b
+abbrev pub finish : Dialect → List Defined → Table → List Sited → Names → List Work → Built → Built
+finish dialect rs t ds ns [] b = b
+finish dialect rs t ds ns (works.Goal p ∷ ws) b = finish dialect rs t ds ns ws (with_goal (goal_in dialect rs ns (goal_form t (site_at ds p))) b)
+finish dialect rs t ds ns (works.Clause p ∷ ws) b = finish dialect rs t ds ns ws (with_goal (goal_in dialect rs ns (clause_form t (site_at ds p))) b)
+finish dialect rs t ds ns (works.Row row p ∷ ws) b = finish dialect rs t ds ns ws (with_goal (row_goal row (goals_in dialect rs ns (row_forms row t (site_at ds p)))) b)
+finish dialect rs t ds ns (works.Join row ∷ ws) b = finish dialect rs t ds ns ws (joined row b)
+finish dialect rs t ds ns (works.Fresh k ∷ ws) b = finish dialect rs t ds ns ws (freshened k b)
+finish dialect rs t ds ns (works.Suspend ∷ ws) b = finish dialect rs t ds ns ws (suspended dialect b)
+finish dialect rs t ds ns (works.Leave n ∷ ws) b = finish dialect rs t ds (take n ns) ws b
 
 -- how much work a row is, a goal and a clause
 abbrev pub row_size : Sited → ℕ
@@ -109,8 +122,8 @@ works_size ds (w ∷ ws) = work_size ds w + works_size ds ws
 
 -- the work that a goal leaves, the last on top
 abbrev pub inner_works : Table → List Sited → Names → opened.Goal → List Work
-inner_works t ds ns (Fresh b gs) = works.Fresh (length (binder t (site_at ds b)).value) ∷ works.Leave (length ns) ∷ works.Row rows.All gs ∷ []
+inner_works t ds ns (Fresh b gs) = works.Suspend ∷ works.Fresh (length (binder t (site_at ds b)).value) ∷ works.Leave (length ns) ∷ works.Row rows.All gs ∷ []
 inner_works t ds ns (AllOf gs) = works.Row rows.All gs ∷ []
 inner_works t ds ns (OneOf gs) = works.Row rows.One gs ∷ []
-inner_works t ds ns (Clauses cs) = works.Row rows.Clauses cs ∷ []
+inner_works t ds ns (Clauses cs) = works.Suspend ∷ works.Row rows.Clauses cs ∷ []
 inner_works t ds ns g = []

@@ -1,12 +1,13 @@
 -- What compiling the top forms of a text answers.
 use Rattle.std.specs.Prelude.{◌≡◌, List, map, true, Some, None, Result, Ok, Err}
+use Rattle.kan_grammar.specs.declared.dialect.Dialect.{Dialect}
 use Rattle.kan_grammar.specs.Data.Faults as faults
 use Rattle.kan_terms.specs.Table.{Table}
 use Rattle.kan_grammar.specs.Texts.Sited.{Sited}
 use Rattle.kan_grammar.specs.Texts.TextFaults.{faults_of, least}
 use Rattle.kan_grammar.specs.Texts.ProgramText.{Meant, text_meaning}
 use Rattle.kan_model.specs.Programs.Scope.{is_small}
-use Rattle.kan_model.specs.Programs.Tables.{nothing_open}
+use Rattle.kan_model.specs.Programs.Tables.{are_closed}
 use Rattle.kan_model.specs.Programs.Nodes.{goal_place}
 use Rattle.kan_model.specs.Programs.Closed as programs
 use Rattle.kan_model.specs.declared.program.Program.{Program}
@@ -23,13 +24,13 @@ use Rattle.goal_syntax.specs.declared.compiler.Compiled.{Compiled}
 pub record IsMeant (m : Meant) (program : Program) (queries : List Query) : Type 0 where
   pub relations : (programs.meaning program).relations ≡ m.relations
   pub queries_are : map (query_of program) queries ≡ m.queries
-  pub closed : nothing_open (programs.tables program) (map goal_place queries) ≡ true
+  pub closed : are_closed (programs.tables program) (map goal_place queries) ≡ true
   pub small : is_small (programs.meaning program) ≡ true
   pub room : HasRoom (programs.tables program)
   pub equational : are_equational_entries (programs.tables program).goals ≡ are_equational m.relations m.queries
 
 -- the forms of a text behind those of a library give their program and runs, or the fault that is answered
-abbrev pub CompilesForms : Table → List Sited → List Sited → Result Compiled SyntaxError → Type 0
-CompilesForms names library text (Ok c) = (least (faults_of names library text) ≡ None) × IsMeant (text_meaning names library text) c.program c.queries × (are_named names (programs.tables c.program) ≡ true)
-CompilesForms names library text (Err (Fault at number)) = least (faults_of names library text) ≡ Some (faults.fault at number)
-CompilesForms names library text (Err Memory) = Unit {0}
+abbrev pub CompilesForms : Dialect → Table → List Sited → List Sited → Result Compiled SyntaxError → Type 0
+CompilesForms dialect names library text (Ok c) = (least (faults_of names library text) ≡ None) × IsMeant (text_meaning dialect names library text) c.program c.queries × (are_named names (programs.tables c.program) ≡ true)
+CompilesForms dialect names library text (Err (Fault at number)) = least (faults_of names library text) ≡ Some (faults.fault at number)
+CompilesForms dialect names library text (Err Memory) = Unit {0}

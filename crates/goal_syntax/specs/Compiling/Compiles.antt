@@ -7,7 +7,7 @@ use Rattle.kan_grammar.specs.Texts.TextFaults.{fault_of_text, IsAccepted}
 use Rattle.kan_grammar.specs.Data.Faults.{read_text, data_are}
 use Rattle.kan_grammar.specs.Texts.ProgramText.{program_of_text, queries_of_text}
 use Rattle.kan_model.specs.Programs.Scope.{is_small}
-use Rattle.kan_model.specs.Programs.Tables.{nothing_open}
+use Rattle.kan_model.specs.Programs.Tables.{are_closed}
 use Rattle.kan_model.specs.Programs.Nodes.{goal_place}
 use Rattle.kan_model.specs.Programs.Closed as programs
 use Rattle.kan_model.specs.declared.program.Program.{Program}
@@ -43,7 +43,7 @@ pub record IsCompiled (names : Table) (library text : List Datum) (program : Pro
   pub relations : (programs.meaning program).relations ≡ relations_meant names library text
   pub queries_are : map (query_of program) queries ≡ queries_meant names library text
   -- nothing is open in it, with the goals of the runs
-  pub closed : nothing_open (programs.tables program) (map goal_place queries) ≡ true
+  pub closed : are_closed (programs.tables program) (map goal_place queries) ≡ true
   pub small : is_small (programs.meaning program) ≡ true
   -- each of its tables has fewer than 2^24 entries
   pub room : HasRoom (programs.tables program)

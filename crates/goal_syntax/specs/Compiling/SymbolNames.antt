@@ -6,7 +6,7 @@ use Rattle.kan_model.specs.Programs.Tables.{TermEntry, GoalEntry, RelationEntry,
 
 -- a symbol has a name in a table
 abbrev pub has_name : Table → ℕ → Bool
-has_name names s = is_some (name_of names s)
+has_name names s = is_some (name_of names.symbols s)
 
 -- the symbol of a template has one, and the tag of a goal, and the name of a relation
 abbrev pub is_term_named : Table → TermEntry → Bool

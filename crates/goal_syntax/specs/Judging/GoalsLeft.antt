@@ -13,7 +13,7 @@ use Rattle.kan_grammar.specs.Texts.TextFaults.{term_faults, call_faults, goal_fa
 use Rattle.goal_forms.specs.Parts.{site_at}
 use Rattle.goal_forms.specs.TermSteps.{site_size}
 use Rattle.goal_forms.specs.declared.goal.Goal as opened
-use Rattle.goal_forms.specs.declared.goal.Goal.TheVariants.{Same, Differ, Symbol, Number, Absent, Fresh, AllOf, OneOf, Clauses, Call, Misshapen}
+use Rattle.goal_forms.specs.declared.goal.Goal.TheVariants.{Same, Differ, Symbol, Number, Text, Absent, Fresh, AllOf, OneOf, Clauses, Call, Misshapen}
 use Rattle.goal_syntax.specs.declared.judge_goal.Waiting.{Waiting}
 use Rattle.goal_syntax.specs.declared.judge_goal.Waiting.TheVariants as waiting
 
@@ -23,6 +23,7 @@ own_faults rs t ds ns (Same a b) = term_faults ns (term_form t (site_at ds a)) +
 own_faults rs t ds ns (Differ a b) = term_faults ns (term_form t (site_at ds a)) ++ term_faults ns (term_form t (site_at ds b))
 own_faults rs t ds ns (Symbol a) = term_faults ns (term_form t (site_at ds a))
 own_faults rs t ds ns (Number a) = term_faults ns (term_form t (site_at ds a))
+own_faults rs t ds ns (Text a) = term_faults ns (term_form t (site_at ds a))
 own_faults rs t ds ns (Absent a b) = (tag t (site_at ds a)).faults ++ term_faults ns (term_form t (site_at ds b))
 own_faults rs t ds ns (Call at s args) = call_faults (arity rs s) at (length (term_forms t (site_at ds args))) ++ flat_map (term_faults ns) (term_forms t (site_at ds args))
 own_faults rs t ds ns (Misshapen at) = fault at 10 ∷ []

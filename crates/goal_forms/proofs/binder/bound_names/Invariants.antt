@@ -5,7 +5,7 @@ use Rattle.goal_forms.proofs.binder.bound_names.Given as goal
 
 -- the names so far, and those of what is left, are all
 abbrev pub invariant-loop-first : goal.invariant-loop-first
-invariant-loop-first l = l.bound.items ++ bound_names (site_at (sites l.nodes) l.place) ≡ bound_names (site_at (sites l.nodes) l.fn.place)
+invariant-loop-first l = l.bound.items ++ bound_names (site_at (sites l.flat) l.place) ≡ bound_names (site_at (sites l.flat) l.fn.place)
 
 abbrev pub decreases-loop-first : goal.decreases-loop-first
 decreases-loop-first l = l.place

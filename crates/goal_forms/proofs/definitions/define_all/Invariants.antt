@@ -7,4 +7,4 @@ use Rattle.goal_forms.proofs.definitions.define_all.Given as goal
 -- the relations of the forms so far are added
 abbrev pub invariant-loop-place : goal.invariant-loop-place
 invariant-loop-place l =
-    related l.rows.items ≡ related l.fn.rows.items ++ definitions l.names (map (site_at (sites l.nodes)) (take l.place-index l.forms))
+    related l.rows.items ≡ related l.fn.rows.items ++ definitions l.names (map (site_at (sites l.flat)) (take l.place-index l.forms))

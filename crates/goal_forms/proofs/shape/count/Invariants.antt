@@ -7,7 +7,7 @@ use Rattle.goal_forms.proofs.shape.count.Given as goal
 -- what was counted and what is still to be counted are all elements, and the places fall
 abbrev pub invariant-loop-rest : goal.invariant-loop-rest
 invariant-loop-rest l = record {
-  counts : option_map (λ n. l.counted + n) (count (site_at (sites l.nodes) l.place)) ≡ count (site_at (sites l.nodes) l.fn.place);
+  counts : option_map (λ n. l.counted + n) (count (site_at (sites l.flat) l.place)) ≡ count (site_at (sites l.flat) l.fn.place);
   falls : l.counted + l.place ≤ l.fn.place;
 }
 

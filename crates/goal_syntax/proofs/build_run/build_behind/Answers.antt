@@ -13,5 +13,5 @@ returns-clause-grows c = grows_on _ _ _ c.in_ok-rest.ensures.grows c.in_ok-both.
 
 pub returns-clause-closed : goal.returns-clause-closed
 returns-clause-closed c =
-    joined_closed (sites c.args.text.now.nodes.now) (tables c.args.draft.now) (tables c.build_goals.new.draft) (tables c.add_goal.new.draft) _
+    joined_closed (sites c.args.context.now.flat.now) (tables c.args.draft.now) (tables c.build_goals.new.draft) (tables c.add_goal.new.draft) _
     c.in_ok-rest.ensures.low c.in_ok-rest.ensures.called c.in_ok-both.ensures.terms c.in_ok-both.ensures.called

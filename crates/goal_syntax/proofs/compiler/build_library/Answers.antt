@@ -9,15 +9,15 @@ use Rattle.goal_syntax.proofs.compiler.build_library.Goals as goal
 
 pub loop-place-preserved : goal.loop-place-preserved
 loop-place-preserved c =
-    let t = c.args.text.now.names.now in
-    let ds = sites c.args.text.now.nodes.now in
-    let rules = relations c.args.text.now.relations.now in
+    let t = c.args.context.now.names.now in
+    let ds = sites c.args.context.now.flat.now in
+    let rules = relations c.args.context.now.relations.now in
     record {
-      means = library_means t rules ds c.args.forms.now c.loop-place.place-index (tables c.args.draft.now) (tables c.loop-place.draft) (tables c.build_library_form.new.draft) (omega arith)
+      means = library_means c.args.context.now.dialect t rules ds c.args.forms.now c.loop-place.place-index (tables c.args.draft.now) (tables c.loop-place.draft) (tables c.build_library_form.new.draft) (omega arith)
           c.loop-place.invariant.means c.in_ok-build_library_form.ensures.means;
-      equational = library_equational t rules ds c.args.forms.now c.loop-place.place-index _ _ _ (omega arith) c.loop-place.invariant.equational c.in_ok-build_library_form.ensures.equational;
+      equational = library_equational c.args.context.now.dialect t rules ds c.args.forms.now c.loop-place.place-index _ _ _ (omega arith) c.loop-place.invariant.equational c.in_ok-build_library_form.ensures.equational;
       room = c.in_ok-build_library_form.ensures.room;
-      closed = library_closed t rules ds c.args.forms.now c.loop-place.place-index (tables c.args.draft.now) (tables c.loop-place.draft) (tables c.build_library_form.new.draft) (omega arith)
+      closed = library_closed c.args.context.now.dialect t rules ds c.args.forms.now c.loop-place.place-index (tables c.args.draft.now) (tables c.loop-place.draft) (tables c.build_library_form.new.draft) (omega arith)
           c.loop-place.invariant.closed c.in_ok-build_library_form.ensures.closed;
     }
 

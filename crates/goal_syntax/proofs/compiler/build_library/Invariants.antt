@@ -17,9 +17,9 @@ use Rattle.goal_syntax.proofs.compiler.build_library.Given as goal
 abbrev pub invariant-loop-place : goal.invariant-loop-place
 invariant-loop-place l = record {
   means : (qs : List Query) → (rs : List model.Relation) → (asked : List model.Query) → Means (tables l.fn.draft) qs rs asked →
-      Means (tables l.draft) qs (rs ++ relations_of l.text.names.now (relations l.text.relations.now) (map (site_at (sites l.text.nodes.now)) (take l.place-index l.forms))) asked;
+      Means (tables l.draft) qs (rs ++ relations_of l.context.dialect l.context.names.now (relations l.context.relations.now) (map (site_at (sites l.context.flat.now)) (take l.place-index l.forms))) asked;
   equational : are_equational_entries (tables l.draft).goals ≡ (are_equational_entries (tables l.fn.draft).goals
-      && list_all is_equational_body (relations_of l.text.names.now (relations l.text.relations.now) (map (site_at (sites l.text.nodes.now)) (take l.place-index l.forms))));
+      && list_all is_equational_body (relations_of l.context.dialect l.context.names.now (relations l.context.relations.now) (map (site_at (sites l.context.flat.now)) (take l.place-index l.forms))));
   room : HasRoom (tables l.draft);
-  closed : KeepsClosed (sites l.text.nodes.now) (tables l.fn.draft) (tables l.draft) (bodies_named (relations_of l.text.names.now (relations l.text.relations.now) (map (site_at (sites l.text.nodes.now)) (take l.place-index l.forms))));
+  closed : KeepsClosed (sites l.context.flat.now) (tables l.fn.draft) (tables l.draft) (bodies_named (relations_of l.context.dialect l.context.names.now (relations l.context.relations.now) (map (site_at (sites l.context.flat.now)) (take l.place-index l.forms))));
 }

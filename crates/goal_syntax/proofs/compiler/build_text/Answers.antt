@@ -9,15 +9,15 @@ use Rattle.goal_syntax.proofs.compiler.build_text.Goals as goal
 
 pub loop-place-preserved : goal.loop-place-preserved
 loop-place-preserved c =
-    let t = c.args.text.now.names.now in
-    let ds = sites c.args.text.now.nodes.now in
-    let rules = relations c.args.text.now.relations.now in
+    let t = c.args.context.now.names.now in
+    let ds = sites c.args.context.now.flat.now in
+    let rules = relations c.args.context.now.relations.now in
     record {
-      means = text_means t rules ds c.args.forms.now c.loop-place.place-index (tables c.args.draft.now) (tables c.loop-place.draft) (tables c.build_form.new.draft) c.args.queries.now c.loop-place.queries c.build_form.new.queries (omega arith)
+      means = text_means c.args.context.now.dialect t rules ds c.args.forms.now c.loop-place.place-index (tables c.args.draft.now) (tables c.loop-place.draft) (tables c.build_form.new.draft) c.args.queries.now c.loop-place.queries c.build_form.new.queries (omega arith)
           c.loop-place.invariant.means (rw c.parse_form.ensures at c.in_ok-build_form.ensures.means);
-      equational = text_equational t rules ds c.args.forms.now c.loop-place.place-index _ _ _ (omega arith) c.loop-place.invariant.equational (rw c.parse_form.ensures at c.in_ok-build_form.ensures.equational);
+      equational = text_equational c.args.context.now.dialect t rules ds c.args.forms.now c.loop-place.place-index _ _ _ (omega arith) c.loop-place.invariant.equational (rw c.parse_form.ensures at c.in_ok-build_form.ensures.equational);
       room = c.in_ok-build_form.ensures.room;
-      closed = text_closed t rules ds c.args.forms.now c.loop-place.place-index (tables c.args.draft.now) (tables c.loop-place.draft) (tables c.build_form.new.draft) (omega arith)
+      closed = text_closed c.args.context.now.dialect t rules ds c.args.forms.now c.loop-place.place-index (tables c.args.draft.now) (tables c.loop-place.draft) (tables c.build_form.new.draft) (omega arith)
           c.loop-place.invariant.closed (rw c.parse_form.ensures at c.in_ok-build_form.ensures.closed);
     }
 

@@ -16,12 +16,12 @@ abbrev pub invariant-loop-place : goal.invariant-loop-place
 invariant-loop-place l = record {
   means : (rs : List model.Relation) → (asked : List model.Query) → Means (tables l.fn.draft) l.fn.queries rs asked →
       Means (tables l.draft) l.queries
-      (rs ++ relations_of l.text.names.now (relations l.text.relations.now) (map (site_at (sites l.text.nodes.now)) (take l.place-index l.forms)))
-      (asked ++ queries_of l.text.names.now (relations l.text.relations.now) (map (site_at (sites l.text.nodes.now)) (take l.place-index l.forms)));
+      (rs ++ relations_of l.context.dialect l.context.names.now (relations l.context.relations.now) (map (site_at (sites l.context.flat.now)) (take l.place-index l.forms)))
+      (asked ++ queries_of l.context.dialect l.context.names.now (relations l.context.relations.now) (map (site_at (sites l.context.flat.now)) (take l.place-index l.forms)));
   equational : are_equational_entries (tables l.draft).goals ≡ (are_equational_entries (tables l.fn.draft).goals
-      && are_equational (relations_of l.text.names.now (relations l.text.relations.now) (map (site_at (sites l.text.nodes.now)) (take l.place-index l.forms)))
-      (queries_of l.text.names.now (relations l.text.relations.now) (map (site_at (sites l.text.nodes.now)) (take l.place-index l.forms))));
+      && are_equational (relations_of l.context.dialect l.context.names.now (relations l.context.relations.now) (map (site_at (sites l.context.flat.now)) (take l.place-index l.forms)))
+      (queries_of l.context.dialect l.context.names.now (relations l.context.relations.now) (map (site_at (sites l.context.flat.now)) (take l.place-index l.forms))));
   room : HasRoom (tables l.draft);
-  closed : KeepsClosed (sites l.text.nodes.now) (tables l.fn.draft) (tables l.draft) (all_named (relations_of l.text.names.now (relations l.text.relations.now) (map (site_at (sites l.text.nodes.now)) (take l.place-index l.forms)))
-      (queries_of l.text.names.now (relations l.text.relations.now) (map (site_at (sites l.text.nodes.now)) (take l.place-index l.forms))));
+  closed : KeepsClosed (sites l.context.flat.now) (tables l.fn.draft) (tables l.draft) (all_named (relations_of l.context.dialect l.context.names.now (relations l.context.relations.now) (map (site_at (sites l.context.flat.now)) (take l.place-index l.forms)))
+      (queries_of l.context.dialect l.context.names.now (relations l.context.relations.now) (map (site_at (sites l.context.flat.now)) (take l.place-index l.forms))));
 }

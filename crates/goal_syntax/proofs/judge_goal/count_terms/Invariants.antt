@@ -7,7 +7,7 @@ use Rattle.goal_syntax.proofs.judge_goal.count_terms.Given as goal
 -- what was counted and what is left are all, and the places fall
 abbrev pub invariant-loop-rest : goal.invariant-loop-rest
 invariant-loop-rest l = record {
-  counts : (names : Table) → l.counted + length (term_forms names (site_at (sites l.nodes) l.place)) ≡ length (term_forms names (site_at (sites l.nodes) l.fn.place));
+  counts : (names : Table) → l.counted + length (term_forms names (site_at (sites l.flat) l.place)) ≡ length (term_forms names (site_at (sites l.flat) l.fn.place));
   falls : l.counted + l.place ≤ l.fn.place;
 }
 

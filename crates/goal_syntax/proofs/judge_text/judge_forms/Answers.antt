@@ -8,9 +8,9 @@ use Rattle.goal_syntax.proofs.judge_text.judge_forms.Goals as goal
 
 pub loop-place-preserved : goal.loop-place-preserved
 loop-place-preserved c =
-    let t = c.args.text.now.names.now in
-    let ds = sites c.args.text.now.nodes.now in
-    let rs = relations c.args.text.now.relations.now in
+    let t = c.args.context.now.names.now in
+    let ds = sites c.args.context.now.flat.now in
+    let rs = relations c.args.context.now.relations.now in
     let before = c.loop-place.invariant.before in
     let later = c.loop-place.invariant.later in
     record {

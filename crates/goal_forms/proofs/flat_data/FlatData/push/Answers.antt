@@ -1,6 +1,6 @@
 use Rattle.std.proofs.Common.{arith, []}
 use Rattle.goal_forms.proofs.PartLaws.{length-sites, pushed, pushed_or_not}
-use Rattle.goal_forms.proofs.flat_data.Nodes.push.Goals as goal
+use Rattle.goal_forms.proofs.flat_data.FlatData.push.Goals as goal
 
 pub invariant_of-self : goal.invariant_of-self
 invariant_of-self c = record { grown = pushed_or_not _ c.args.self.now.rows.items _ c.args.node c.push.ensures.items c.args.self.now.grown c.requires }

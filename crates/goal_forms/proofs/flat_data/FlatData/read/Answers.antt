@@ -2,7 +2,7 @@ use Rattle.goal_forms.proofs.PartLaws.{read_part, read_none, read_grown, read_of
 use Rattle.std.proofs.Common.{sym, ap}
 use Rattle.kan_grammar.specs.Texts.Sited.{site}
 use Rattle.goal_forms.specs.Parts.{sites}
-use Rattle.goal_forms.proofs.flat_data.Nodes.read.Goals as goal
+use Rattle.goal_forms.proofs.flat_data.FlatData.read.Goals as goal
 
 pub returns-in-Some-clause-part : goal.returns-in-Some-clause-part
 returns-in-Some-clause-part c = read_part c.args.self.now.rows.items _ c.args.place c.in-Some.node.now c.deref.ensures.value c.in-Some.ensures.lookup.0 c.in-Some.ensures.lookup.1 c.args.self.now.grown
