@@ -5,7 +5,7 @@ use Rattle.std.proofs.Common.{sym, ◌∙◌, ap, arith, append_assoc, get_or, a
 use Rattle.std.proofs.lemmas.Bool.{ne_eqb}
 use Rattle.std.proofs.Math.Seq.{drop-cons}
 use Rattle.std.proofs.lemmas.List.{append-nil, length-append}
-use Rattle.kan_terms.specs.Tree.{Tree, Gd, size, joined}
+use Rattle.kan_terms.specs.Tree.{Tree, Gd, size, join_two}
 use Rattle.kan_terms.specs.Spelling.{spelling, SpellsTree}
 use Rattle.kan_terms.specs.Reading.{trees, tree_of, tree_of-spelling}
 use Rattle.kan_terms.specs.declared.marks.Mark.{Mark}
@@ -61,7 +61,7 @@ spellings [] = []
 spellings (t ∷ more) = spelling t ++ spellings more
 
 -- joining the first two trees puts the mark of a pair before their marks
-joined-two : (ts : List Gd) (n : ℕ) → length ts ≡ suc (suc n) → (length (joined ts) ≡ suc n) × (spellings (joined ts) ≡ Pair ∷ spellings ts)
+joined-two : (ts : List Gd) (n : ℕ) → length ts ≡ suc (suc n) → (length (join_two ts) ≡ suc n) × (spellings (join_two ts) ≡ Pair ∷ spellings ts)
 joined-two [] n e = absurd (omega arith)
 joined-two (a ∷ []) n e = absurd (omega arith)
 joined-two (a ∷ b ∷ more) n e = (omega arith, ap (λ l. Pair ∷ l) (append_assoc (spelling a) (spelling b) (spellings more)))

@@ -3,7 +3,7 @@ use Rattle.std.specs.Prelude.{◌≡◌, ℕ, ℤ, ◌⊎◌, Bool, true, false,
 use Rattle.std.specs.Coded.{Coded, code_by, coded⊎, coded_ℕ, coded_ℤ, coded_bool, coded_list}
 use Rattle.std.proofs.Common.{◌∙◌, ap, sym, inl, inr, append_assoc}
 use Rattle.std.proofs.lemmas.List.{append-nil}
-use Rattle.kan_terms.specs.Tree.{Tree, Gd, joined, first_tree}
+use Rattle.kan_terms.specs.Tree.{Tree, Gd, join_two, first_tree}
 use Rattle.kan_terms.specs.Spelling.{spelling}
 use Rattle.kan_terms.specs.declared.marks.Mark.{Mark}
 use Rattle.kan_terms.specs.declared.marks.Mark.TheVariants.{Pair, Sym, Str, Num, Truth, Nil}
@@ -11,7 +11,7 @@ use Rattle.kan_terms.specs.declared.marks.Mark.TheVariants.{Pair, Sym, Str, Num,
 -- the trees that marks spell, one after another
 abbrev pub trees : List Mark → List Gd
 trees [] = []
-trees (Pair ∷ more) = joined (trees more)
+trees (Pair ∷ more) = join_two (trees more)
 trees (Sym s ∷ more) = Tree.sym s ∷ trees more
 trees (Str s ∷ more) = Tree.str s ∷ trees more
 trees (Num n ∷ more) = Tree.num n ∷ trees more
@@ -31,8 +31,8 @@ trees-spelling (Tree.num n) more = refl
 trees-spelling (Tree.truth b) more = refl
 trees-spelling Tree.nil more = refl
 trees-spelling (Tree.pair a b) more =
-    ap (λ l. joined (trees l)) (append_assoc (spelling a) (spelling b) more)
-    ∙ ap joined (trees-spelling a (spelling b ++ more) ∙ ap (λ l. a ∷ l) (trees-spelling b more))
+    ap (λ l. join_two (trees l)) (append_assoc (spelling a) (spelling b) more)
+    ∙ ap join_two (trees-spelling a (spelling b ++ more) ∙ ap (λ l. a ∷ l) (trees-spelling b more))
 
 -- a ground term is read back from its marks
 pub tree_of-spelling : (t : Gd) → tree_of (spelling t) ≡ t

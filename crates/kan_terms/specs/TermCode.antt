@@ -3,7 +3,7 @@ use Rattle.std.specs.Prelude.{◌≡◌, ℕ, ℤ, ◌⊎◌, Bool, true, false,
 use Rattle.std.specs.Coded.{Coded, code_by, coded⊎, coded×, coded_ℕ, coded_ℤ, coded_bool, coded_list}
 use Rattle.std.proofs.Common.{◌∙◌, ap, sym, inl, inr, append_assoc}
 use Rattle.std.proofs.lemmas.List.{append-nil}
-use Rattle.kan_terms.specs.Tree.{Tree, Tm, joined, first_tree}
+use Rattle.kan_terms.specs.Tree.{Tree, Tm, join_two, first_tree}
 
 -- a letter: a variable, a symbol or a string, a number or a truth value, a pair or the empty list
 abbrev pub Letter : Type 0
@@ -28,7 +28,7 @@ terms (inl (inr (inr s)) ∷ more) = Tree.str s ∷ terms more
 terms (inr (inl (inl n)) ∷ more) = Tree.num n ∷ terms more
 terms (inr (inl (inr b)) ∷ more) = Tree.truth b ∷ terms more
 terms (inr (inr false) ∷ more) = Tree.nil ∷ terms more
-terms (inr (inr true) ∷ more) = joined (terms more)
+terms (inr (inr true) ∷ more) = join_two (terms more)
 
 -- the term that letters spell
 abbrev pub term_of : List Letter → Tm
@@ -43,8 +43,8 @@ terms-letters (Tree.num n) more = refl
 terms-letters (Tree.truth b) more = refl
 terms-letters Tree.nil more = refl
 terms-letters (Tree.pair a b) more =
-    ap (λ l. joined (terms l)) (append_assoc (letters a) (letters b) more)
-    ∙ ap joined (terms-letters a (letters b ++ more) ∙ ap (λ l. a ∷ l) (terms-letters b more))
+    ap (λ l. join_two (terms l)) (append_assoc (letters a) (letters b) more)
+    ∙ ap join_two (terms-letters a (letters b ++ more) ∙ ap (λ l. a ∷ l) (terms-letters b more))
 
 -- a term is read back from its letters
 pub term_of-letters : (t : Tm) → term_of (letters t) ≡ t

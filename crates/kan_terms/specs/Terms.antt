@@ -9,7 +9,7 @@ use Rattle.kan_terms.specs.declared.terms.Term.TheVariants.{Var, Sym, Str, Num, 
 abbrev pub tree : Term → Tm
 tree (Var v) = Tree.leaf v
 tree (Sym s) = Tree.sym s
-tree (Str s) = Tree.sym s
+tree (Str s) = Tree.str s
 tree (Num n) = Tree.num n
 tree (Truth b) = Tree.truth b
 tree Nil = Tree.nil

@@ -107,10 +107,10 @@ size Tree.nil = 1
 size (Tree.pair a b) = 1 + size a + size b
 
 -- the first two trees, joined
-abbrev pub joined : {V : Type 0} → List (Tree V) → List (Tree V)
-joined [] = []
-joined (only ∷ []) = only ∷ []
-joined (first ∷ second ∷ more) = Tree.pair first second ∷ more
+abbrev pub join_two : {V : Type 0} → List (Tree V) → List (Tree V)
+join_two [] = []
+join_two (only ∷ []) = only ∷ []
+join_two (first ∷ second ∷ more) = Tree.pair first second ∷ more
 
 -- the first of some trees
 abbrev pub first_tree : {V : Type 0} → List (Tree V) → Tree V

@@ -31,7 +31,6 @@ impl<T: Drop> From<AllocFailed<T>> for Memory {
 
 /// A term of the engine.
 #[cycle(term)]
-#[derive(Drop)]
 pub enum Term {
     /// A logic variable, by its number.
     Var(u64),
@@ -47,6 +46,32 @@ pub enum Term {
     Nil,
     /// A pair, which may be shared with other terms.
     Pair(Arc<PairParts>),
+}
+
+// A loop along the rests, so that a long list is dropped in little stack: only first parts are dropped by recursion.
+impl Drop for Term {
+    fn drop(mut self) {
+        loop {
+            match self {
+                Term::Pair(parts) => match Arc::into_inner(parts) {
+                    Some(
+                        PairParts {
+                            first: _,
+                            rest,
+                            has_variable: _,
+                        },
+                    ) => self = rest,
+                    None => return,
+                },
+                Term::Var(_) => return,
+                Term::Sym(_) => return,
+                Term::Str(_) => return,
+                Term::Num(_) => return,
+                Term::Truth(_) => return,
+                Term::Nil => return,
+            }
+        }
+    }
 }
 
 /// The two parts of a pair.
