@@ -12,7 +12,7 @@ use Rattle.kan_grammar.specs.Texts.Sited.{Sited, with_sites, within_sites, symbo
 use Rattle.sexpr.specs.Meaning.{prefix_of}
 use Rattle.kan_terms.specs.Table.{Table}
 use Rattle.sexpr.specs.Seen.{written}
-use Rattle.sexpr.specs.Works.{within}
+use Rattle.sexpr.specs.Printing.{within}
 use Rattle.sexpr.specs.declared.data.Datum.{Datum}
 use Rattle.sexpr.specs.declared.data.DatumKind.TheVariants as kinds
 use Rattle.sexpr.specs.declared.data.Prefix.{Prefix}

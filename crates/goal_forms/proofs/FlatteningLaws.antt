@@ -10,7 +10,7 @@ use Rattle.kan_grammar.specs.Texts.Sited.{Sited, with_sites, symbol_number}
 use Rattle.sexpr.specs.Meaning.{prefix_of}
 use Rattle.kan_terms.specs.Table.{Table}
 use Rattle.sexpr.specs.Seen.{inner_of, list_of, written}
-use Rattle.sexpr.specs.Works.{within}
+use Rattle.sexpr.specs.Printing.{within}
 use Rattle.sexpr.specs.declared.data.Datum.{Datum}
 use Rattle.sexpr.specs.declared.data.DatumKind.{DatumKind}
 use Rattle.sexpr.specs.declared.data.DatumKind.TheVariants as kinds

@@ -4,7 +4,7 @@ use Rattle.std.specs.List.{list_all}
 use Rattle.kan_terms.specs.Table.{Table}
 use Rattle.kan_grammar.specs.Texts.Sited.{Sited, with_sites, within_sites}
 use Rattle.sexpr.specs.Seen.{written}
-use Rattle.sexpr.specs.Works.{within}
+use Rattle.sexpr.specs.Printing.{within}
 use Rattle.goal_forms.specs.Heights.{is_low_datum, AreLow}
 use Rattle.goal_forms.specs.Places.{kept, joined, prefixed_last}
 use Rattle.goal_forms.specs.declared.flatten.Work.{Work}

@@ -6,7 +6,7 @@ use Rattle.kan_grammar.specs.Data.Words as words
 use Rattle.kan_grammar.specs.Data.Written.{Written, Within, single, list, prefixed, close, dotted, element}
 use Rattle.kan_grammar.specs.Texts.Sited.{Sited, with_sites, within_sites, symbol_number}
 use Rattle.sexpr.specs.Seen.{written}
-use Rattle.sexpr.specs.Works.{within}
+use Rattle.sexpr.specs.Printing.{within}
 use Rattle.sexpr.specs.declared.data.Datum.{Datum}
 use Rattle.goal_forms.specs.Places.{joined, prefixed_last}
 use Rattle.goal_forms.specs.declared.prefixes.Prefixes.{Prefixes}

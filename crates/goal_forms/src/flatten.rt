@@ -3,7 +3,7 @@
 ghost use Rattle.std.specs.Prelude.{◌≡◌, ◌+◌, ◌<◌, ◌++◌, ◌∷◌, [], length, reverse, List, ℕ, true, IfOk, OnOk, map};
 ghost use Rattle.kan_grammar.specs.Data.Printed.{prefix_name};
 ghost use Rattle.kan_grammar.specs.Texts.Sited.{Sited, with_sites, atom_with_site, symbol_number};
-ghost use Rattle.kan_terms.specs.Table.{IsDistinct, name_of, number_of};
+ghost use Rattle.kan_terms.specs.Table.{name_of};
 ghost use Rattle.sexpr.specs.Meaning.{prefix_of};
 ghost use Rattle.kan_terms.specs.Table.{Table};
 ghost use Rattle.sexpr.specs.Seen.{string_atom, symbol_atom, written};

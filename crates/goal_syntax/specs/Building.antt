@@ -8,3 +8,4 @@ pub mod FormsBuilt
 pub mod CallsThere
 pub mod Equations
 pub mod LowTemplates
+pub mod InContext

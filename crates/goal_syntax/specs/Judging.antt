@@ -3,3 +3,4 @@ pub mod FaultLists
 pub mod FirstFault
 pub mod TermsLeft
 pub mod GoalsLeft
+pub mod InContext

@@ -1,30 +1,27 @@
 //! Building top forms: relations and runs.
 
-ghost use Rattle.std.specs.Prelude.{◌≡◌, ◌&&◌, ◌<◌, ◌∷◌, ◌++◌, [], List, length, IfOk, OnOk};
+ghost use Rattle.goal_syntax.specs.Building.InContext.{list_goal, relation_at, relations_parsed, queries_parsed, names_parsed};
+ghost use Rattle.std.specs.Prelude.{◌≡◌, ◌&&◌, ◌<◌, ◌∷◌, ◌++◌, [], length, IfOk, OnOk};
 ghost use Rattle.kan_model.specs.Programs.Goals as model;
-ghost use Rattle.kan_grammar.specs.Texts.TopForms.{head as head_of, head_name};
+ghost use Rattle.kan_grammar.specs.Texts.TopForms.{head_name};
 ghost use Rattle.kan_grammar.specs.Texts.GoalForms.{goal_forms};
-ghost use Rattle.kan_grammar.specs.Texts.ProgramText.{relations_in, queries_in};
-ghost use Rattle.kan_grammar.specs.Texts.Resolved.{conjunction, goals_in, within};
+ghost use Rattle.kan_grammar.specs.Texts.Resolved.{within};
 ghost use Rattle.kan_model.specs.Programs.Drafts.{tables};
 ghost use Rattle.kan_model.specs.Programs.Nodes.{relation_entry};
 ghost use Rattle.kan_model.specs.Programs.Tables.{with_relation};
-ghost use Rattle.kan_model.specs.declared.nodes.Query.{Query as AskedOf};
+ghost use Rattle.goal_forms.specs.Contexts.{data_of, datum_at};
 ghost use Rattle.goal_syntax.specs.Building.CallsThere.{KeepsClosed, all_named, bodies_named, calls_named};
-ghost use Rattle.goal_syntax.specs.Building.FormsBuilt.{Means, name_symbol, query_asked, relation_meant};
+ghost use Rattle.goal_syntax.specs.Building.FormsBuilt.{name_symbol, query_asked, AddsNames, AddsRelations, AddsForms};
 ghost use Rattle.goal_syntax.specs.Building.GrownTables.{HasGoal, Grows, HasRoom};
-ghost use Rattle.goal_syntax.specs.Building.Equations.{is_equational, is_equational_body, are_equational, are_equational_entries};
-ghost use Rattle.goal_forms.specs.FormSteps.{limit_at, step_top};
+ghost use Rattle.goal_syntax.specs.Building.Equations.{is_equational, is_equational_body, are_equational, AddsEquational};
+ghost use Rattle.goal_forms.specs.FormSteps.{limit_at};
 ghost use Rattle.goal_forms.specs.Parts.{sites, site_at};
-ghost use Rattle.goal_forms.specs.RelationTables.{relations};
 
-use goal_forms::{Context, enter, head_name, head_params, limit};
 use crate::build_goal::build_goals;
 use crate::build_run::{build_list, build_one};
 use crate::compiler::Queries;
 use crate::drafting::MOST_ENTRIES;
-use goal_forms::Form;
-use goal_forms::FlatData;
+use goal_forms::{Context, FlatData, Form, enter, head_name, head_params, limit};
 use kan_model::{Draft, Query, Relation};
 use kan_terms::Memory;
 
@@ -56,12 +53,13 @@ fn relation_name(flat: &FlatData, head: u32) -> u32
 // Builds the body of a relation with these parameters.
 fn build_body(context: &Context, params: &[u32], goals: u32, draft: &mut Draft) -> Result<u32, Memory>
     requires room { HasRoom (tables draft.old) }
-    ensures made { IfOk result (λ at. HasGoal (tables draft.new) at (conjunction (goals_in context.now.dialect (relations context.now.relations.now) (within [] params.now) (goal_forms context.now.names.now (site_at (sites context.now.flat.now) goals))))) }
+    ensures made { IfOk result (λ at. HasGoal (tables draft.new) at (list_goal context.now (within [] params.now) goals)) }
     ensures grows { OnOk result (Grows (tables draft.old) (tables draft.new)) }
     ensures room { OnOk result (HasRoom (tables draft.new)) }
-    ensures closed { OnOk result (KeepsClosed (sites context.now.flat.now) (tables draft.old) (tables draft.new) (λ rows. calls_named rows (conjunction (goals_in context.now.dialect (relations context.now.relations.now) (within [] params.now) (goal_forms context.now.names.now (site_at (sites context.now.flat.now) goals)))))) }
-    ensures equational { OnOk result (are_equational_entries (tables draft.new).goals ≡ (are_equational_entries (tables draft.old).goals
-        && is_equational (conjunction (goals_in context.now.dialect (relations context.now.relations.now) (within [] params.now) (goal_forms context.now.names.now (site_at (sites context.now.flat.now) goals)))))) }
+    ensures closed { OnOk result (KeepsClosed (data_of context.now) (tables draft.old) (tables draft.new)
+        (λ rows. calls_named rows (list_goal context.now (within [] params.now) goals))) }
+    ensures equational { OnOk result (AddsEquational (tables draft.old) (tables draft.new)
+        (is_equational (list_goal context.now (within [] params.now) goals))) }
 {
     let mut scope = Vec::new(context.alloc);
     enter(params, &mut scope)?;
@@ -77,12 +75,14 @@ pub(crate) fn build_relation(
     draft: &mut Draft,
 ) -> Result<(), Memory>
     requires room { HasRoom (tables draft.old) }
-    ensures means { OnOk result ((qs : List AskedOf) → (rs : List model.Relation) → (asked : List model.Query) → Means (tables draft.old) qs rs asked → Means (tables draft.new) qs
-        (rs ++ relation_meant context.now.dialect (relations context.now.relations.now) (head_of context.now.names.now (site_at (sites context.now.flat.now) head)).value (goal_forms context.now.names.now (site_at (sites context.now.flat.now) goals)) ∷ []) asked) }
+    ensures means { OnOk result (AddsRelations (tables draft.old) (tables draft.new)
+        (relation_at context.now head goals ∷ [])) }
+    ensures names { OnOk result (AddsNames (tables draft.old) (tables draft.new) (name_symbol (head_name (datum_at context.now head)) ∷ [])) }
     ensures room { OnOk result (HasRoom (tables draft.new)) }
-    ensures closed { OnOk result (KeepsClosed (sites context.now.flat.now) (tables draft.old) (tables draft.new) (bodies_named (relation_meant context.now.dialect (relations context.now.relations.now) (head_of context.now.names.now (site_at (sites context.now.flat.now) head)).value (goal_forms context.now.names.now (site_at (sites context.now.flat.now) goals)) ∷ []))) }
-    ensures equational { OnOk result (are_equational_entries (tables draft.new).goals ≡ (are_equational_entries (tables draft.old).goals
-        && is_equational_body (relation_meant context.now.dialect (relations context.now.relations.now) (head_of context.now.names.now (site_at (sites context.now.flat.now) head)).value (goal_forms context.now.names.now (site_at (sites context.now.flat.now) goals))))) }
+    ensures closed { OnOk result (KeepsClosed (data_of context.now) (tables draft.old) (tables draft.new)
+        (bodies_named (relation_at context.now head goals ∷ []))) }
+    ensures equational { OnOk result (AddsEquational (tables draft.old) (tables draft.new)
+        (is_equational_body (relation_at context.now head goals))) }
 {
     let bound = head_params(context.alloc, context.flat, head)?;
     let Ok(params) = u32::try_from(bound.len()) else {
@@ -103,7 +103,7 @@ fn limit_of(flat: &FlatData, place: Option<u32>) -> Option<u64>
 
 // Adds a run that asks for a goal.
 fn ask(context: &Context, goal: u32, limit: Option<u32>, queries: &mut Queries) -> Result<(), Memory>
-    ensures { OnOk result (queries.new ≡ queries.old ++ query_asked goal (limit_at (sites context.now.flat.now) limit).value ∷ []) }
+    ensures { OnOk result (queries.new ≡ queries.old ++ query_asked goal (limit_at (data_of context.now) limit).value ∷ []) }
 {
     let limit = limit_of(context.flat, limit);
     match queries.push(Query { goal, limit }) {
@@ -120,14 +120,15 @@ pub(crate) fn build_form(
     queries: &mut Queries,
 ) -> Result<(), Memory>
     requires room { HasRoom (tables draft.old) }
-    ensures means { OnOk result ((rs : List model.Relation) → (asked : List model.Query) → Means (tables draft.old) queries.old rs asked → Means (tables draft.new) queries.new
-        (rs ++ relations_in context.now.dialect (relations context.now.relations.now) (step_top (sites context.now.flat.now) context.now.names.now form))
-        (asked ++ queries_in context.now.dialect (relations context.now.relations.now) (step_top (sites context.now.flat.now) context.now.names.now form))) }
+    ensures means { OnOk result (AddsForms (tables draft.old) (tables draft.new) queries.old queries.new
+        (relations_parsed context.now form)
+        (queries_parsed context.now form)) }
+    ensures names { OnOk result (AddsNames (tables draft.old) (tables draft.new) (names_parsed context.now form)) }
     ensures room { OnOk result (HasRoom (tables draft.new)) }
-    ensures closed { OnOk result (KeepsClosed (sites context.now.flat.now) (tables draft.old) (tables draft.new) (all_named (relations_in context.now.dialect (relations context.now.relations.now) (step_top (sites context.now.flat.now) context.now.names.now form)) (queries_in context.now.dialect (relations context.now.relations.now) (step_top (sites context.now.flat.now) context.now.names.now form)))) }
-    ensures equational { OnOk result (are_equational_entries (tables draft.new).goals ≡ (are_equational_entries (tables draft.old).goals
-        && are_equational (relations_in context.now.dialect (relations context.now.relations.now) (step_top (sites context.now.flat.now) context.now.names.now form))
-        (queries_in context.now.dialect (relations context.now.relations.now) (step_top (sites context.now.flat.now) context.now.names.now form)))) }
+    ensures closed { OnOk result (KeepsClosed (data_of context.now) (tables draft.old) (tables draft.new)
+        (all_named (relations_parsed context.now form) (queries_parsed context.now form))) }
+    ensures equational { OnOk result (AddsEquational (tables draft.old) (tables draft.new)
+        (are_equational (relations_parsed context.now form) (queries_parsed context.now form))) }
 {
     match form {
         Form::Relation(head, goals) => build_relation(context, head, goals, draft)?,

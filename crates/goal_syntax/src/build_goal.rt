@@ -1,28 +1,24 @@
 //! Building goals.
 
+ghost use Rattle.goal_syntax.specs.Building.InContext.{list_goal, goal_alone, made_after, KeepsLowIn};
 ghost use Rattle.std.specs.Prelude.{List, ◌≡◌, ◌&&◌, ◌<◌, ◌≤◌, ◌+◌, ◌∷◌, ◌++◌, [], length, reverse, true, IfOk, OnOk};
-ghost use Rattle.kan_grammar.specs.Texts.Binders.{binder as binder_of};
 ghost use Rattle.kan_grammar.specs.Texts.GoalForms.{goal_forms};
-ghost use Rattle.kan_grammar.specs.Texts.Resolved.{Names, conjunction, goals_in, within};
+ghost use Rattle.kan_grammar.specs.Texts.Resolved.{Names, within};
 ghost use Rattle.kan_model.specs.Programs.Drafts.{tables};
-ghost use Rattle.goal_syntax.specs.Building.LowTemplates.{KeepsLow};
+ghost use Rattle.goal_forms.specs.Contexts.{data_of, datum_at, binder_at};
 ghost use Rattle.kan_model.specs.Programs.Tables.{RelationEntry};
 ghost use Rattle.goal_syntax.specs.Building.CallsThere.{are_there, calls_named};
-ghost use Rattle.goal_syntax.specs.Building.GoalsBuilt.{built, own_goal, with_maybe};
+ghost use Rattle.goal_syntax.specs.Building.GoalsBuilt.{built, with_maybe};
 ghost use Rattle.goal_syntax.specs.Building.GrownTables.{HasGoal, Grows, HasRoom};
-ghost use Rattle.goal_syntax.specs.Building.Equations.{is_equational, are_equational_entries};
+ghost use Rattle.goal_syntax.specs.Building.Equations.{is_equational, AddsEquational};
 ghost use Rattle.goal_forms.specs.GoalSteps.{inner_names};
-ghost use Rattle.goal_syntax.specs.Building.GoalsLeft.{finish, first_work, inner_works, other_works, work_size, works_size};
-ghost use Rattle.goal_forms.specs.Parts.{sites, site_at};
+ghost use Rattle.goal_syntax.specs.Building.GoalsLeft.{first_work, inner_works, other_works, work_size, works_size};
 ghost use Rattle.goal_forms.specs.Shapes.{parts};
-ghost use Rattle.goal_forms.specs.RelationTables.{relations};
 ghost use Rattle.goal_forms.specs.Places.{are_below};
 
-use goal_forms::{Context, binder_names, enter};
 use crate::build_node::build_node;
-use goal_forms::{Goal, parse_goal};
 use crate::join_goal::{Row, add_slots, join_two, make, suspend};
-use goal_forms::{is_proper, pair_parts};
+use goal_forms::{Context, Goal, binder_names, enter, is_proper, pair_parts, parse_goal};
 use kan_model::{Draft, GoalNode};
 use kan_terms::Memory;
 
@@ -56,11 +52,11 @@ fn build_own(
     requires room { HasRoom (tables draft.old) }
     requires below { are_below (length (tables draft.old).goals) places.old.items ≡ true }
     ensures made { OnOk result (built (tables draft.new) places.new.items
-        ≡ with_maybe (own_goal context.now.dialect (relations context.now.relations.now) context.now.names.now (sites context.now.flat.now) scope.now goal) (built (tables draft.old) places.old.items)) }
+        ≡ with_maybe (goal_alone context.now scope.now goal) (built (tables draft.old) places.old.items)) }
     ensures below { OnOk result (are_below (length (tables draft.new).goals) places.new.items ≡ true) }
     ensures grows { OnOk result (Grows (tables draft.old) (tables draft.new)) }
     ensures room { OnOk result (HasRoom (tables draft.new)) }
-    ensures low { OnOk result (KeepsLow (sites context.now.flat.now) (tables draft.old) (tables draft.new)) }
+    ensures low { OnOk result (KeepsLowIn context.now draft.old draft.new) }
 {
     if let Some(node) = build_node(context, scope, goal, draft)? {
         make(node, draft, places)?;
@@ -76,9 +72,9 @@ fn enter_fresh(
     scope: &mut Vec<Option<u32>>,
     works: &mut Vec<Work>,
 ) -> Result<(), Memory>
-    ensures scope { OnOk result (scope.new.items ≡ within scope.old.items (binder_of context.now.names.now (site_at (sites context.now.flat.now) binder)).value) }
+    ensures scope { OnOk result (scope.new.items ≡ within scope.old.items (binder_at context.now binder).value) }
     ensures works { OnOk result (works.new.items ≡ works.old.items
-        ++ Work.Suspend ∷ Work.Fresh (length (binder_of context.now.names.now (site_at (sites context.now.flat.now) binder)).value) ∷ Work.Leave (length scope.old.items) ∷ Work.Row Row.All goals ∷ []) }
+        ++ Work.Suspend ∷ Work.Fresh (length (binder_at context.now binder).value) ∷ Work.Leave (length scope.old.items) ∷ Work.Row Row.All goals ∷ []) }
 {
     let bound = binder_names(context.alloc, context.flat, binder)?;
     let Ok(count) = u32::try_from(bound.len()) else {
@@ -99,8 +95,8 @@ fn wait_for(
     scope: &mut Vec<Option<u32>>,
     works: &mut Vec<Work>,
 ) -> Result<(), Memory>
-    ensures scope { OnOk result (scope.new.items ≡ inner_names context.now.names.now (sites context.now.flat.now) scope.old.items goal) }
-    ensures works { OnOk result (works.new.items ≡ works.old.items ++ inner_works context.now.names.now (sites context.now.flat.now) scope.old.items goal) }
+    ensures scope { OnOk result (scope.new.items ≡ inner_names context.now.names.now (data_of context.now) scope.old.items goal) }
+    ensures works { OnOk result (works.new.items ≡ works.old.items ++ inner_works context.now.names.now (data_of context.now) scope.old.items goal) }
 {
     match goal {
         Goal::Fresh(binder, goals) => enter_fresh(context, binder, goals, scope, works)?,
@@ -127,13 +123,13 @@ fn build_goal(
     requires room { HasRoom (tables draft.old) }
     requires below { are_below (length (tables draft.old).goals) places.old.items ≡ true }
     ensures made { OnOk result (
-        finish context.now.dialect (relations context.now.relations.now) context.now.names.now (sites context.now.flat.now) scope.new.items (reverse works.new.items) (built (tables draft.new) places.new.items)
-        ≡ finish context.now.dialect (relations context.now.relations.now) context.now.names.now (sites context.now.flat.now) scope.old.items (Work.Goal place ∷ reverse works.old.items) (built (tables draft.old) places.old.items)) }
-    ensures falls { OnOk result (works_size (sites context.now.flat.now) works.new.items < work_size (sites context.now.flat.now) (Work.Goal place) + works_size (sites context.now.flat.now) works.old.items) }
+        made_after context.now scope.new.items (reverse works.new.items) (built (tables draft.new) places.new.items)
+        ≡ made_after context.now scope.old.items (Work.Goal place ∷ reverse works.old.items) (built (tables draft.old) places.old.items)) }
+    ensures falls { OnOk result (works_size (data_of context.now) works.new.items < work_size (data_of context.now) (Work.Goal place) + works_size (data_of context.now) works.old.items) }
     ensures below { OnOk result (are_below (length (tables draft.new).goals) places.new.items ≡ true) }
     ensures grows { OnOk result (Grows (tables draft.old) (tables draft.new)) }
     ensures room { OnOk result (HasRoom (tables draft.new)) }
-    ensures low { OnOk result (KeepsLow (sites context.now.flat.now) (tables draft.old) (tables draft.new)) }
+    ensures low { OnOk result (KeepsLowIn context.now draft.old draft.new) }
 {
     let goal = parse_goal(context.flat, context.names, place);
     build_own(context, scope, goal, draft, places)?;
@@ -143,7 +139,7 @@ fn build_goal(
 
 // Puts the elements of a row behind its first one on the stack, where there are any, and that they are joined to it.
 fn wait_for_others(context: &Context, row: Row, rest: u32, works: &mut Vec<Work>) -> Result<(), Memory>
-    ensures { OnOk result (works.new.items ≡ works.old.items ++ other_works row rest (parts (site_at (sites context.now.flat.now) rest))) }
+    ensures { OnOk result (works.new.items ≡ works.old.items ++ other_works row rest (parts (datum_at context.now rest))) }
 {
     if pair_parts(context.flat, rest).is_some() {
         works.push(Work::Join(row))?;
@@ -175,9 +171,9 @@ fn build_row(
     requires room { HasRoom (tables draft.old) }
     requires below { are_below (length (tables draft.old).goals) places.old.items ≡ true }
     ensures made { OnOk result ((ns : Names) →
-        finish context.now.dialect (relations context.now.relations.now) context.now.names.now (sites context.now.flat.now) ns (reverse works.new.items) (built (tables draft.new) places.new.items)
-        ≡ finish context.now.dialect (relations context.now.relations.now) context.now.names.now (sites context.now.flat.now) ns (Work.Row row place ∷ reverse works.old.items) (built (tables draft.old) places.old.items)) }
-    ensures falls { OnOk result (works_size (sites context.now.flat.now) works.new.items < work_size (sites context.now.flat.now) (Work.Row row place) + works_size (sites context.now.flat.now) works.old.items) }
+        made_after context.now ns (reverse works.new.items) (built (tables draft.new) places.new.items)
+        ≡ made_after context.now ns (Work.Row row place ∷ reverse works.old.items) (built (tables draft.old) places.old.items)) }
+    ensures falls { OnOk result (works_size (data_of context.now) works.new.items < work_size (data_of context.now) (Work.Row row place) + works_size (data_of context.now) works.old.items) }
     ensures below { OnOk result (are_below (length (tables draft.new).goals) places.new.items ≡ true) }
     ensures grows { OnOk result (Grows (tables draft.old) (tables draft.new)) }
     ensures room { OnOk result (HasRoom (tables draft.new)) }
@@ -203,9 +199,9 @@ fn build_clause(
     requires room { HasRoom (tables draft.old) }
     requires below { are_below (length (tables draft.old).goals) places.old.items ≡ true }
     ensures made { OnOk result ((ns : Names) →
-        finish context.now.dialect (relations context.now.relations.now) context.now.names.now (sites context.now.flat.now) ns (reverse works.new.items) (built (tables draft.new) places.new.items)
-        ≡ finish context.now.dialect (relations context.now.relations.now) context.now.names.now (sites context.now.flat.now) ns (Work.Clause clause ∷ reverse works.old.items) (built (tables draft.old) places.old.items)) }
-    ensures falls { OnOk result (works_size (sites context.now.flat.now) works.new.items < work_size (sites context.now.flat.now) (Work.Clause clause) + works_size (sites context.now.flat.now) works.old.items) }
+        made_after context.now ns (reverse works.new.items) (built (tables draft.new) places.new.items)
+        ≡ made_after context.now ns (Work.Clause clause ∷ reverse works.old.items) (built (tables draft.old) places.old.items)) }
+    ensures falls { OnOk result (works_size (data_of context.now) works.new.items < work_size (data_of context.now) (Work.Clause clause) + works_size (data_of context.now) works.old.items) }
     ensures below { OnOk result (are_below (length (tables draft.new).goals) places.new.items ≡ true) }
     ensures grows { OnOk result (Grows (tables draft.old) (tables draft.new)) }
     ensures room { OnOk result (HasRoom (tables draft.new)) }
@@ -231,13 +227,13 @@ fn build_next(
     requires room { HasRoom (tables draft.old) }
     requires below { are_below (length (tables draft.old).goals) places.old.items ≡ true }
     ensures made { OnOk result (
-        finish context.now.dialect (relations context.now.relations.now) context.now.names.now (sites context.now.flat.now) scope.new.items (reverse works.new.items) (built (tables draft.new) places.new.items)
-        ≡ finish context.now.dialect (relations context.now.relations.now) context.now.names.now (sites context.now.flat.now) scope.old.items (work ∷ reverse works.old.items) (built (tables draft.old) places.old.items)) }
-    ensures falls { OnOk result (works_size (sites context.now.flat.now) works.new.items < work_size (sites context.now.flat.now) work + works_size (sites context.now.flat.now) works.old.items) }
+        made_after context.now scope.new.items (reverse works.new.items) (built (tables draft.new) places.new.items)
+        ≡ made_after context.now scope.old.items (work ∷ reverse works.old.items) (built (tables draft.old) places.old.items)) }
+    ensures falls { OnOk result (works_size (data_of context.now) works.new.items < work_size (data_of context.now) work + works_size (data_of context.now) works.old.items) }
     ensures below { OnOk result (are_below (length (tables draft.new).goals) places.new.items ≡ true) }
     ensures grows { OnOk result (Grows (tables draft.old) (tables draft.new)) }
     ensures room { OnOk result (HasRoom (tables draft.new)) }
-    ensures low { OnOk result (KeepsLow (sites context.now.flat.now) (tables draft.old) (tables draft.new)) }
+    ensures low { OnOk result (KeepsLowIn context.now draft.old draft.new) }
 {
     match work {
         Work::Goal(place) => build_goal(context, place, scope, draft, places, works)?,
@@ -259,14 +255,14 @@ pub(crate) fn build_goals(
     draft: &mut Draft,
 ) -> Result<u32, Memory>
     requires room { HasRoom (tables draft.old) }
-    ensures made { IfOk result (λ at. HasGoal (tables draft.new) at (conjunction (goals_in context.now.dialect (relations context.now.relations.now) scope.items (goal_forms context.now.names.now (site_at (sites context.now.flat.now) place))))) }
+    ensures made { IfOk result (λ at. HasGoal (tables draft.new) at (list_goal context.now scope.items place)) }
     ensures grows { OnOk result (Grows (tables draft.old) (tables draft.new)) }
     ensures room { OnOk result (HasRoom (tables draft.new)) }
-    ensures low { OnOk result (KeepsLow (sites context.now.flat.now) (tables draft.old) (tables draft.new)) }
-    ensures equational { OnOk result (are_equational_entries (tables draft.new).goals ≡ (are_equational_entries (tables draft.old).goals
-        && is_equational (conjunction (goals_in context.now.dialect (relations context.now.relations.now) scope.items (goal_forms context.now.names.now (site_at (sites context.now.flat.now) place)))))) }
+    ensures low { OnOk result (KeepsLowIn context.now draft.old draft.new) }
+    ensures equational { OnOk result (AddsEquational (tables draft.old) (tables draft.new)
+        (is_equational (list_goal context.now scope.items place))) }
     ensures called { OnOk result ((rows : List RelationEntry) → are_there rows (tables draft.new).goals ≡ (are_there rows (tables draft.old).goals
-        && calls_named rows (conjunction (goals_in context.now.dialect (relations context.now.relations.now) scope.items (goal_forms context.now.names.now (site_at (sites context.now.flat.now) place)))))) }
+        && calls_named rows (list_goal context.now scope.items place))) }
 {
     let mut places = Vec::new(context.alloc);
     let mut works = Vec::new(context.alloc);

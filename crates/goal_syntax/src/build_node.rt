@@ -1,21 +1,17 @@
 //! Building goals that have no goals in them.
 
+ghost use Rattle.goal_syntax.specs.Building.InContext.{goal_alone, KeepsLowIn};
 ghost use Rattle.std.specs.Prelude.{◌≡◌, IfOk, OnOk};
 ghost use Rattle.kan_grammar.specs.Texts.Binders.{tag as tag_of};
-ghost use Rattle.kan_grammar.specs.Texts.TermForms.{term_form};
-ghost use Rattle.kan_grammar.specs.Texts.Resolved.{relation_number, template_in};
+ghost use Rattle.kan_grammar.specs.Texts.Resolved.{template_in};
 ghost use Rattle.kan_model.specs.Programs.Drafts.{tables};
-ghost use Rattle.goal_syntax.specs.Building.LowTemplates.{KeepsLow};
-ghost use Rattle.goal_syntax.specs.Building.GoalsBuilt.{StandsFor, own_goal};
+ghost use Rattle.goal_forms.specs.Contexts.{datum_at, term_at};
+ghost use Rattle.goal_syntax.specs.Building.GoalsBuilt.{StandsFor};
 ghost use Rattle.goal_syntax.specs.Building.GrownTables.{HasTemplate, Grows, HasRoom};
-ghost use Rattle.goal_forms.specs.Parts.{sites, site_at};
 ghost use Rattle.goal_forms.specs.RelationTables.{relations};
 
-use goal_forms::quoted_symbol;
 use crate::build_term::{build_arguments, build_term};
-use goal_forms::Goal;
-use goal_forms::Context;
-use goal_forms::Task;
+use goal_forms::{Context, Goal, Task, quoted_symbol};
 use kan_model::{Draft, GoalNode};
 use kan_terms::Memory;
 
@@ -28,11 +24,11 @@ fn build_two(
     draft: &mut Draft,
 ) -> Result<(u32, u32), Memory>
     requires room { HasRoom (tables draft.old) }
-    ensures left { IfOk result (λ made. HasTemplate (tables draft.new) made.0 (template_in scope.now (term_form context.now.names.now (site_at (sites context.now.flat.now) left)))) }
-    ensures right { IfOk result (λ made. HasTemplate (tables draft.new) made.1 (template_in scope.now (term_form context.now.names.now (site_at (sites context.now.flat.now) right)))) }
+    ensures left { IfOk result (λ made. HasTemplate (tables draft.new) made.0 (template_in scope.now (term_at context.now left))) }
+    ensures right { IfOk result (λ made. HasTemplate (tables draft.new) made.1 (template_in scope.now (term_at context.now right))) }
     ensures grows { OnOk result (Grows (tables draft.old) (tables draft.new)) }
     ensures room { OnOk result (HasRoom (tables draft.new)) }
-    ensures low { OnOk result (KeepsLow (sites context.now.flat.now) (tables draft.old) (tables draft.new)) }
+    ensures low { OnOk result (KeepsLowIn context.now draft.old draft.new) }
     ensures same { OnOk result ((tables draft.new).goals ≡ (tables draft.old).goals) }
 {
     let first = build_term(context, scope, Task::Term(left), draft)?;
@@ -42,7 +38,7 @@ fn build_two(
 
 // The symbol of a tag; one that is none stands for the first symbol.
 fn tag_symbol(context: &Context, place: u32) -> u32
-    ensures { result ≡ (tag_of context.now.names.now (site_at (sites context.now.flat.now) place)).value }
+    ensures { result ≡ (tag_of context.now.names.now (datum_at context.now place)).value }
 {
     quoted_symbol(context.flat, context.names, place).unwrap_or(0)
 }
@@ -55,10 +51,10 @@ pub(crate) fn build_node(
     draft: &mut Draft,
 ) -> Result<Option<GoalNode>, Memory>
     requires room { HasRoom (tables draft.old) }
-    ensures made { IfOk result (λ node. StandsFor (tables draft.new) node (own_goal context.now.dialect (relations context.now.relations.now) context.now.names.now (sites context.now.flat.now) scope.now goal)) }
+    ensures made { IfOk result (λ node. StandsFor (tables draft.new) node (goal_alone context.now scope.now goal)) }
     ensures grows { OnOk result (Grows (tables draft.old) (tables draft.new)) }
     ensures room { OnOk result (HasRoom (tables draft.new)) }
-    ensures low { OnOk result (KeepsLow (sites context.now.flat.now) (tables draft.old) (tables draft.new)) }
+    ensures low { OnOk result (KeepsLowIn context.now draft.old draft.new) }
     ensures same { OnOk result ((tables draft.new).goals ≡ (tables draft.old).goals) }
 {
     match goal {

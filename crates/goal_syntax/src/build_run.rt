@@ -1,28 +1,24 @@
 //! Building the goals of runs.
 
-ghost use Rattle.std.specs.Prelude.{true, ◌≤◌, ◌≡◌, ◌&&◌, ◌<◌, ◌∷◌, [], None, ℕ, List, length, IfOk, OnOk};
-ghost use Rattle.kan_terms.specs.Tree.{leaf};
+ghost use Rattle.goal_syntax.specs.Building.InContext.{list_goal, goal_behind, run_goal, fresh_goal};
+ghost use Rattle.std.specs.Prelude.{true, ◌≤◌, ◌≡◌, ◌&&◌, ◌<◌, ◌∷◌, [], List, length, IfOk, OnOk};
 ghost use Rattle.kan_model.specs.Programs.Goals as model;
-ghost use Rattle.kan_grammar.specs.Texts.Binders.{binder as binder_of};
 ghost use Rattle.kan_grammar.specs.Texts.GoalForms.{goal_forms};
-ghost use Rattle.kan_grammar.specs.Texts.ProgramText.{slot_list};
-ghost use Rattle.kan_grammar.specs.Texts.Resolved.{conjunction, goals_in, suspended_in, within};
+ghost use Rattle.kan_grammar.specs.Texts.Resolved.{suspended_in, within};
 ghost use Rattle.kan_model.specs.Programs.Drafts.{tables, templates};
+ghost use Rattle.goal_forms.specs.Contexts.{data_of};
 ghost use Rattle.goal_syntax.specs.Building.CallsThere.{KeepsClosed, are_there, calls_named};
 ghost use Rattle.std.specs.List.{list_all};
 ghost use Rattle.kan_model.specs.Programs.Scope.{is_low};
 ghost use Rattle.kan_model.specs.Programs.Tables.{RelationEntry};
 ghost use Rattle.goal_syntax.specs.Building.GrownTables.{HasGoal, Grows, HasRoom};
-ghost use Rattle.goal_syntax.specs.Building.Equations.{is_equational, are_equational_entries};
-ghost use Rattle.goal_forms.specs.Parts.{sites, site_at};
-ghost use Rattle.goal_forms.specs.RelationTables.{relations};
-ghost use Rattle.goal_syntax.specs.Building.FormsBuilt.{asked_equation, asked_fresh, asked_list};
+ghost use Rattle.goal_syntax.specs.Building.Equations.{is_equational, are_equational_entries, AddsEquational};
+ghost use Rattle.goal_syntax.specs.Building.FormsBuilt.{asked_equation};
 
-use goal_forms::{Context, binder_names, enter, unnamed};
 use crate::build_goal::build_goals;
 use crate::build_term::build_slots;
 use crate::drafting::{add_goal, add_term};
-use goal_forms::pair_parts;
+use goal_forms::{Context, binder_names, enter, pair_parts, unnamed};
 use kan_grammar::Dialect;
 use kan_model::{Draft, GoalNode, TermNode};
 use kan_terms::Memory;
@@ -35,12 +31,13 @@ pub(crate) fn build_one(
     draft: &mut Draft,
 ) -> Result<u32, Memory>
     requires room { HasRoom (tables draft.old) }
-    ensures made { IfOk result (λ at. HasGoal (tables draft.new) at (conjunction (goals_in context.now.dialect (relations context.now.relations.now) (within [] (symbol ∷ [])) (goal_forms context.now.names.now (site_at (sites context.now.flat.now) goals))))) }
+    ensures made { IfOk result (λ at. HasGoal (tables draft.new) at (list_goal context.now (within [] (symbol ∷ [])) goals)) }
     ensures grows { OnOk result (Grows (tables draft.old) (tables draft.new)) }
     ensures room { OnOk result (HasRoom (tables draft.new)) }
-    ensures closed { OnOk result (KeepsClosed (sites context.now.flat.now) (tables draft.old) (tables draft.new) (λ rows. calls_named rows (conjunction (goals_in context.now.dialect (relations context.now.relations.now) (within [] (symbol ∷ [])) (goal_forms context.now.names.now (site_at (sites context.now.flat.now) goals)))))) }
-    ensures equational { OnOk result (are_equational_entries (tables draft.new).goals ≡ (are_equational_entries (tables draft.old).goals
-        && is_equational (conjunction (goals_in context.now.dialect (relations context.now.relations.now) (within [] (symbol ∷ [])) (goal_forms context.now.names.now (site_at (sites context.now.flat.now) goals)))))) }
+    ensures closed { OnOk result (KeepsClosed (data_of context.now) (tables draft.old) (tables draft.new)
+        (λ rows. calls_named rows (list_goal context.now (within [] (symbol ∷ [])) goals))) }
+    ensures equational { OnOk result (AddsEquational (tables draft.old) (tables draft.new)
+        (is_equational (list_goal context.now (within [] (symbol ∷ [])) goals))) }
 {
     let mut scope = Vec::new(context.alloc);
     scope.push(Some(symbol))?;
@@ -75,12 +72,13 @@ fn build_behind(
     requires there { first < length (tables draft.old).goals }
     requires room { HasRoom (tables draft.old) }
     ensures made { IfOk result (λ at. (g : model.Goal) → HasGoal (tables draft.old) first g →
-        HasGoal (tables draft.new) at (conjunction (g ∷ goals_in context.now.dialect (relations context.now.relations.now) scope.items (goal_forms context.now.names.now (site_at (sites context.now.flat.now) goals))))) }
+        HasGoal (tables draft.new) at (goal_behind context.now g scope.items goals)) }
     ensures grows { OnOk result (Grows (tables draft.old) (tables draft.new)) }
     ensures room { OnOk result (HasRoom (tables draft.new)) }
-    ensures closed { OnOk result (KeepsClosed (sites context.now.flat.now) (tables draft.old) (tables draft.new) (λ rows. calls_named rows (conjunction (goals_in context.now.dialect (relations context.now.relations.now) scope.items (goal_forms context.now.names.now (site_at (sites context.now.flat.now) goals)))))) }
-    ensures equational { OnOk result (are_equational_entries (tables draft.new).goals ≡ (are_equational_entries (tables draft.old).goals
-        && is_equational (conjunction (goals_in context.now.dialect (relations context.now.relations.now) scope.items (goal_forms context.now.names.now (site_at (sites context.now.flat.now) goals)))))) }
+    ensures closed { OnOk result (KeepsClosed (data_of context.now) (tables draft.old) (tables draft.new)
+        (λ rows. calls_named rows (list_goal context.now scope.items goals))) }
+    ensures equational { OnOk result (AddsEquational (tables draft.old) (tables draft.new)
+        (is_equational (list_goal context.now scope.items goals))) }
 {
     if pair_parts(context.flat, goals).is_none() {
         return Ok(first);
@@ -98,12 +96,13 @@ fn build_fresh(
     draft: &mut Draft,
 ) -> Result<u32, Memory>
     requires room { HasRoom (tables draft.old) }
-    ensures made { IfOk result (λ at. HasGoal (tables draft.new) at (asked_fresh context.now.dialect (relations context.now.relations.now) (binder_of context.now.names.now (site_at (sites context.now.flat.now) binder)).value (goal_forms context.now.names.now (site_at (sites context.now.flat.now) goals)))) }
+    ensures made { IfOk result (λ at. HasGoal (tables draft.new) at (fresh_goal context.now binder goals)) }
     ensures grows { OnOk result (Grows (tables draft.old) (tables draft.new)) }
     ensures room { OnOk result (HasRoom (tables draft.new)) }
-    ensures closed { OnOk result (KeepsClosed (sites context.now.flat.now) (tables draft.old) (tables draft.new) (λ rows. calls_named rows (asked_fresh context.now.dialect (relations context.now.relations.now) (binder_of context.now.names.now (site_at (sites context.now.flat.now) binder)).value (goal_forms context.now.names.now (site_at (sites context.now.flat.now) goals))))) }
-    ensures equational { OnOk result (are_equational_entries (tables draft.new).goals ≡ (are_equational_entries (tables draft.old).goals
-        && is_equational (asked_fresh context.now.dialect (relations context.now.relations.now) (binder_of context.now.names.now (site_at (sites context.now.flat.now) binder)).value (goal_forms context.now.names.now (site_at (sites context.now.flat.now) goals))))) }
+    ensures closed { OnOk result (KeepsClosed (data_of context.now) (tables draft.old) (tables draft.new)
+        (λ rows. calls_named rows (fresh_goal context.now binder goals))) }
+    ensures equational { OnOk result (AddsEquational (tables draft.old) (tables draft.new)
+        (is_equational (fresh_goal context.now binder goals))) }
 {
     let bound = binder_names(context.alloc, context.flat, binder)?;
     let Ok(count) = u32::try_from(bound.len()) else {
@@ -148,12 +147,13 @@ pub(crate) fn build_list(
     draft: &mut Draft,
 ) -> Result<u32, Memory>
     requires room { HasRoom (tables draft.old) }
-    ensures made { IfOk result (λ at. HasGoal (tables draft.new) at (asked_list context.now.dialect (relations context.now.relations.now) (binder_of context.now.names.now (site_at (sites context.now.flat.now) binder)).value (goal_forms context.now.names.now (site_at (sites context.now.flat.now) goals)))) }
+    ensures made { IfOk result (λ at. HasGoal (tables draft.new) at (run_goal context.now binder goals)) }
     ensures grows { OnOk result (Grows (tables draft.old) (tables draft.new)) }
     ensures room { OnOk result (HasRoom (tables draft.new)) }
-    ensures closed { OnOk result (KeepsClosed (sites context.now.flat.now) (tables draft.old) (tables draft.new) (λ rows. calls_named rows (asked_list context.now.dialect (relations context.now.relations.now) (binder_of context.now.names.now (site_at (sites context.now.flat.now) binder)).value (goal_forms context.now.names.now (site_at (sites context.now.flat.now) goals))))) }
-    ensures equational { OnOk result (are_equational_entries (tables draft.new).goals ≡ (are_equational_entries (tables draft.old).goals
-        && is_equational (asked_list context.now.dialect (relations context.now.relations.now) (binder_of context.now.names.now (site_at (sites context.now.flat.now) binder)).value (goal_forms context.now.names.now (site_at (sites context.now.flat.now) goals))))) }
+    ensures closed { OnOk result (KeepsClosed (data_of context.now) (tables draft.old) (tables draft.new)
+        (λ rows. calls_named rows (run_goal context.now binder goals))) }
+    ensures equational { OnOk result (AddsEquational (tables draft.old) (tables draft.new)
+        (is_equational (run_goal context.now binder goals))) }
 {
     let fresh = build_fresh(context, binder, goals, draft)?;
     let goal = suspend_at(context.dialect, fresh, draft)?;

@@ -1,7 +1,7 @@
 //! Building templates of terms.
 
-ghost use Rattle.std.specs.Prelude.{◌≡◌, ◌∷◌, ◌+◌, ◌<◌, ◌≤◌, map, length, reverse, unwrap_or, true, IfOk, OnOk, List, ℕ};
-ghost use Rattle.kan_grammar.specs.Texts.GoalForms.{term_forms};
+ghost use Rattle.goal_syntax.specs.Building.InContext.{task_template, term_templates, KeepsLowIn};
+ghost use Rattle.std.specs.Prelude.{◌≡◌, ◌∷◌, ◌+◌, ◌<◌, ◌≤◌, map, length, reverse, unwrap_or, true, IfOk, OnOk};
 ghost use Rattle.kan_grammar.specs.Texts.ProgramText.{slot_list};
 ghost use Rattle.kan_grammar.specs.Texts.Resolved.{template_in, slot_of};
 ghost use Rattle.kan_model.specs.Programs.Tables.{is_term_grown, template_at, template_of};
@@ -9,20 +9,15 @@ ghost use Rattle.kan_model.specs.Programs.Nodes.{term_entry};
 ghost use Rattle.kan_model.specs.Programs.Drafts.{tables, templates};
 ghost use Rattle.std.specs.List.{list_all};
 ghost use Rattle.kan_model.specs.Programs.Scope.{is_low};
+ghost use Rattle.goal_forms.specs.Contexts.{data_of};
 ghost use Rattle.goal_syntax.specs.Building.TermHeights.{WorksLow, all_low};
-ghost use Rattle.goal_forms.specs.Heights.{AreLow};
-ghost use Rattle.goal_syntax.specs.Building.LowTemplates.{KeepsLow};
 ghost use Rattle.goal_syntax.specs.Building.TermsLeft.{AddsTerms, HasTemplates, with_arguments, built, paired, finish, work_size, works_size};
 ghost use Rattle.goal_syntax.specs.Building.GrownTables.{HasTemplate, HasArguments, Grows, HasRoom};
-ghost use Rattle.goal_forms.specs.Parts.{sites, site_at};
-ghost use Rattle.goal_forms.specs.TermSteps.{task_form, step_form, step_size};
+ghost use Rattle.goal_forms.specs.TermSteps.{step_form, step_size};
 ghost use Rattle.goal_forms.specs.Places.{are_below};
 
 use crate::drafting::{add_argument, add_term};
-use goal_forms::Context;
-use goal_forms::slot_of;
-use goal_forms::pair_parts;
-use goal_forms::{Step, Task, parse_task};
+use goal_forms::{Context, Step, Task, pair_parts, parse_task, slot_of};
 use kan_model::{Draft, TermNode};
 use kan_terms::Memory;
 
@@ -88,18 +83,18 @@ fn build_step(
 ) -> Result<(), Memory>
     requires room { HasRoom (tables draft.old) }
     requires below { are_below (length (tables draft.old).terms) places.old.items ≡ true }
-    ensures made { OnOk result (finish (sites context.now.flat.now) context.now.names.now scope.now (reverse works.new.items) (built (templates draft.new) places.new.items)
-        ≡ finish (sites context.now.flat.now) context.now.names.now scope.now (reverse works.old.items)
-        (template_in scope.now (step_form (sites context.now.flat.now) context.now.names.now step) ∷ built (templates draft.old) places.old.items)) }
+    ensures made { OnOk result (finish (data_of context.now) context.now.names.now scope.now (reverse works.new.items) (built (templates draft.new) places.new.items)
+        ≡ finish (data_of context.now) context.now.names.now scope.now (reverse works.old.items)
+        (template_in scope.now (step_form (data_of context.now) context.now.names.now step) ∷ built (templates draft.old) places.old.items)) }
     ensures below { OnOk result (are_below (length (tables draft.new).terms) places.new.items ≡ true) }
     ensures adds { OnOk result (AddsTerms (tables draft.old) (tables draft.new)) }
     ensures low { OnOk result (
-        all_low (sites context.now.flat.now) context.now.names.now scope.now (reverse works.old.items)
-        (template_in scope.now (step_form (sites context.now.flat.now) context.now.names.now step) ∷ built (templates draft.old) places.old.items) ≡ true →
+        all_low (data_of context.now) context.now.names.now scope.now (reverse works.old.items)
+        (template_in scope.now (step_form (data_of context.now) context.now.names.now step) ∷ built (templates draft.old) places.old.items) ≡ true →
         list_all is_low (templates draft.old) ≡ true →
-        WorksLow (sites context.now.flat.now) context.now.names.now scope.now (reverse works.new.items) (templates draft.new) places.new.items) }
-    ensures falls { OnOk result (works_size (sites context.now.flat.now) works.new.items
-        ≤ 1 + step_size (sites context.now.flat.now) step + step_size (sites context.now.flat.now) step + works_size (sites context.now.flat.now) works.old.items) }
+        WorksLow (data_of context.now) context.now.names.now scope.now (reverse works.new.items) (templates draft.new) places.new.items) }
+    ensures falls { OnOk result (works_size (data_of context.now) works.new.items
+        ≤ 1 + step_size (data_of context.now) step + step_size (data_of context.now) step + works_size (data_of context.now) works.old.items) }
 {
     match step {
         Step::Variable(_, symbol) => {
@@ -131,14 +126,14 @@ fn build_work(
 ) -> Result<(), Memory>
     requires room { HasRoom (tables draft.old) }
     requires below { are_below (length (tables draft.old).terms) places.old.items ≡ true }
-    ensures made { OnOk result (finish (sites context.now.flat.now) context.now.names.now scope.now (reverse works.new.items) (built (templates draft.new) places.new.items)
-        ≡ finish (sites context.now.flat.now) context.now.names.now scope.now (work ∷ reverse works.old.items) (built (templates draft.old) places.old.items)) }
+    ensures made { OnOk result (finish (data_of context.now) context.now.names.now scope.now (reverse works.new.items) (built (templates draft.new) places.new.items)
+        ≡ finish (data_of context.now) context.now.names.now scope.now (work ∷ reverse works.old.items) (built (templates draft.old) places.old.items)) }
     ensures below { OnOk result (are_below (length (tables draft.new).terms) places.new.items ≡ true) }
     ensures adds { OnOk result (AddsTerms (tables draft.old) (tables draft.new)) }
-    ensures low { OnOk result (WorksLow (sites context.now.flat.now) context.now.names.now scope.now (work ∷ reverse works.old.items) (templates draft.old) places.old.items →
-        WorksLow (sites context.now.flat.now) context.now.names.now scope.now (reverse works.new.items) (templates draft.new) places.new.items) }
-    ensures falls { OnOk result (works_size (sites context.now.flat.now) works.new.items
-        < work_size (sites context.now.flat.now) work + works_size (sites context.now.flat.now) works.old.items) }
+    ensures low { OnOk result (WorksLow (data_of context.now) context.now.names.now scope.now (work ∷ reverse works.old.items) (templates draft.old) places.old.items →
+        WorksLow (data_of context.now) context.now.names.now scope.now (reverse works.new.items) (templates draft.new) places.new.items) }
+    ensures falls { OnOk result (works_size (data_of context.now) works.new.items
+        < work_size (data_of context.now) work + works_size (data_of context.now) works.old.items) }
 {
     match work {
         Work::Term(task) => {
@@ -158,11 +153,11 @@ pub(crate) fn build_term(
     draft: &mut Draft,
 ) -> Result<u32, Memory>
     requires room { HasRoom (tables draft.old) }
-    ensures made { IfOk result (λ at. HasTemplate (tables draft.new) at (template_in scope.now (task_form (sites context.now.flat.now) context.now.names.now task))) }
+    ensures made { IfOk result (λ at. HasTemplate (tables draft.new) at (task_template context.now scope.now task)) }
     ensures grows { OnOk result (Grows (tables draft.old) (tables draft.new)) }
     ensures room { OnOk result (HasRoom (tables draft.new)) }
     ensures same { OnOk result ((tables draft.new).goals ≡ (tables draft.old).goals) }
-    ensures low { OnOk result (KeepsLow (sites context.now.flat.now) (tables draft.old) (tables draft.new)) }
+    ensures low { OnOk result (KeepsLowIn context.now draft.old draft.new) }
 {
     let mut places = Vec::new(context.alloc);
     let mut works = Vec::new(context.alloc);
@@ -181,9 +176,9 @@ fn build_terms(
     draft: &mut Draft,
 ) -> Result<Vec<u32>, Memory>
     requires room { HasRoom (tables draft.old) }
-    ensures made { IfOk result (λ places. HasTemplates (tables draft.new) places.items (map (template_in scope.now) (term_forms context.now.names.now (site_at (sites context.now.flat.now) place)))) }
+    ensures made { IfOk result (λ places. HasTemplates (tables draft.new) places.items (term_templates context.now scope.now place)) }
     ensures adds { OnOk result (AddsTerms (tables draft.old) (tables draft.new)) }
-    ensures low { OnOk result (KeepsLow (sites context.now.flat.now) (tables draft.old) (tables draft.new)) }
+    ensures low { OnOk result (KeepsLowIn context.now draft.old draft.new) }
 {
     let mut places = Vec::new(context.alloc);
     while let Some((first, rest)) = pair_parts(context.flat, place) {
@@ -233,11 +228,11 @@ pub(crate) fn build_arguments(
     draft: &mut Draft,
 ) -> Result<(u32, u32), Memory>
     requires room { HasRoom (tables draft.old) }
-    ensures made { IfOk result (λ made. HasArguments (tables draft.new) made.0 made.1 (map (template_in scope.now) (term_forms context.now.names.now (site_at (sites context.now.flat.now) place)))) }
+    ensures made { IfOk result (λ made. HasArguments (tables draft.new) made.0 made.1 (term_templates context.now scope.now place)) }
     ensures grows { OnOk result (Grows (tables draft.old) (tables draft.new)) }
     ensures room { OnOk result (HasRoom (tables draft.new)) }
     ensures same { OnOk result ((tables draft.new).goals ≡ (tables draft.old).goals) }
-    ensures low { OnOk result (KeepsLow (sites context.now.flat.now) (tables draft.old) (tables draft.new)) }
+    ensures low { OnOk result (KeepsLowIn context.now draft.old draft.new) }
 {
     let terms = build_terms(context, scope, place, draft)?;
     let at = put_arguments(&terms, draft)?;

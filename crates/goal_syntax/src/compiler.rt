@@ -1,27 +1,28 @@
 //! Compiling texts: their program and their runs.
 
-ghost use Rattle.std.specs.Prelude.{[], ◌≡◌, ◌&&◌, ◌+◌, ◌<◌, ◌^◌, ◌++◌, List, length, map, true, IfOk, OnOk};
+ghost use Rattle.goal_syntax.specs.Building.InContext.{form_relations, form_names, forms_relations, forms_queries, forms_names};
+ghost use Rattle.goal_syntax.specs.Building.FormsBuilt.{relation_names, entry_names, AddsNames, AddsRelations, AddsForms};
+ghost use Rattle.std.specs.Prelude.{[], ◌≡◌, ◌&&◌, ◌+◌, ◌<◌, ◌^◌, ◌++◌, length, map, true, IfOk, OnOk};
 ghost use Rattle.std.specs.List.{list_all};
-ghost use Rattle.sexpr.specs.Reads.{Extends};
+ghost use Rattle.kan_grammar.specs.Texts.TextNames.{with_prefixes};
 ghost use Rattle.kan_model.specs.Programs.Drafts.{tables};
 ghost use Rattle.kan_model.specs.Programs.Goals as model;
 ghost use Rattle.kan_model.specs.Programs.Nodes.{goal_place};
-ghost use Rattle.kan_grammar.specs.Texts.ProgramText.{text_meaning, relations_in, relations_of, queries_of};
+ghost use Rattle.kan_grammar.specs.Texts.ProgramText.{text_meaning};
 ghost use Rattle.kan_model.specs.Programs.Closed as programs;
 ghost use Rattle.kan_model.specs.Programs.Scope.{is_small};
 ghost use Rattle.kan_grammar.specs.Texts.Sited.{with_sites};
 ghost use Rattle.sexpr.specs.Seen.{written};
 ghost use Rattle.kan_model.specs.Programs.Tables.{are_closed};
-ghost use Rattle.kan_grammar.specs.Texts.TopForms.{definitions, form};
-ghost use Rattle.kan_model.specs.declared.nodes.Query.{Query as AskedOf};
+ghost use Rattle.kan_grammar.specs.Texts.TopForms.{definitions};
+ghost use Rattle.goal_forms.specs.Contexts.{data_of, data_at, defined_in};
 ghost use Rattle.goal_forms.specs.Heights.{AreLow};
 ghost use Rattle.kan_grammar.specs.Texts.TextFaults.{faults_of, IsAccepted};
 ghost use Rattle.goal_syntax.specs.Building.CallsThere.{KeepsClosed, all_named, bodies_named};
-ghost use Rattle.goal_syntax.specs.Building.FormsBuilt.{Means};
 ghost use Rattle.goal_syntax.specs.Compiling.CompiledForms.{CompilesForms, IsMeant};
-ghost use Rattle.goal_syntax.specs.Compiling.Compiles.{AreOfText, Compiles, IsAcceptedAlone};
+ghost use Rattle.goal_syntax.specs.Compiling.Compiles.{AreOfText, Compiles, IsAcceptedAlone, TableAfter};
 ghost use Rattle.goal_syntax.specs.Building.GrownTables.{HasRoom};
-ghost use Rattle.goal_syntax.specs.Building.Equations.{are_equational, are_equational_entries, is_equational_body};
+ghost use Rattle.goal_syntax.specs.Building.Equations.{are_equational, is_equational_body, AddsEquational};
 ghost use Rattle.goal_syntax.specs.Compiling.SymbolNames.{are_named};
 ghost use Rattle.goal_forms.specs.Parts.{sites, site_at};
 ghost use Rattle.goal_forms.specs.RelationTables.{relations};
@@ -29,11 +30,10 @@ ghost use Rattle.goal_forms.specs.Flattening.{AreNumbered, meaning};
 
 use crate::build_form::{build_form, build_relation};
 use crate::refusal::SyntaxError;
-use goal_forms::{Form, Context, define, number_prefixes, parse_form};
 use crate::judge_text::first_of_forms;
 use crate::named::are_named;
-use goal_forms::FlatData;
-use goal_forms::{Prefixes, turn_both};
+use goal_forms::{Context, FlatData, Form, Prefixes, define, number_prefixes, parse_form, turn_both};
+use kan_grammar::Dialect;
 use kan_model::{Draft, Program, Query};
 use kan_terms::{ListOf, Memory, Names};
 use sexpr::Datum;
@@ -57,12 +57,14 @@ pub struct Compiled {
 // Builds the relation of a top form of a library, which has no runs.
 fn build_library_form(context: &Context, place: u32, draft: &mut Draft) -> Result<(), Memory>
     requires room { HasRoom (tables draft.old) }
-    ensures means { OnOk result ((qs : List AskedOf) → (rs : List model.Relation) → (asked : List model.Query) → Means (tables draft.old) qs rs asked → Means (tables draft.new) qs
-        (rs ++ relations_in context.now.dialect (relations context.now.relations.now) (form context.now.names.now (site_at (sites context.now.flat.now) place))) asked) }
+    ensures means { OnOk result (AddsRelations (tables draft.old) (tables draft.new)
+        (form_relations context.now place)) }
+    ensures names { OnOk result (AddsNames (tables draft.old) (tables draft.new) (form_names context.now place)) }
     ensures room { OnOk result (HasRoom (tables draft.new)) }
-    ensures closed { OnOk result (KeepsClosed (sites context.now.flat.now) (tables draft.old) (tables draft.new) (bodies_named (relations_in context.now.dialect (relations context.now.relations.now) (form context.now.names.now (site_at (sites context.now.flat.now) place))))) }
-    ensures equational { OnOk result (are_equational_entries (tables draft.new).goals ≡ (are_equational_entries (tables draft.old).goals
-        && list_all is_equational_body (relations_in context.now.dialect (relations context.now.relations.now) (form context.now.names.now (site_at (sites context.now.flat.now) place))))) }
+    ensures closed { OnOk result (KeepsClosed (data_of context.now) (tables draft.old) (tables draft.new)
+        (bodies_named (form_relations context.now place))) }
+    ensures equational { OnOk result (AddsEquational (tables draft.old) (tables draft.new)
+        (list_all is_equational_body (form_relations context.now place))) }
 {
     if let Form::Relation(head, goals) = parse_form(context.flat, context.names, place) {
         build_relation(context, head, goals, draft)?;
@@ -73,12 +75,14 @@ fn build_library_form(context: &Context, place: u32, draft: &mut Draft) -> Resul
 // Builds the relations of a library.
 fn build_library(context: &Context, forms: &[u32], draft: &mut Draft) -> Result<(), Memory>
     requires room { HasRoom (tables draft.old) }
-    ensures means { OnOk result ((qs : List AskedOf) → (rs : List model.Relation) → (asked : List model.Query) → Means (tables draft.old) qs rs asked → Means (tables draft.new) qs
-        (rs ++ relations_of context.now.dialect context.now.names.now (relations context.now.relations.now) (map (site_at (sites context.now.flat.now)) forms.now)) asked) }
+    ensures means { OnOk result (AddsRelations (tables draft.old) (tables draft.new)
+        (forms_relations context.now forms.now)) }
+    ensures names { OnOk result (AddsNames (tables draft.old) (tables draft.new) (forms_names context.now forms.now)) }
     ensures room { OnOk result (HasRoom (tables draft.new)) }
-    ensures closed { OnOk result (KeepsClosed (sites context.now.flat.now) (tables draft.old) (tables draft.new) (bodies_named (relations_of context.now.dialect context.now.names.now (relations context.now.relations.now) (map (site_at (sites context.now.flat.now)) forms.now)))) }
-    ensures equational { OnOk result (are_equational_entries (tables draft.new).goals ≡ (are_equational_entries (tables draft.old).goals
-        && list_all is_equational_body (relations_of context.now.dialect context.now.names.now (relations context.now.relations.now) (map (site_at (sites context.now.flat.now)) forms.now)))) }
+    ensures closed { OnOk result (KeepsClosed (data_of context.now) (tables draft.old) (tables draft.new)
+        (bodies_named (forms_relations context.now forms.now))) }
+    ensures equational { OnOk result (AddsEquational (tables draft.old) (tables draft.new)
+        (list_all is_equational_body (forms_relations context.now forms.now))) }
 {
     for place in forms {
         build_library_form(context, *place, draft)?;
@@ -94,14 +98,15 @@ fn build_text(
     queries: &mut Queries,
 ) -> Result<(), Memory>
     requires room { HasRoom (tables draft.old) }
-    ensures means { OnOk result ((rs : List model.Relation) → (asked : List model.Query) → Means (tables draft.old) queries.old rs asked → Means (tables draft.new) queries.new
-        (rs ++ relations_of context.now.dialect context.now.names.now (relations context.now.relations.now) (map (site_at (sites context.now.flat.now)) forms.now))
-        (asked ++ queries_of context.now.dialect context.now.names.now (relations context.now.relations.now) (map (site_at (sites context.now.flat.now)) forms.now))) }
+    ensures means { OnOk result (AddsForms (tables draft.old) (tables draft.new) queries.old queries.new
+        (forms_relations context.now forms.now)
+        (forms_queries context.now forms.now)) }
+    ensures names { OnOk result (AddsNames (tables draft.old) (tables draft.new) (forms_names context.now forms.now)) }
     ensures room { OnOk result (HasRoom (tables draft.new)) }
-    ensures closed { OnOk result (KeepsClosed (sites context.now.flat.now) (tables draft.old) (tables draft.new) (all_named (relations_of context.now.dialect context.now.names.now (relations context.now.relations.now) (map (site_at (sites context.now.flat.now)) forms.now)) (queries_of context.now.dialect context.now.names.now (relations context.now.relations.now) (map (site_at (sites context.now.flat.now)) forms.now)))) }
-    ensures equational { OnOk result (are_equational_entries (tables draft.new).goals ≡ (are_equational_entries (tables draft.old).goals
-        && are_equational (relations_of context.now.dialect context.now.names.now (relations context.now.relations.now) (map (site_at (sites context.now.flat.now)) forms.now))
-        (queries_of context.now.dialect context.now.names.now (relations context.now.relations.now) (map (site_at (sites context.now.flat.now)) forms.now)))) }
+    ensures closed { OnOk result (KeepsClosed (data_of context.now) (tables draft.old) (tables draft.new)
+        (all_named (forms_relations context.now forms.now) (forms_queries context.now forms.now))) }
+    ensures equational { OnOk result (AddsEquational (tables draft.old) (tables draft.new)
+        (are_equational (forms_relations context.now forms.now) (forms_queries context.now forms.now))) }
 {
     for place in forms {
         build_form(context, parse_form(context.flat, context.names, *place), draft, queries)?;
@@ -146,12 +151,14 @@ fn close(draft: Draft, queries: Queries, names: &Names) -> Result<Compiled, Memo
 
 // Builds the program and the runs of a text behind a library.
 fn build_program(context: &Context, library: &[u32], forms: &[u32]) -> Result<Compiled, Memory>
-    requires low { AreLow (sites context.now.flat.now) }
-    requires alone { faults_of context.now.names.now [] (map (site_at (sites context.now.flat.now)) library.now) ≡ [] }
-    requires accepted { faults_of context.now.names.now (map (site_at (sites context.now.flat.now)) library.now) (map (site_at (sites context.now.flat.now)) forms.now) ≡ [] }
-    requires relations { relations context.now.relations.now ≡ definitions context.now.names.now (map (site_at (sites context.now.flat.now)) library.now) ++ definitions context.now.names.now (map (site_at (sites context.now.flat.now)) forms.now) }
-    ensures meant { IfOk result (λ made. IsMeant (text_meaning context.now.dialect context.now.names.now (map (site_at (sites context.now.flat.now)) library.now) (map (site_at (sites context.now.flat.now)) forms.now)) made.program made.queries) }
+    requires low { AreLow (data_of context.now) }
+    requires alone { faults_of context.now.names.now [] (data_at context.now library.now) ≡ [] }
+    requires accepted { faults_of context.now.names.now (data_at context.now library.now) (data_at context.now forms.now) ≡ [] }
+    requires relations { defined_in context.now ≡ definitions context.now.names.now (data_at context.now library.now) ++ definitions context.now.names.now (data_at context.now forms.now) }
+    ensures meant { IfOk result (λ made. IsMeant (text_meaning context.now.dialect context.now.names.now (data_at context.now library.now) (data_at context.now forms.now)) made.program made.queries) }
     ensures named { IfOk result (λ made. are_named context.now.names.now (programs.tables made.program) ≡ true) }
+    ensures names { IfOk result (λ made. entry_names (programs.tables made.program)
+        ≡ relation_names context.now.names.now (data_at context.now library.now ++ data_at context.now forms.now)) }
 {
     let mut draft = Draft::new(context.alloc);
     let mut queries = ListOf::new(context.alloc);
@@ -168,11 +175,12 @@ fn compile_forms(
     names: &Names,
     library: &[u32],
     forms: &[u32],
+    dialect: Dialect,
 ) -> Result<Compiled, SyntaxError>
     requires few { length library.now + length forms.now < 2 ^ 32 }
     requires low { AreLow (sites flat.now) }
     requires alone { faults_of names.now [] (map (site_at (sites flat.now)) library.now) ≡ [] }
-    ensures { CompilesForms context.now.dialect names.now (map (site_at (sites flat.now)) library.now) (map (site_at (sites flat.now)) forms.now) result }
+    ensures { CompilesForms dialect names.now (map (site_at (sites flat.now)) library.now) (map (site_at (sites flat.now)) forms.now) result }
 {
     let (relations, before) = define(alloc, flat, names, library, forms)?;
     let context = Context {
@@ -180,6 +188,7 @@ fn compile_forms(
         flat,
         names,
         relations: &relations,
+        dialect,
     };
     if let Some(fault) = first_of_forms(&context, before, forms)? {
         return Err(SyntaxError::Fault(fault.at, fault.number));
@@ -195,18 +204,19 @@ fn compile_data(
     text: &[Datum],
     names: &Names,
     prefixes: &Prefixes,
+    dialect: Dialect,
 ) -> Result<Compiled, SyntaxError>
     requires numbered { AreNumbered names.now prefixes.now }
     requires few { length library.now + length text.now < 2 ^ 32 }
     requires low_library { AreLow (map (meaning names.now) library.now) }
     requires low_text { AreLow (map (meaning names.now) text.now) }
     requires alone { IsAccepted names.now [] (map (written names.now) library.now) }
-    ensures { CompilesForms context.now.dialect names.now (map (with_sites names.now) (map (written names.now) library.now)) (map (with_sites names.now) (map (written names.now) text.now)) result }
+    ensures { CompilesForms dialect names.now (map (with_sites names.now) (map (written names.now) library.now)) (map (with_sites names.now) (map (written names.now) text.now)) result }
 {
     let mut table = FlatData::new(alloc);
     let places = turn_both(alloc, library, text, names, prefixes, &mut table)?;
     let (first, later) = places.as_slice().split_at(library.len());
-    compile_forms(alloc, &table, names, first, later)
+    compile_forms(alloc, &table, names, first, later, dialect)
 }
 
 /// Compiles a text behind a library, whose data these are, to its program and its runs. A text with faults is refused by
@@ -217,14 +227,16 @@ pub fn compile(
     library: &[Datum],
     text: &[Datum],
     names: &mut Names,
+    dialect: Dialect,
 ) -> Result<Compiled, SyntaxError>
-    requires names { length names.old + 3 < 2 ^ 32 }
+    requires names { length names.old.symbols + 3 < 2 ^ 32 }
     requires few { length library.now + length text.now < 2 ^ 32 }
-    requires texts { AreOfText names.old library.now × AreOfText names.old text.now }
-    requires library { IsAcceptedAlone names.old library.now }
-    ensures compiled { Compiles names.new library.now text.now result }
-    ensures names { Extends 3 names.old names.new }
+    requires library { AreOfText (with_prefixes names.old) library.now }
+    requires text { AreOfText (with_prefixes names.old) text.now }
+    requires alone { IsAcceptedAlone (with_prefixes names.old) library.now }
+    ensures compiled { Compiles dialect (with_prefixes names.old) library.now text.now result }
+    ensures table { TableAfter names.old names.new result }
 {
     let prefixes = number_prefixes(names)?;
-    compile_data(alloc, library, text, names, &prefixes)
+    compile_data(alloc, library, text, names, &prefixes, dialect)
 }

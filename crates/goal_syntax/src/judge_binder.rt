@@ -3,7 +3,7 @@
 ghost use Rattle.std.specs.Prelude.{◌≡◌, ◌++◌, [], OnOk};
 ghost use Rattle.kan_grammar.specs.Texts.Binders.{binder_faults, names_faults, binder, tag};
 ghost use Rattle.goal_forms.specs.Parts.{sites, site_at};
-ghost use Rattle.goal_syntax.specs.Judging.FaultLists.{fault_list};
+ghost use Rattle.goal_syntax.specs.Judging.FaultLists.{AddsFaults};
 
 use crate::fault::{Fault, report};
 use goal_forms::{FlatData, Part, add_name, is_proper, may_bind, pair_parts, quoted_symbol};
@@ -18,8 +18,8 @@ fn judge_part(
     place: u32,
     faults: &mut Vec<Fault>,
 ) -> Result<(), Memory>
-    ensures { OnOk result (fault_list faults.new.items
-        ≡ fault_list faults.old.items ++ binder_faults names.now before.now (site_at (sites flat.now) place)) }
+    ensures { OnOk result (AddsFaults faults.old.items faults.new.items
+        (binder_faults names.now before.now (site_at (sites flat.now) place))) }
 {
     let node = flat.read(place);
     match node.part {
@@ -36,8 +36,8 @@ pub(crate) fn judge_names(
     mut place: u32,
     faults: &mut Vec<Fault>,
 ) -> Result<(), Memory>
-    ensures { OnOk result (fault_list faults.new.items
-        ≡ fault_list faults.old.items ++ names_faults names.now [] (site_at (sites flat.now) place)) }
+    ensures { OnOk result (AddsFaults faults.old.items faults.new.items
+        (names_faults names.now [] (site_at (sites flat.now) place))) }
 {
     let mut before = Vec::new(alloc);
     while let Some((first, rest)) = pair_parts(flat, place) {
@@ -56,8 +56,8 @@ pub(crate) fn judge_binder(
     place: u32,
     faults: &mut Vec<Fault>,
 ) -> Result<(), Memory>
-    ensures { OnOk result (fault_list faults.new.items
-        ≡ fault_list faults.old.items ++ (binder names.now (site_at (sites flat.now) place)).faults) }
+    ensures { OnOk result (AddsFaults faults.old.items faults.new.items
+        ((binder names.now (site_at (sites flat.now) place)).faults)) }
 {
     if is_proper(flat, place) {
         return judge_names(alloc, flat, names, place, faults);
@@ -72,8 +72,8 @@ pub fn judge_tag(
     place: u32,
     faults: &mut Vec<Fault>,
 ) -> Result<(), Memory>
-    ensures { OnOk result (fault_list faults.new.items
-        ≡ fault_list faults.old.items ++ (tag names.now (site_at (sites flat.now) place)).faults) }
+    ensures { OnOk result (AddsFaults faults.old.items faults.new.items
+        ((tag names.now (site_at (sites flat.now) place)).faults)) }
 {
     if quoted_symbol(flat, names, place).is_none() {
         report(faults, flat.read(place).at, 15)?;

@@ -1,24 +1,20 @@
 //! The faults of top forms.
 
-ghost use Rattle.std.specs.Prelude.{◌≡◌, ◌++◌, ◌∷◌, [], take, None, IfOk, OnOk, option_map};
-ghost use Rattle.kan_grammar.specs.Texts.TopForms.{head as head_of, head_name as name_of_head, name_faults};
+ghost use Rattle.std.specs.Prelude.{◌≡◌, ◌++◌, ◌∷◌, [], take, None, IfOk, OnOk};
+ghost use Rattle.kan_grammar.specs.Texts.TopForms.{head_name as name_of_head, name_faults};
 ghost use Rattle.kan_grammar.specs.Texts.GoalForms.{goal_forms};
 ghost use Rattle.kan_grammar.specs.Texts.Resolved.{arity, within};
 ghost use Rattle.kan_grammar.specs.Texts.TextFaults.{is_new, again_faults, goals_faults, form_faults};
-ghost use Rattle.goal_syntax.specs.Judging.FaultLists.{fault_list};
-ghost use Rattle.goal_forms.specs.FormSteps.{step_top, limit_at, one_name, named, allowed_limit, small_number};
+ghost use Rattle.goal_forms.specs.Contexts.{datum_at, defined_in, goals_at, head_at, form_of};
+ghost use Rattle.goal_syntax.specs.Judging.FaultLists.{AddsFaults};
+ghost use Rattle.goal_forms.specs.FormSteps.{limit_at, one_name};
 ghost use Rattle.goal_forms.specs.Parts.{sites, site_at};
 ghost use Rattle.goal_forms.specs.RelationTables.{relations as relations_of};
 
 use crate::fault::{Fault, report};
-use goal_forms::Form;
 use crate::judge_binder::{judge_binder, judge_names};
 use crate::judge_goal::judge_goals;
-use goal_forms::{Context, binder_names, enter, head_name, head_params, limit, may_bind, unnamed};
-use goal_forms::{FlatData, Part};
-use goal_forms::Relations;
-use goal_forms::{is_proper, pair_parts};
-use goal_forms::{Word, word_of_symbol};
+use goal_forms::{Context, FlatData, Form, Part, Relations, Word, binder_names, enter, head_name, head_params, is_proper, limit, may_bind, pair_parts, unnamed, word_of_symbol};
 use kan_terms::Memory;
 use std::alloc::Global;
 
@@ -34,8 +30,8 @@ fn is_new(relations: &Relations, before: u32, symbol: u32) -> bool
 
 // Notes the fault of a relation's name that is one of the language or has a relation among the first ones.
 fn judge_again(context: &Context, before: u32, head: u32, faults: &mut Vec<Fault>) -> Result<(), Memory>
-    ensures { OnOk result (fault_list faults.new.items ≡ fault_list faults.old.items
-        ++ again_faults context.now.names.now (take before (relations_of context.now.relations.now)) (name_of_head (site_at (sites context.now.flat.now) head))) }
+    ensures { OnOk result (AddsFaults faults.old.items faults.new.items
+        (again_faults context.now.names.now (take before (defined_in context.now)) (name_of_head (datum_at context.now head)))) }
 {
     let Some((at, symbol)) = head_name(context.flat, head) else {
         return Ok(());
@@ -49,8 +45,8 @@ fn judge_again(context: &Context, before: u32, head: u32, faults: &mut Vec<Fault
 
 // Notes the faults of a relation's head.
 fn judge_head(context: &Context, head: u32, faults: &mut Vec<Fault>) -> Result<(), Memory>
-    ensures { OnOk result (fault_list faults.new.items
-        ≡ fault_list faults.old.items ++ (head_of context.now.names.now (site_at (sites context.now.flat.now) head)).faults) }
+    ensures { OnOk result (AddsFaults faults.old.items faults.new.items
+        ((head_at context.now head).faults)) }
 {
     match pair_parts(context.flat, head) {
         Some((name, params)) if is_proper(context.flat, params) => {
@@ -63,7 +59,8 @@ fn judge_head(context: &Context, head: u32, faults: &mut Vec<Fault>) -> Result<(
 
 // Notes the fault of a relation's name that is no symbol.
 fn judge_name(flat: &FlatData, name: u32, faults: &mut Vec<Fault>) -> Result<(), Memory>
-    ensures { OnOk result (fault_list faults.new.items ≡ fault_list faults.old.items ++ name_faults (site_at (sites flat.now) name)) }
+    ensures { OnOk result (AddsFaults faults.old.items faults.new.items
+        (name_faults (site_at (sites flat.now) name))) }
 {
     let node = flat.read(name);
     match node.part {
@@ -74,7 +71,8 @@ fn judge_name(flat: &FlatData, name: u32, faults: &mut Vec<Fault>) -> Result<(),
 
 // Notes the fault of a run's limit, where it has one.
 fn judge_limit(flat: &FlatData, place: Option<u32>, faults: &mut Vec<Fault>) -> Result<(), Memory>
-    ensures { OnOk result (fault_list faults.new.items ≡ fault_list faults.old.items ++ (limit_at (sites flat.now) place).faults) }
+    ensures { OnOk result (AddsFaults faults.old.items faults.new.items
+        ((limit_at (sites flat.now) place).faults)) }
 {
     let Some(place) = place else {
         return Ok(());
@@ -88,7 +86,8 @@ fn judge_limit(flat: &FlatData, place: Option<u32>, faults: &mut Vec<Fault>) -> 
 // The one name of a run; its fault is noted.
 fn bind_one(context: &Context, at: u32, symbol: u32, faults: &mut Vec<Fault>) -> Result<Vec<u32>, Memory>
     ensures bound { IfOk result (λ bound. bound.items ≡ (one_name context.now.names.now at symbol).value) }
-    ensures faults { OnOk result (fault_list faults.new.items ≡ fault_list faults.old.items ++ (one_name context.now.names.now at symbol).faults) }
+    ensures faults { OnOk result (AddsFaults faults.old.items faults.new.items
+        ((one_name context.now.names.now at symbol).faults)) }
 {
     let mut bound = Vec::new(context.alloc);
     if !may_bind(context.names, &bound, symbol) {
@@ -106,8 +105,8 @@ fn judge_body(
     mut scope: Vec<Option<u32>>,
     faults: &mut Vec<Fault>,
 ) -> Result<(), Memory>
-    ensures { OnOk result (fault_list faults.new.items ≡ fault_list faults.old.items
-        ++ goals_faults (relations_of context.now.relations.now) (within scope.items bound.now) (goal_forms context.now.names.now (site_at (sites context.now.flat.now) goals))) }
+    ensures { OnOk result (AddsFaults faults.old.items faults.new.items
+        (goals_faults (defined_in context.now) (within scope.items bound.now) (goals_at context.now goals))) }
 {
     enter(bound, &mut scope)?;
     judge_goals(context, goals, scope, faults)?;
@@ -121,9 +120,8 @@ pub(crate) fn judge_form(
     form: Form,
     faults: &mut Vec<Fault>,
 ) -> Result<(), Memory>
-    ensures { OnOk result (fault_list faults.new.items ≡ fault_list faults.old.items
-        ++ form_faults context.now.names.now (relations_of context.now.relations.now) (take before (relations_of context.now.relations.now))
-        (step_top (sites context.now.flat.now) context.now.names.now form)) }
+    ensures { OnOk result (AddsFaults faults.old.items faults.new.items
+        (form_faults context.now.names.now (defined_in context.now) (take before (defined_in context.now)) (form_of context.now form))) }
 {
     match form {
         Form::Relation(head, goals) => {

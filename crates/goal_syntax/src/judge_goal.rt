@@ -3,27 +3,22 @@
 ghost use Rattle.std.specs.Prelude.{◌≡◌, ◌+◌, ◌<◌, ◌++◌, ◌∷◌, [], length, reverse, List, Option, ℕ, OnOk};
 ghost use Rattle.std.specs.List.{flat_map};
 ghost use Rattle.kan_terms.specs.Table.{Table};
-ghost use Rattle.kan_grammar.specs.Texts.GoalForms.{goal_form, goal_forms, term_forms};
-ghost use Rattle.kan_grammar.specs.Texts.TextFaults.{term_faults, call_faults, goal_faults, goals_faults};
-ghost use Rattle.kan_grammar.specs.Texts.TermForms.{term_form};
-ghost use Rattle.kan_grammar.specs.Texts.Binders.{binder as binder_of};
+ghost use Rattle.kan_grammar.specs.Texts.GoalForms.{goal_forms, term_forms};
+ghost use Rattle.kan_grammar.specs.Texts.TextFaults.{term_faults, call_faults, goals_faults};
 ghost use Rattle.kan_grammar.specs.Texts.Resolved.{arity, within};
-ghost use Rattle.goal_syntax.specs.Judging.GoalsLeft.{own_faults, fresh_faults, inner_waiting, stack_faults, stack_parts, waiting_parts};
+ghost use Rattle.goal_forms.specs.Contexts.{data_of, datum_at, defined_in, term_at, terms_at, goals_at, binder_at};
+ghost use Rattle.goal_syntax.specs.Judging.InContext.{faults_left, faults_alone};
+ghost use Rattle.goal_syntax.specs.Judging.GoalsLeft.{fresh_faults, inner_waiting, stack_parts, waiting_parts};
 ghost use Rattle.goal_forms.specs.GoalSteps.{inner_names};
-ghost use Rattle.goal_syntax.specs.Judging.FaultLists.{fault_list};
+ghost use Rattle.goal_syntax.specs.Judging.FaultLists.{fault_list, AddsFaults};
 ghost use Rattle.goal_forms.specs.Parts.{sites, site_at};
 ghost use Rattle.goal_forms.specs.RelationTables.{relations};
 ghost use Rattle.goal_forms.specs.TermSteps.{site_size};
 
 use crate::judge_binder::{judge_binder, judge_tag};
-use goal_forms::{Context, binder_names, enter};
 use crate::fault::{Fault, report};
-use goal_forms::{Goal, parse_goal};
 use crate::judge_term::judge_term;
-use goal_forms::FlatData;
-use goal_forms::Relations;
-use goal_forms::{is_proper, pair_parts};
-use goal_forms::Task;
+use goal_forms::{Context, FlatData, Goal, Task, binder_names, enter, is_proper, pair_parts, parse_goal};
 use kan_terms::{Memory, Names};
 use std::alloc::Global;
 
@@ -46,8 +41,8 @@ fn judge_terms(
     mut place: u32,
     faults: &mut Vec<Fault>,
 ) -> Result<(), Memory>
-    ensures { OnOk result (fault_list faults.new.items ≡ fault_list faults.old.items
-        ++ flat_map (term_faults scope.now) (term_forms context.now.names.now (site_at (sites context.now.flat.now) place))) }
+    ensures { OnOk result (AddsFaults faults.old.items faults.new.items
+        (flat_map (term_faults scope.now) (terms_at context.now place))) }
 {
     while let Some((first, rest)) = pair_parts(context.flat, place) {
         judge_term(
@@ -71,8 +66,8 @@ fn judge_head(
     count: u32,
     faults: &mut Vec<Fault>,
 ) -> Result<(), Memory>
-    ensures { OnOk result (fault_list faults.new.items
-        ≡ fault_list faults.old.items ++ call_faults (arity (relations context.now.relations.now) symbol) at count) }
+    ensures { OnOk result (AddsFaults faults.old.items faults.new.items
+        (call_faults (arity (defined_in context.now) symbol) at count)) }
 {
     match context.relations.params(symbol) {
         None => report(faults, at, 12),
@@ -101,8 +96,8 @@ fn judge_one(
     term: u32,
     faults: &mut Vec<Fault>,
 ) -> Result<(), Memory>
-    ensures { OnOk result (fault_list faults.new.items ≡ fault_list faults.old.items
-        ++ term_faults scope.now (term_form context.now.names.now (site_at (sites context.now.flat.now) term))) }
+    ensures { OnOk result (AddsFaults faults.old.items faults.new.items
+        (term_faults scope.now (term_at context.now term))) }
 {
     judge_term(
         context.alloc,
@@ -121,8 +116,8 @@ fn judge_own(
     goal: Goal,
     faults: &mut Vec<Fault>,
 ) -> Result<(), Memory>
-    ensures { OnOk result (fault_list faults.new.items ≡ fault_list faults.old.items
-        ++ own_faults (relations context.now.relations.now) context.now.names.now (sites context.now.flat.now) scope.now goal) }
+    ensures { OnOk result (AddsFaults faults.old.items faults.new.items
+        (faults_alone context.now scope.now goal)) }
 {
     match goal {
         Goal::Same(left, right) | Goal::Differ(left, right) => {
@@ -152,9 +147,9 @@ fn enter_fresh(
     waiting: &mut Vec<Waiting>,
     faults: &mut Vec<Fault>,
 ) -> Result<(), Memory>
-    ensures faults { OnOk result (fault_list faults.new.items
-        ≡ fault_list faults.old.items ++ (binder_of context.now.names.now (site_at (sites context.now.flat.now) binder)).faults) }
-    ensures scope { OnOk result (scope.new.items ≡ within scope.old.items (binder_of context.now.names.now (site_at (sites context.now.flat.now) binder)).value) }
+    ensures faults { OnOk result (AddsFaults faults.old.items faults.new.items
+        ((binder_at context.now binder).faults)) }
+    ensures scope { OnOk result (scope.new.items ≡ within scope.old.items (binder_at context.now binder).value) }
     ensures waiting { OnOk result (waiting.new.items ≡ waiting.old.items ++ Waiting.Leave (length scope.old.items) ∷ Waiting.Goals goals ∷ []) }
 {
     waiting.push(Waiting::Leave(scope.len()))?;
@@ -173,9 +168,9 @@ fn wait_for(
     waiting: &mut Vec<Waiting>,
     faults: &mut Vec<Fault>,
 ) -> Result<(), Memory>
-    ensures faults { OnOk result (fault_list faults.new.items
-        ≡ fault_list faults.old.items ++ fresh_faults context.now.names.now (sites context.now.flat.now) goal) }
-    ensures scope { OnOk result (scope.new.items ≡ inner_names context.now.names.now (sites context.now.flat.now) scope.old.items goal) }
+    ensures faults { OnOk result (AddsFaults faults.old.items faults.new.items
+        (fresh_faults context.now.names.now (data_of context.now) goal)) }
+    ensures scope { OnOk result (scope.new.items ≡ inner_names context.now.names.now (data_of context.now) scope.old.items goal) }
     ensures waiting { OnOk result (waiting.new.items ≡ waiting.old.items ++ inner_waiting scope.old.items goal) }
 {
     match goal {
@@ -201,11 +196,11 @@ fn judge_goal(
     faults: &mut Vec<Fault>,
 ) -> Result<(), Memory>
     ensures faults { OnOk result (fault_list faults.new.items
-        ++ stack_faults (relations context.now.relations.now) context.now.names.now (sites context.now.flat.now) scope.new.items (reverse waiting.new.items)
+        ++ faults_left context.now scope.new.items (reverse waiting.new.items)
         ≡ fault_list faults.old.items
-        ++ stack_faults (relations context.now.relations.now) context.now.names.now (sites context.now.flat.now) scope.old.items (Waiting.Goal place ∷ reverse waiting.old.items)) }
-    ensures parts { OnOk result (stack_parts (sites context.now.flat.now) waiting.new.items
-        < site_size (site_at (sites context.now.flat.now) place) + stack_parts (sites context.now.flat.now) waiting.old.items) }
+        ++ faults_left context.now scope.old.items (Waiting.Goal place ∷ reverse waiting.old.items)) }
+    ensures parts { OnOk result (stack_parts (data_of context.now) waiting.new.items
+        < site_size (datum_at context.now place) + stack_parts (data_of context.now) waiting.old.items) }
 {
     let goal = parse_goal(context.flat, context.names, place);
     judge_own(context, scope, goal, faults)?;
@@ -216,10 +211,10 @@ fn judge_goal(
 // Puts the first of some goals and the others on the stack.
 fn wait_for_goals(context: &Context, place: u32, waiting: &mut Vec<Waiting>) -> Result<(), Memory>
     ensures faults { OnOk result ((slots : List (Option ℕ)) →
-        stack_faults (relations context.now.relations.now) context.now.names.now (sites context.now.flat.now) slots (reverse waiting.new.items)
-        ≡ stack_faults (relations context.now.relations.now) context.now.names.now (sites context.now.flat.now) slots (Waiting.Goals place ∷ reverse waiting.old.items)) }
-    ensures parts { OnOk result (stack_parts (sites context.now.flat.now) waiting.new.items
-        < site_size (site_at (sites context.now.flat.now) place) + stack_parts (sites context.now.flat.now) waiting.old.items) }
+        faults_left context.now slots (reverse waiting.new.items)
+        ≡ faults_left context.now slots (Waiting.Goals place ∷ reverse waiting.old.items)) }
+    ensures parts { OnOk result (stack_parts (data_of context.now) waiting.new.items
+        < site_size (datum_at context.now place) + stack_parts (data_of context.now) waiting.old.items) }
 {
     if let Some((first, rest)) = pair_parts(context.flat, place) {
         waiting.push(Waiting::Goals(rest))?;
@@ -236,11 +231,11 @@ fn wait_for_clauses(
     faults: &mut Vec<Fault>,
 ) -> Result<(), Memory>
     ensures faults { OnOk result ((slots : List (Option ℕ)) → fault_list faults.new.items
-        ++ stack_faults (relations context.now.relations.now) context.now.names.now (sites context.now.flat.now) slots (reverse waiting.new.items)
+        ++ faults_left context.now slots (reverse waiting.new.items)
         ≡ fault_list faults.old.items
-        ++ stack_faults (relations context.now.relations.now) context.now.names.now (sites context.now.flat.now) slots (Waiting.Clauses place ∷ reverse waiting.old.items)) }
-    ensures parts { OnOk result (stack_parts (sites context.now.flat.now) waiting.new.items
-        < site_size (site_at (sites context.now.flat.now) place) + stack_parts (sites context.now.flat.now) waiting.old.items) }
+        ++ faults_left context.now slots (Waiting.Clauses place ∷ reverse waiting.old.items)) }
+    ensures parts { OnOk result (stack_parts (data_of context.now) waiting.new.items
+        < site_size (datum_at context.now place) + stack_parts (data_of context.now) waiting.old.items) }
 {
     let Some((clause, rest)) = pair_parts(context.flat, place) else {
         return Ok(());
@@ -263,11 +258,11 @@ fn judge_next(
     faults: &mut Vec<Fault>,
 ) -> Result<(), Memory>
     ensures faults { OnOk result (fault_list faults.new.items
-        ++ stack_faults (relations context.now.relations.now) context.now.names.now (sites context.now.flat.now) scope.new.items (reverse waiting.new.items)
+        ++ faults_left context.now scope.new.items (reverse waiting.new.items)
         ≡ fault_list faults.old.items
-        ++ stack_faults (relations context.now.relations.now) context.now.names.now (sites context.now.flat.now) scope.old.items (next ∷ reverse waiting.old.items)) }
-    ensures parts { OnOk result (stack_parts (sites context.now.flat.now) waiting.new.items
-        < waiting_parts (sites context.now.flat.now) next + stack_parts (sites context.now.flat.now) waiting.old.items) }
+        ++ faults_left context.now scope.old.items (next ∷ reverse waiting.old.items)) }
+    ensures parts { OnOk result (stack_parts (data_of context.now) waiting.new.items
+        < waiting_parts (data_of context.now) next + stack_parts (data_of context.now) waiting.old.items) }
 {
     match next {
         Waiting::Goal(place) => judge_goal(context, place, scope, waiting, faults)?,
@@ -285,8 +280,8 @@ pub(crate) fn judge_goals(
     mut scope: Vec<Option<u32>>,
     faults: &mut Vec<Fault>,
 ) -> Result<(), Memory>
-    ensures { OnOk result (fault_list faults.new.items ≡ fault_list faults.old.items
-        ++ goals_faults (relations context.now.relations.now) scope.items (goal_forms context.now.names.now (site_at (sites context.now.flat.now) goals))) }
+    ensures { OnOk result (AddsFaults faults.old.items faults.new.items
+        (goals_faults (defined_in context.now) scope.items (goals_at context.now goals))) }
 {
     let mut waiting = Vec::new(context.alloc);
     waiting.push(Waiting::Goals(goals))?;

@@ -3,21 +3,20 @@
 ghost use Rattle.std.specs.Prelude.{◌≡◌, ◌+◌, ◌++◌, OnOk};
 ghost use Rattle.std.specs.List.{flat_map};
 ghost use Rattle.kan_grammar.specs.Texts.TextFaults.{use_faults, term_faults};
-ghost use Rattle.goal_syntax.specs.Judging.FaultLists.{fault_list};
+ghost use Rattle.goal_syntax.specs.Judging.FaultLists.{AddsFaults};
 ghost use Rattle.goal_forms.specs.Parts.{sites};
 ghost use Rattle.goal_forms.specs.TermSteps.{task_form, step_size};
 ghost use Rattle.goal_syntax.specs.Judging.TermsLeft.{own_uses, later_uses, waiting_uses, waiting_size};
 
 use crate::fault::{Fault, report};
-use goal_forms::FlatData;
-use goal_forms::slot_of;
-use goal_forms::{Step, Task, parse_task};
+use goal_forms::{FlatData, Step, Task, parse_task, slot_of};
 use kan_terms::{Memory, Names};
 use std::alloc::Global;
 
 // Notes the fault of a step, where it has one itself.
 fn judge_step(scope: &[Option<u32>], step: Step, faults: &mut Vec<Fault>) -> Result<(), Memory>
-    ensures { OnOk result (fault_list faults.new.items ≡ fault_list faults.old.items ++ flat_map (use_faults scope.now) (own_uses step)) }
+    ensures { OnOk result (AddsFaults faults.old.items faults.new.items
+        (flat_map (use_faults scope.now) (own_uses step))) }
 {
     match step {
         Step::Variable(at, symbol) => {
@@ -58,8 +57,8 @@ pub(crate) fn judge_term(
     task: Task,
     faults: &mut Vec<Fault>,
 ) -> Result<(), Memory>
-    ensures { OnOk result (fault_list faults.new.items
-        ≡ fault_list faults.old.items ++ term_faults scope.now (task_form (sites flat.now) names.now task)) }
+    ensures { OnOk result (AddsFaults faults.old.items faults.new.items
+        (term_faults scope.now (task_form (sites flat.now) names.now task))) }
 {
     let mut waiting = Vec::new(alloc);
     waiting.push(task)?;

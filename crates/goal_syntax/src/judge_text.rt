@@ -1,16 +1,14 @@
 //! The faults of texts, and the one that comes first.
 
-ghost use Rattle.std.specs.Prelude.{◌≡◌, ◌<◌, ◌≤◌, ◌+◌, ◌^◌, ◌++◌, length, take, map, IfOk, OnOk, option_map};
-ghost use Rattle.kan_grammar.specs.Texts.TopForms.{definitions, definitions_of as defined_by_form};
-ghost use Rattle.kan_grammar.specs.Texts.TextFaults.{is_before, first_of, least, forms_faults, faults_of};
-ghost use Rattle.goal_syntax.specs.Judging.FaultLists.{fault_of, fault_list};
-ghost use Rattle.goal_forms.specs.Parts.{sites, site_at};
-ghost use Rattle.goal_forms.specs.DefinedRelations.{related};
-ghost use Rattle.goal_forms.specs.RelationTables.{relations};
+ghost use Rattle.std.specs.Prelude.{◌≡◌, ◌<◌, ◌≤◌, ◌+◌, ◌^◌, ◌++◌, length, take, IfOk, OnOk, option_map};
+ghost use Rattle.kan_grammar.specs.Texts.TopForms.{definitions};
+ghost use Rattle.kan_grammar.specs.Texts.TextFaults.{is_before, first_of, least, forms_faults};
+ghost use Rattle.goal_forms.specs.Contexts.{data_at, defined_in};
+ghost use Rattle.goal_syntax.specs.Judging.FaultLists.{fault_of, fault_list, AddsFaults};
 
 use crate::fault::Fault;
-use goal_forms::{Context, count_defined, parse_form};
 use crate::judge_form::judge_form;
+use goal_forms::{Context, count_defined, parse_form};
 use kan_terms::Memory;
 
 // Whether a fault comes before another: by its offset, and at one offset by its number.
@@ -48,13 +46,12 @@ pub(crate) fn judge_forms(
     forms: &[u32],
     faults: &mut Vec<Fault>,
 ) -> Result<(), Memory>
-    requires few { length (relations context.now.relations.now) < 2 ^ 32 }
-    requires before { before ≤ length (relations context.now.relations.now) }
-    requires later { relations context.now.relations.now ≡ take before (relations context.now.relations.now)
-        ++ definitions context.now.names.now (map (site_at (sites context.now.flat.now)) forms.now) }
-    ensures { OnOk result (fault_list faults.new.items ≡ fault_list faults.old.items
-        ++ forms_faults context.now.names.now (relations context.now.relations.now) (take before (relations context.now.relations.now))
-        (map (site_at (sites context.now.flat.now)) forms.now)) }
+    requires few { length (defined_in context.now) < 2 ^ 32 }
+    requires before { before ≤ length (defined_in context.now) }
+    requires later { defined_in context.now ≡ take before (defined_in context.now)
+        ++ definitions context.now.names.now (data_at context.now forms.now) }
+    ensures { OnOk result (AddsFaults faults.old.items faults.new.items
+        (forms_faults context.now.names.now (defined_in context.now) (take before (defined_in context.now)) (data_at context.now forms.now))) }
 {
     for place in forms {
         judge_form(context, before, parse_form(context.flat, context.names, *place), faults)?;
@@ -69,12 +66,12 @@ pub(crate) fn first_of_forms(
     before: u32,
     forms: &[u32],
 ) -> Result<Option<Fault>, Memory>
-    requires few { length (relations context.now.relations.now) < 2 ^ 32 }
-    requires before { before ≤ length (relations context.now.relations.now) }
-    requires later { relations context.now.relations.now ≡ take before (relations context.now.relations.now)
-        ++ definitions context.now.names.now (map (site_at (sites context.now.flat.now)) forms.now) }
+    requires few { length (defined_in context.now) < 2 ^ 32 }
+    requires before { before ≤ length (defined_in context.now) }
+    requires later { defined_in context.now ≡ take before (defined_in context.now)
+        ++ definitions context.now.names.now (data_at context.now forms.now) }
     ensures { IfOk result (λ fault. option_map fault_of fault
-        ≡ least (forms_faults context.now.names.now (relations context.now.relations.now) (take before (relations context.now.relations.now)) (map (site_at (sites context.now.flat.now)) forms.now))) }
+        ≡ least (forms_faults context.now.names.now (defined_in context.now) (take before (defined_in context.now)) (data_at context.now forms.now))) }
 {
     let mut faults = Vec::new(context.alloc);
     judge_forms(context, before, forms, &mut faults)?;

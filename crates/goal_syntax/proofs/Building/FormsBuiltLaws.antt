@@ -13,7 +13,7 @@ use Rattle.kan_grammar.specs.Texts.GoalForms.{GoalForms}
 use Rattle.kan_grammar.specs.Texts.TopForms.{Defined}
 use Rattle.kan_grammar.specs.Texts.Resolved.{conjunction, goals_in, within}
 use Rattle.kan_model.specs.declared.nodes.Query.{Query}
-use Rattle.goal_syntax.specs.Building.FormsBuilt.{Means, query_asked, query_made, relation_made, relation_meant}
+use Rattle.goal_syntax.specs.Building.FormsBuilt.{AddsNames, Means, entry_names, query_asked, query_made, relation_made, relation_meant}
 use Rattle.goal_syntax.specs.Building.GrownTables.{HasTemplate, HasGoal, Grows}
 use Rattle.goal_syntax.proofs.Building.GoalsBuiltLaws.{goal_kept}
 
@@ -96,3 +96,12 @@ query_means ts us goal limit g qs all made grows pushed rs asked means =
 
 pub none_asked : (us : Tables) (qs : List Query) (all : List model.Relation) (asked : List model.Query) → Means us qs all asked → Means us qs all (asked ++ [])
 none_asked us qs all asked means = rw (append-nil asked) means
+
+-- no relation came
+pub grown_named : (ts us : Tables) → Grows ts us → AddsNames ts us []
+grown_named ts us grows = ap (map (λ r. r.name)) grows.relations ∙ sym (append-nil (entry_names ts))
+
+-- a relation of a name came
+pub relation_named : (ts us vs : Tables) (r : RelationEntry) (s : ℕ) → Grows ts us → vs ≡ with_relation us r → r.name ≡ s → AddsNames ts vs (s ∷ [])
+relation_named ts us vs r s grows added name =
+    ap entry_names added ∙ map-append (λ e. e.name) us.relations (r ∷ []) ∙ ap₂ (λ l n. map (λ e. e.name) l ++ n ∷ []) grows.relations name

@@ -24,12 +24,12 @@ use Rattle.kan_model.proofs.Programs.ScopeLaws.{all-calls}
 use Rattle.goal_syntax.specs.Building.FormsBuilt.{Means, query_made, relation_made}
 use Rattle.goal_syntax.specs.Building.CallsThere.{calls_named, bodies_named, queries_named, all_named, are_there, KeepsClosed}
 use Rattle.goal_forms.specs.Heights.{is_low_datum, AreLow}
-use Rattle.goal_syntax.specs.Compiling.Compiles.{AreOfText, Compiles, IsAcceptedAlone}
+use Rattle.goal_syntax.specs.Compiling.Compiles.{AreOfText, Compiles, IsAcceptedAlone, TableAfter}
 use Rattle.goal_syntax.specs.Compiling.CompiledForms.{CompilesForms}
 use Rattle.goal_syntax.specs.declared.refusal.SyntaxError.{SyntaxError}
 use Rattle.goal_syntax.specs.declared.refusal.SyntaxError.TheVariants.{Fault, Memory}
 use Rattle.goal_syntax.specs.declared.compiler.Compiled.{Compiled}
-use Rattle.kan_grammar.specs.Texts.TextNames.{with_prefixes}
+use Rattle.kan_grammar.specs.Texts.TextNames.{Extends, with_prefixes}
 use Rattle.goal_forms.specs.Flattening.{meaning}
 use Rattle.goal_forms.proofs.HeightLaws.{text_low}
 use Rattle.sexpr.specs.Seen.{written}
@@ -151,3 +151,9 @@ compiled_of dialect names library text (Ok c) (accepted, is, named, heads) = rec
 }
 compiled_of dialect names library text (Err (Fault at number)) h = h
 compiled_of dialect names library text (Err Memory) h = h
+
+-- the table afterwards, where the symbols of the prefixes came to it
+pub table_after : (old new : Table) (r : Result Compiled SyntaxError) → new ≡ with_prefixes old → Extends 3 old new → TableAfter old new r
+table_after old new (Ok c) is extends = is
+table_after old new (Err (Fault at number)) is extends = is
+table_after old new (Err Memory) is extends = extends

@@ -21,7 +21,7 @@ use Rattle.kan_model.specs.declared.program.Program.{Program}
 use Rattle.kan_model.specs.Programs.Tables.{Tables, goals_of, are_closed}
 use Rattle.kan_grammar.specs.Texts.TopForms.{Defined, form, definitions, definitions_of}
 use Rattle.kan_model.specs.declared.nodes.Query.{Query}
-use Rattle.goal_syntax.specs.Building.FormsBuilt.{Means, query_made, relation_made}
+use Rattle.goal_syntax.specs.Building.FormsBuilt.{AddsNames, Means, entry_names, names_in, query_made, relation_made, relation_names}
 use Rattle.goal_syntax.specs.Compiling.CompiledForms.{IsMeant}
 use Rattle.goal_syntax.specs.Building.GrownTables.{HasRoom}
 use Rattle.goal_syntax.specs.Building.Equations.{are_equational, are_equational_entries, is_equational_body, is_equational_query}
@@ -105,6 +105,19 @@ text_equational dialect t rules ds forms i x y z here before step =
     ∙ ap (λ b. x && b) (sym (ap₂ (λ p q. p && q)
     (ap (list_all is_equational_body) (flat_next (λ d. relations_in dialect rules (form t d)) ds forms i here) ∙ list_all-append is_equational_body so_far next)
     (ap (list_all is_equational_query) (flat_next (λ d. queries_in dialect rules (form t d)) ds forms i here) ∙ list_all-append is_equational_query runs next_runs)))
+
+-- the names of the first of some forms, and of the next one
+pub names_next : (t : Table) (ds : List Sited) (forms : List ℕ) (i : ℕ) (ts us vs : Tables) → i < length forms → AddsNames ts us (relation_names t (map (site_at ds) (take i forms))) →
+    AddsNames us vs (names_in (form t (site_at ds (get_or forms i 0)))) → AddsNames ts vs (relation_names t (map (site_at ds) (take (i + 1) forms)))
+names_next t ds forms i ts us vs here before next =
+    next ∙ ap (λ l. l ++ names_in (form t (site_at ds (get_or forms i 0)))) before ∙ append_assoc (entry_names ts) (relation_names t (map (site_at ds) (take i forms))) (names_in (form t (site_at ds (get_or forms i 0))))
+    ∙ ap (λ l. entry_names ts ++ l) (sym (flat_next (λ d. names_in (form t d)) ds forms i here))
+
+-- the names of a library's relations and of a text's
+pub names_both : (t : Table) (library forms : List Sited) (start mid last made : Tables) → start ≡ empty_tables → AddsNames start mid (relation_names t library) → AddsNames mid last (relation_names t forms) → made ≡ last →
+    entry_names made ≡ relation_names t (library ++ forms)
+names_both t library forms start mid last made begins first second same =
+    ap entry_names same ∙ second ∙ ap (λ l. l ++ relation_names t forms) (first ∙ ap (λ (ts : Tables). entry_names ts ++ relation_names t library) begins) ∙ sym (flat_map-append (λ d. names_in (form t d)) library forms)
 
 -- a goal that is there has the width that is noted
 found_width : (gs : List Goal) (i w : ℕ) → Some w ≡ option_map noted_width (slice_get gs i) → (i < length gs) × (w ≡ noted_width (get_or gs i Goal.fail))

@@ -1,8 +1,8 @@
 -- Goals whose only constraints are equations.
-use Rattle.std.specs.Prelude.{Bool, true, false, ◌&&◌, List}
+use Rattle.std.specs.Prelude.{◌≡◌, Bool, true, false, ◌&&◌, List}
 use Rattle.std.specs.List.{list_all}
 use Rattle.kan_model.specs.Programs.Goals.{Primitive, Goal, Relation, Query}
-use Rattle.kan_model.specs.Programs.Tables.{GoalEntry}
+use Rattle.kan_model.specs.Programs.Tables.{GoalEntry, Tables}
 
 -- a primitive is an equation
 abbrev pub is_equation : {X : Type 0} → Primitive X → Bool
@@ -41,3 +41,7 @@ is_equational_entry e = true
 
 abbrev pub are_equational_entries : List GoalEntry → Bool
 are_equational_entries = list_all is_equational_entry
+
+-- goals came to tables: all there are equational where those before were and a test says so
+abbrev pub AddsEquational : Tables → Tables → Bool → Type 0
+AddsEquational ts us passes = are_equational_entries us.goals ≡ (are_equational_entries ts.goals && passes)

@@ -66,3 +66,13 @@ entry_names ts = map (λ r. r.name) ts.relations
 -- relations of these names came to tables, behind those that were there
 abbrev pub AddsNames : Tables → Tables → List ℕ → Type 0
 AddsNames ts us names = entry_names us ≡ entry_names ts ++ names
+
+-- these relations came to what tables mean
+abbrev pub AddsRelations : Tables → Tables → List model.Relation → Type 0
+AddsRelations ts us relations =
+    (qs : List Query) (before : List model.Relation) (asked : List model.Query) → Means ts qs before asked → Means us qs (before ++ relations) asked
+
+-- these relations and runs came to what tables and queries mean
+abbrev pub AddsForms : Tables → Tables → List Query → List Query → List model.Relation → List model.Query → Type 0
+AddsForms ts us qs more relations runs =
+    (before : List model.Relation) (asked : List model.Query) → Means ts qs before asked → Means us more (before ++ relations) (asked ++ runs)

@@ -8,9 +8,14 @@ use Rattle.kan_model.specs.Programs.Tables.{TermEntry, GoalEntry, RelationEntry,
 abbrev pub has_name : Table → ℕ → Bool
 has_name names s = is_some (name_of names.symbols s)
 
--- the symbol of a template has one, and the tag of a goal, and the name of a relation
+-- a string has a text in it
+abbrev pub has_text : Table → ℕ → Bool
+has_text names s = is_some (name_of names.strings s)
+
+-- the symbol of a template has one, and its string a text, and the tag of a goal, and the name of a relation
 abbrev pub is_term_named : Table → TermEntry → Bool
 is_term_named names (TermEntry.sym s) = has_name names s
+is_term_named names (TermEntry.str s) = has_text names s
 is_term_named names e = true
 
 abbrev pub is_goal_named : Table → GoalEntry → Bool

@@ -4,6 +4,7 @@ use Rattle.goal_forms.specs.Parts.{sites, site_at}
 use Rattle.goal_forms.specs.RelationTables.{relations}
 use Rattle.goal_syntax.proofs.Compiling.CompilingLaws.{program_meant}
 use Rattle.goal_syntax.proofs.Compiling.ClosingLaws.{nothing_is_open}
+use Rattle.goal_syntax.proofs.Compiling.CompilingLaws.{names_both}
 use Rattle.goal_syntax.proofs.compiler.build_program.Goals as goal
 
 pub returns-clause-meant : goal.returns-clause-meant
@@ -21,3 +22,9 @@ close-requires-clause-closed c =
     (tables c.new-draft.result) (tables c.build_library.new.draft) (tables c.build_text.new.draft) c.new-queries.result c.build_text.new.queries
     c.requires.relations c.new-draft.ensures c.new-queries.ensures c.in_ok-build_library.ensures.means c.in_ok-build_text.ensures.means
     c.in_ok-build_library.ensures.closed c.in_ok-build_text.ensures.closed c.build_text.new.draft.grown c.requires.low c.requires.alone c.requires.accepted
+
+pub returns-clause-names : goal.returns-clause-names
+returns-clause-names c =
+    let ds = sites c.args.context.now.flat.now in
+    names_both c.args.context.now.names.now (map (site_at ds) c.args.library.now) (map (site_at ds) c.args.forms.now) (tables c.new-draft.result) (tables c.build_library.new.draft) (tables c.build_text.new.draft) _
+    c.new-draft.ensures c.in_ok-build_library.ensures.names c.in_ok-build_text.ensures.names c.in_ok-compiled.ensures.tables

@@ -19,6 +19,7 @@ returns c =
           c.in_ok-relations.ensures.relations c.in_ok-relations.ensures.before c.in_ok-fault.ensures),
       c.in_ok-compiled.ensures.meant,
       c.in_ok-compiled.ensures.named,
+      c.in_ok-compiled.ensures.names,
     )
 
 pub build_program-requires-clause-accepted : goal.build_program-requires-clause-accepted
