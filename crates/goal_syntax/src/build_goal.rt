@@ -1,29 +1,24 @@
 //! Building goals.
 
+ghost use Rattle.goal_syntax.specs.Building.InContext.{list_goal, goal_alone, made_after, KeepsLowIn};
 ghost use Rattle.std.specs.Prelude.{List, ◌≡◌, ◌&&◌, ◌<◌, ◌≤◌, ◌+◌, ◌∷◌, ◌++◌, [], length, reverse, true, IfOk, OnOk};
-ghost use Rattle.kan_grammar.specs.Texts.Binders.{binder as binder_of};
 ghost use Rattle.kan_grammar.specs.Texts.GoalForms.{goal_forms};
-ghost use Rattle.kan_grammar.specs.Texts.Resolved.{Names, conjunction, goals_in, within};
+ghost use Rattle.kan_grammar.specs.Texts.Resolved.{Names, within};
 ghost use Rattle.kan_model.specs.Programs.Drafts.{tables};
-ghost use Rattle.goal_syntax.specs.Low.{KeepsLow};
+ghost use Rattle.goal_forms.specs.Contexts.{data_of, datum_at, binder_at};
 ghost use Rattle.kan_model.specs.Programs.Tables.{RelationEntry};
-ghost use Rattle.goal_syntax.specs.Called.{are_there, calls_named};
-ghost use Rattle.goal_syntax.specs.Built.{built, own_goal, with_maybe};
-ghost use Rattle.goal_syntax.specs.Drafting.{HasGoal, Grows, HasRoom};
-ghost use Rattle.goal_syntax.specs.Equational.{is_equational, are_equational_entries};
-ghost use Rattle.goal_syntax.specs.GoalStack.{inner_names};
-ghost use Rattle.goal_syntax.specs.GoalWorks.{finish, first_work, inner_works, other_works, work_size, works_size};
-ghost use Rattle.goal_syntax.specs.Parts.{sites, site_at};
-ghost use Rattle.goal_syntax.specs.Shapes.{parts};
-ghost use Rattle.goal_syntax.specs.Tabled.{relations};
-ghost use Rattle.goal_syntax.specs.Turning.{are_below};
+ghost use Rattle.goal_syntax.specs.Building.CallsThere.{are_there, calls_named};
+ghost use Rattle.goal_syntax.specs.Building.GoalsBuilt.{built, with_maybe};
+ghost use Rattle.goal_syntax.specs.Building.GrownTables.{HasGoal, Grows, HasRoom};
+ghost use Rattle.goal_syntax.specs.Building.Equations.{is_equational, AddsEquational};
+ghost use Rattle.goal_forms.specs.GoalSteps.{inner_names};
+ghost use Rattle.goal_syntax.specs.Building.GoalsLeft.{first_work, inner_works, other_works, work_size, works_size};
+ghost use Rattle.goal_forms.specs.Shapes.{parts};
+ghost use Rattle.goal_forms.specs.Places.{are_below};
 
-use crate::binder::{bind, enter};
 use crate::build_node::build_node;
-use crate::goal::{Goal, open};
-use crate::join_goal::{Row, add_slots, join_two, make};
-use crate::judge_goal::Text;
-use crate::shape::{is_proper, pair_parts};
+use crate::join_goal::{Row, add_slots, join_two, make, suspend};
+use goal_forms::{Context, Goal, binder_names, enter, is_proper, pair_parts, parse_goal};
 use kan_model::{Draft, GoalNode};
 use kan_terms::Memory;
 
@@ -40,13 +35,15 @@ pub(crate) enum Work {
     Join(Row),
     /// The goal made last, with so many slots of its own.
     Fresh(u32),
+    /// The goal made last, which suspends where the dialect says so.
+    Suspend,
     /// That a scope is left: only so many slots keep their names.
     Leave(usize),
 }
 
 // Builds a goal that has no goals in it.
 fn build_own(
-    text: &Text,
+    context: &Context,
     scope: &[Option<u32>],
     goal: Goal,
     draft: &mut Draft,
@@ -55,13 +52,13 @@ fn build_own(
     requires room { HasRoom (tables draft.old) }
     requires below { are_below (length (tables draft.old).goals) places.old.items ≡ true }
     ensures made { OnOk result (built (tables draft.new) places.new.items
-        ≡ with_maybe (own_goal (relations text.now.relations.now) text.now.names.now (sites text.now.nodes.now) scope.now goal) (built (tables draft.old) places.old.items)) }
+        ≡ with_maybe (goal_alone context.now scope.now goal) (built (tables draft.old) places.old.items)) }
     ensures below { OnOk result (are_below (length (tables draft.new).goals) places.new.items ≡ true) }
     ensures grows { OnOk result (Grows (tables draft.old) (tables draft.new)) }
     ensures room { OnOk result (HasRoom (tables draft.new)) }
-    ensures low { OnOk result (KeepsLow (sites text.now.nodes.now) (tables draft.old) (tables draft.new)) }
+    ensures low { OnOk result (KeepsLowIn context.now draft.old draft.new) }
 {
-    if let Some(node) = build_node(text, scope, goal, draft)? {
+    if let Some(node) = build_node(context, scope, goal, draft)? {
         make(node, draft, places)?;
     }
     Ok(())
@@ -69,21 +66,21 @@ fn build_own(
 
 // Puts the names of a binder into scope, and the goals in which it binds on the stack.
 fn enter_fresh(
-    text: &Text,
+    context: &Context,
     binder: u32,
     goals: u32,
     scope: &mut Vec<Option<u32>>,
     works: &mut Vec<Work>,
 ) -> Result<(), Memory>
-    ensures scope { OnOk result (scope.new.items ≡ within scope.old.items (binder_of text.now.names.now (site_at (sites text.now.nodes.now) binder)).value) }
+    ensures scope { OnOk result (scope.new.items ≡ within scope.old.items (binder_at context.now binder).value) }
     ensures works { OnOk result (works.new.items ≡ works.old.items
-        ++ Work.Fresh (length (binder_of text.now.names.now (site_at (sites text.now.nodes.now) binder)).value) ∷ Work.Leave (length scope.old.items) ∷ Work.Row Row.All goals ∷ []) }
+        ++ Work.Suspend ∷ Work.Fresh (length (binder_at context.now binder).value) ∷ Work.Leave (length scope.old.items) ∷ Work.Row Row.All goals ∷ []) }
 {
-    let mut faults = Vec::new(text.alloc);
-    let bound = bind(text.alloc, text.nodes, text.names, binder, &mut faults)?;
+    let bound = binder_names(context.alloc, context.flat, binder)?;
     let Ok(count) = u32::try_from(bound.len()) else {
         return Err(Memory);
     };
+    works.push(Work::Suspend)?;
     works.push(Work::Fresh(count))?;
     works.push(Work::Leave(scope.len()))?;
     works.push(Work::Row(Row::All, goals))?;
@@ -93,19 +90,22 @@ fn enter_fresh(
 
 // Puts the goals in a goal on the stack, in their scope.
 fn wait_for(
-    text: &Text,
+    context: &Context,
     goal: Goal,
     scope: &mut Vec<Option<u32>>,
     works: &mut Vec<Work>,
 ) -> Result<(), Memory>
-    ensures scope { OnOk result (scope.new.items ≡ inner_names text.now.names.now (sites text.now.nodes.now) scope.old.items goal) }
-    ensures works { OnOk result (works.new.items ≡ works.old.items ++ inner_works text.now.names.now (sites text.now.nodes.now) scope.old.items goal) }
+    ensures scope { OnOk result (scope.new.items ≡ inner_names context.now.names.now (data_of context.now) scope.old.items goal) }
+    ensures works { OnOk result (works.new.items ≡ works.old.items ++ inner_works context.now.names.now (data_of context.now) scope.old.items goal) }
 {
     match goal {
-        Goal::Fresh(binder, goals) => enter_fresh(text, binder, goals, scope, works)?,
+        Goal::Fresh(binder, goals) => enter_fresh(context, binder, goals, scope, works)?,
         Goal::AllOf(goals) => works.push(Work::Row(Row::All, goals))?,
         Goal::OneOf(goals) => works.push(Work::Row(Row::One, goals))?,
-        Goal::Clauses(clauses) => works.push(Work::Row(Row::Clauses, clauses))?,
+        Goal::Clauses(clauses) => {
+            works.push(Work::Suspend)?;
+            works.push(Work::Row(Row::Clauses, clauses))?;
+        }
         _ => {}
     }
     Ok(())
@@ -113,7 +113,7 @@ fn wait_for(
 
 // Builds a goal but for those in it, which are put on the stack.
 fn build_goal(
-    text: &Text,
+    context: &Context,
     place: u32,
     scope: &mut Vec<Option<u32>>,
     draft: &mut Draft,
@@ -123,25 +123,25 @@ fn build_goal(
     requires room { HasRoom (tables draft.old) }
     requires below { are_below (length (tables draft.old).goals) places.old.items ≡ true }
     ensures made { OnOk result (
-        finish (relations text.now.relations.now) text.now.names.now (sites text.now.nodes.now) scope.new.items (reverse works.new.items) (built (tables draft.new) places.new.items)
-        ≡ finish (relations text.now.relations.now) text.now.names.now (sites text.now.nodes.now) scope.old.items (Work.Goal place ∷ reverse works.old.items) (built (tables draft.old) places.old.items)) }
-    ensures falls { OnOk result (works_size (sites text.now.nodes.now) works.new.items < work_size (sites text.now.nodes.now) (Work.Goal place) + works_size (sites text.now.nodes.now) works.old.items) }
+        made_after context.now scope.new.items (reverse works.new.items) (built (tables draft.new) places.new.items)
+        ≡ made_after context.now scope.old.items (Work.Goal place ∷ reverse works.old.items) (built (tables draft.old) places.old.items)) }
+    ensures falls { OnOk result (works_size (data_of context.now) works.new.items < work_size (data_of context.now) (Work.Goal place) + works_size (data_of context.now) works.old.items) }
     ensures below { OnOk result (are_below (length (tables draft.new).goals) places.new.items ≡ true) }
     ensures grows { OnOk result (Grows (tables draft.old) (tables draft.new)) }
     ensures room { OnOk result (HasRoom (tables draft.new)) }
-    ensures low { OnOk result (KeepsLow (sites text.now.nodes.now) (tables draft.old) (tables draft.new)) }
+    ensures low { OnOk result (KeepsLowIn context.now draft.old draft.new) }
 {
-    let goal = open(text.nodes, text.names, place);
-    build_own(text, scope, goal, draft, places)?;
-    wait_for(text, goal, scope, works)?;
+    let goal = parse_goal(context.flat, context.names, place);
+    build_own(context, scope, goal, draft, places)?;
+    wait_for(context, goal, scope, works)?;
     Ok(())
 }
 
 // Puts the elements of a row behind its first one on the stack, where there are any, and that they are joined to it.
-fn wait_for_others(text: &Text, row: Row, rest: u32, works: &mut Vec<Work>) -> Result<(), Memory>
-    ensures { OnOk result (works.new.items ≡ works.old.items ++ other_works row rest (parts (site_at (sites text.now.nodes.now) rest))) }
+fn wait_for_others(context: &Context, row: Row, rest: u32, works: &mut Vec<Work>) -> Result<(), Memory>
+    ensures { OnOk result (works.new.items ≡ works.old.items ++ other_works row rest (parts (datum_at context.now rest))) }
 {
-    if pair_parts(text.nodes, rest).is_some() {
+    if pair_parts(context.flat, rest).is_some() {
         works.push(Work::Join(row))?;
         works.push(Work::Row(row, rest))?;
     }
@@ -161,7 +161,7 @@ fn first_work(row: Row, place: u32) -> Work
 
 // Puts the first element of a row and the others on the stack; a row that is empty is built.
 fn build_row(
-    text: &Text,
+    context: &Context,
     row: Row,
     place: u32,
     draft: &mut Draft,
@@ -171,16 +171,16 @@ fn build_row(
     requires room { HasRoom (tables draft.old) }
     requires below { are_below (length (tables draft.old).goals) places.old.items ≡ true }
     ensures made { OnOk result ((ns : Names) →
-        finish (relations text.now.relations.now) text.now.names.now (sites text.now.nodes.now) ns (reverse works.new.items) (built (tables draft.new) places.new.items)
-        ≡ finish (relations text.now.relations.now) text.now.names.now (sites text.now.nodes.now) ns (Work.Row row place ∷ reverse works.old.items) (built (tables draft.old) places.old.items)) }
-    ensures falls { OnOk result (works_size (sites text.now.nodes.now) works.new.items < work_size (sites text.now.nodes.now) (Work.Row row place) + works_size (sites text.now.nodes.now) works.old.items) }
+        made_after context.now ns (reverse works.new.items) (built (tables draft.new) places.new.items)
+        ≡ made_after context.now ns (Work.Row row place ∷ reverse works.old.items) (built (tables draft.old) places.old.items)) }
+    ensures falls { OnOk result (works_size (data_of context.now) works.new.items < work_size (data_of context.now) (Work.Row row place) + works_size (data_of context.now) works.old.items) }
     ensures below { OnOk result (are_below (length (tables draft.new).goals) places.new.items ≡ true) }
     ensures grows { OnOk result (Grows (tables draft.old) (tables draft.new)) }
     ensures room { OnOk result (HasRoom (tables draft.new)) }
     ensures terms { OnOk result ((tables draft.new).terms ≡ (tables draft.old).terms) }
 {
-    if let Some((first, rest)) = pair_parts(text.nodes, place) {
-        wait_for_others(text, row, rest, works)?;
+    if let Some((first, rest)) = pair_parts(context.flat, place) {
+        wait_for_others(context, row, rest, works)?;
         works.push(first_work(row, first))?;
     } else {
         make(row.empty(), draft, places)?;
@@ -190,7 +190,7 @@ fn build_row(
 
 // Puts the goals of a clause on the stack; one that is no list fails.
 fn build_clause(
-    text: &Text,
+    context: &Context,
     clause: u32,
     draft: &mut Draft,
     places: &mut Vec<u32>,
@@ -199,15 +199,15 @@ fn build_clause(
     requires room { HasRoom (tables draft.old) }
     requires below { are_below (length (tables draft.old).goals) places.old.items ≡ true }
     ensures made { OnOk result ((ns : Names) →
-        finish (relations text.now.relations.now) text.now.names.now (sites text.now.nodes.now) ns (reverse works.new.items) (built (tables draft.new) places.new.items)
-        ≡ finish (relations text.now.relations.now) text.now.names.now (sites text.now.nodes.now) ns (Work.Clause clause ∷ reverse works.old.items) (built (tables draft.old) places.old.items)) }
-    ensures falls { OnOk result (works_size (sites text.now.nodes.now) works.new.items < work_size (sites text.now.nodes.now) (Work.Clause clause) + works_size (sites text.now.nodes.now) works.old.items) }
+        made_after context.now ns (reverse works.new.items) (built (tables draft.new) places.new.items)
+        ≡ made_after context.now ns (Work.Clause clause ∷ reverse works.old.items) (built (tables draft.old) places.old.items)) }
+    ensures falls { OnOk result (works_size (data_of context.now) works.new.items < work_size (data_of context.now) (Work.Clause clause) + works_size (data_of context.now) works.old.items) }
     ensures below { OnOk result (are_below (length (tables draft.new).goals) places.new.items ≡ true) }
     ensures grows { OnOk result (Grows (tables draft.old) (tables draft.new)) }
     ensures room { OnOk result (HasRoom (tables draft.new)) }
     ensures terms { OnOk result ((tables draft.new).terms ≡ (tables draft.old).terms) }
 {
-    if is_proper(text.nodes, clause) {
+    if is_proper(context.flat, clause) {
         works.push(Work::Row(Row::All, clause))?;
     } else {
         make(GoalNode::Fail, draft, places)?;
@@ -217,7 +217,7 @@ fn build_clause(
 
 // Does a piece of work, but for what it leaves on the stack.
 fn build_next(
-    text: &Text,
+    context: &Context,
     work: Work,
     scope: &mut Vec<Option<u32>>,
     draft: &mut Draft,
@@ -227,20 +227,21 @@ fn build_next(
     requires room { HasRoom (tables draft.old) }
     requires below { are_below (length (tables draft.old).goals) places.old.items ≡ true }
     ensures made { OnOk result (
-        finish (relations text.now.relations.now) text.now.names.now (sites text.now.nodes.now) scope.new.items (reverse works.new.items) (built (tables draft.new) places.new.items)
-        ≡ finish (relations text.now.relations.now) text.now.names.now (sites text.now.nodes.now) scope.old.items (work ∷ reverse works.old.items) (built (tables draft.old) places.old.items)) }
-    ensures falls { OnOk result (works_size (sites text.now.nodes.now) works.new.items < work_size (sites text.now.nodes.now) work + works_size (sites text.now.nodes.now) works.old.items) }
+        made_after context.now scope.new.items (reverse works.new.items) (built (tables draft.new) places.new.items)
+        ≡ made_after context.now scope.old.items (work ∷ reverse works.old.items) (built (tables draft.old) places.old.items)) }
+    ensures falls { OnOk result (works_size (data_of context.now) works.new.items < work_size (data_of context.now) work + works_size (data_of context.now) works.old.items) }
     ensures below { OnOk result (are_below (length (tables draft.new).goals) places.new.items ≡ true) }
     ensures grows { OnOk result (Grows (tables draft.old) (tables draft.new)) }
     ensures room { OnOk result (HasRoom (tables draft.new)) }
-    ensures low { OnOk result (KeepsLow (sites text.now.nodes.now) (tables draft.old) (tables draft.new)) }
+    ensures low { OnOk result (KeepsLowIn context.now draft.old draft.new) }
 {
     match work {
-        Work::Goal(place) => build_goal(text, place, scope, draft, places, works)?,
-        Work::Clause(place) => build_clause(text, place, draft, places, works)?,
-        Work::Row(row, place) => build_row(text, row, place, draft, places, works)?,
+        Work::Goal(place) => build_goal(context, place, scope, draft, places, works)?,
+        Work::Clause(place) => build_clause(context, place, draft, places, works)?,
+        Work::Row(row, place) => build_row(context, row, place, draft, places, works)?,
         Work::Join(row) => join_two(row, draft, places)?,
         Work::Fresh(count) => add_slots(count, draft, places)?,
+        Work::Suspend => suspend(context.dialect, draft, places)?,
         Work::Leave(slots) => scope.truncate(slots),
     }
     Ok(())
@@ -248,26 +249,26 @@ fn build_next(
 
 /// Builds the goals of a list, which hold together, where these names are in scope, and gives the place of their goal.
 pub(crate) fn build_goals(
-    text: &Text,
+    context: &Context,
     place: u32,
     mut scope: Vec<Option<u32>>,
     draft: &mut Draft,
 ) -> Result<u32, Memory>
     requires room { HasRoom (tables draft.old) }
-    ensures made { IfOk result (λ at. HasGoal (tables draft.new) at (conjunction (goals_in (relations text.now.relations.now) scope.items (goal_forms text.now.names.now (site_at (sites text.now.nodes.now) place))))) }
+    ensures made { IfOk result (λ at. HasGoal (tables draft.new) at (list_goal context.now scope.items place)) }
     ensures grows { OnOk result (Grows (tables draft.old) (tables draft.new)) }
     ensures room { OnOk result (HasRoom (tables draft.new)) }
-    ensures low { OnOk result (KeepsLow (sites text.now.nodes.now) (tables draft.old) (tables draft.new)) }
-    ensures equational { OnOk result (are_equational_entries (tables draft.new).goals ≡ (are_equational_entries (tables draft.old).goals
-        && is_equational (conjunction (goals_in (relations text.now.relations.now) scope.items (goal_forms text.now.names.now (site_at (sites text.now.nodes.now) place)))))) }
+    ensures low { OnOk result (KeepsLowIn context.now draft.old draft.new) }
+    ensures equational { OnOk result (AddsEquational (tables draft.old) (tables draft.new)
+        (is_equational (list_goal context.now scope.items place))) }
     ensures called { OnOk result ((rows : List RelationEntry) → are_there rows (tables draft.new).goals ≡ (are_there rows (tables draft.old).goals
-        && calls_named rows (conjunction (goals_in (relations text.now.relations.now) scope.items (goal_forms text.now.names.now (site_at (sites text.now.nodes.now) place)))))) }
+        && calls_named rows (list_goal context.now scope.items place))) }
 {
-    let mut places = Vec::new(text.alloc);
-    let mut works = Vec::new(text.alloc);
+    let mut places = Vec::new(context.alloc);
+    let mut works = Vec::new(context.alloc);
     works.push(Work::Row(Row::All, place))?;
     while let Some(work) = works.pop() {
-        build_next(text, work, &mut scope, draft, &mut places, &mut works)?;
+        build_next(context, work, &mut scope, draft, &mut places, &mut works)?;
     }
     let Some(goal) = places.pop() else {
         return Err(Memory);

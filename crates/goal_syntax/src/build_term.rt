@@ -1,7 +1,7 @@
 //! Building templates of terms.
 
-ghost use Rattle.std.specs.Prelude.{◌≡◌, ◌∷◌, ◌+◌, ◌<◌, ◌≤◌, map, length, reverse, unwrap_or, true, IfOk, OnOk, List, ℕ};
-ghost use Rattle.kan_grammar.specs.Texts.GoalForms.{term_forms};
+ghost use Rattle.goal_syntax.specs.Building.InContext.{task_template, term_templates, KeepsLowIn};
+ghost use Rattle.std.specs.Prelude.{◌≡◌, ◌∷◌, ◌+◌, ◌<◌, ◌≤◌, map, length, reverse, unwrap_or, true, IfOk, OnOk};
 ghost use Rattle.kan_grammar.specs.Texts.ProgramText.{slot_list};
 ghost use Rattle.kan_grammar.specs.Texts.Resolved.{template_in, slot_of};
 ghost use Rattle.kan_model.specs.Programs.Tables.{is_term_grown, template_at, template_of};
@@ -9,19 +9,15 @@ ghost use Rattle.kan_model.specs.Programs.Nodes.{term_entry};
 ghost use Rattle.kan_model.specs.Programs.Drafts.{tables, templates};
 ghost use Rattle.std.specs.List.{list_all};
 ghost use Rattle.kan_model.specs.Programs.Scope.{is_low};
-ghost use Rattle.goal_syntax.specs.BuildLow.{WorksLow, all_low};
-ghost use Rattle.goal_syntax.specs.Low.{AreLow, KeepsLow};
-ghost use Rattle.goal_syntax.specs.Building.{AddsTerms, HasTemplates, with_arguments, built, paired, finish, work_size, works_size};
-ghost use Rattle.goal_syntax.specs.Drafting.{HasTemplate, HasArguments, Grows, HasRoom};
-ghost use Rattle.goal_syntax.specs.Parts.{sites, site_at};
-ghost use Rattle.goal_syntax.specs.TermSteps.{task_form, step_form, step_size};
-ghost use Rattle.goal_syntax.specs.Turning.{are_below};
+ghost use Rattle.goal_forms.specs.Contexts.{data_of};
+ghost use Rattle.goal_syntax.specs.Building.TermHeights.{WorksLow, all_low};
+ghost use Rattle.goal_syntax.specs.Building.TermsLeft.{AddsTerms, HasTemplates, with_arguments, built, paired, finish, work_size, works_size};
+ghost use Rattle.goal_syntax.specs.Building.GrownTables.{HasTemplate, HasArguments, Grows, HasRoom};
+ghost use Rattle.goal_forms.specs.TermSteps.{step_form, step_size};
+ghost use Rattle.goal_forms.specs.Places.{are_below};
 
 use crate::drafting::{add_argument, add_term};
-use crate::judge_goal::Text;
-use crate::scope::slot_of;
-use crate::shape::pair_parts;
-use crate::term::{Step, Task, open};
+use goal_forms::{Context, Step, Task, pair_parts, parse_task, slot_of};
 use kan_model::{Draft, TermNode};
 use kan_terms::Memory;
 
@@ -78,7 +74,7 @@ fn slot_number(scope: &[Option<u32>], symbol: u32) -> Result<u32, Memory>
 
 // Builds the template that begins with a step, as far as its parts.
 fn build_step(
-    text: &Text,
+    context: &Context,
     scope: &[Option<u32>],
     step: Step,
     draft: &mut Draft,
@@ -87,24 +83,25 @@ fn build_step(
 ) -> Result<(), Memory>
     requires room { HasRoom (tables draft.old) }
     requires below { are_below (length (tables draft.old).terms) places.old.items ≡ true }
-    ensures made { OnOk result (finish (sites text.now.nodes.now) text.now.names.now scope.now (reverse works.new.items) (built (templates draft.new) places.new.items)
-        ≡ finish (sites text.now.nodes.now) text.now.names.now scope.now (reverse works.old.items)
-        (template_in scope.now (step_form (sites text.now.nodes.now) text.now.names.now step) ∷ built (templates draft.old) places.old.items)) }
+    ensures made { OnOk result (finish (data_of context.now) context.now.names.now scope.now (reverse works.new.items) (built (templates draft.new) places.new.items)
+        ≡ finish (data_of context.now) context.now.names.now scope.now (reverse works.old.items)
+        (template_in scope.now (step_form (data_of context.now) context.now.names.now step) ∷ built (templates draft.old) places.old.items)) }
     ensures below { OnOk result (are_below (length (tables draft.new).terms) places.new.items ≡ true) }
     ensures adds { OnOk result (AddsTerms (tables draft.old) (tables draft.new)) }
     ensures low { OnOk result (
-        all_low (sites text.now.nodes.now) text.now.names.now scope.now (reverse works.old.items)
-        (template_in scope.now (step_form (sites text.now.nodes.now) text.now.names.now step) ∷ built (templates draft.old) places.old.items) ≡ true →
+        all_low (data_of context.now) context.now.names.now scope.now (reverse works.old.items)
+        (template_in scope.now (step_form (data_of context.now) context.now.names.now step) ∷ built (templates draft.old) places.old.items) ≡ true →
         list_all is_low (templates draft.old) ≡ true →
-        WorksLow (sites text.now.nodes.now) text.now.names.now scope.now (reverse works.new.items) (templates draft.new) places.new.items) }
-    ensures falls { OnOk result (works_size (sites text.now.nodes.now) works.new.items
-        ≤ 1 + step_size (sites text.now.nodes.now) step + step_size (sites text.now.nodes.now) step + works_size (sites text.now.nodes.now) works.old.items) }
+        WorksLow (data_of context.now) context.now.names.now scope.now (reverse works.new.items) (templates draft.new) places.new.items) }
+    ensures falls { OnOk result (works_size (data_of context.now) works.new.items
+        ≤ 1 + step_size (data_of context.now) step + step_size (data_of context.now) step + works_size (data_of context.now) works.old.items) }
 {
     match step {
         Step::Variable(_, symbol) => {
             put(TermNode::Slot(slot_number(scope, symbol)?), draft, places)?
         }
         Step::Symbol(symbol) => put(TermNode::Sym(symbol), draft, places)?,
+        Step::Text(text) => put(TermNode::Str(text), draft, places)?,
         Step::Number(number) => put(TermNode::Num(number), draft, places)?,
         Step::Truth(truth) => put(TermNode::Truth(truth), draft, places)?,
         Step::Misshapen(_) | Step::Nil => put(TermNode::Nil, draft, places)?,
@@ -120,7 +117,7 @@ fn build_step(
 
 // Does a piece of work, as far as its parts.
 fn build_work(
-    text: &Text,
+    context: &Context,
     scope: &[Option<u32>],
     work: Work,
     draft: &mut Draft,
@@ -129,19 +126,19 @@ fn build_work(
 ) -> Result<(), Memory>
     requires room { HasRoom (tables draft.old) }
     requires below { are_below (length (tables draft.old).terms) places.old.items ≡ true }
-    ensures made { OnOk result (finish (sites text.now.nodes.now) text.now.names.now scope.now (reverse works.new.items) (built (templates draft.new) places.new.items)
-        ≡ finish (sites text.now.nodes.now) text.now.names.now scope.now (work ∷ reverse works.old.items) (built (templates draft.old) places.old.items)) }
+    ensures made { OnOk result (finish (data_of context.now) context.now.names.now scope.now (reverse works.new.items) (built (templates draft.new) places.new.items)
+        ≡ finish (data_of context.now) context.now.names.now scope.now (work ∷ reverse works.old.items) (built (templates draft.old) places.old.items)) }
     ensures below { OnOk result (are_below (length (tables draft.new).terms) places.new.items ≡ true) }
     ensures adds { OnOk result (AddsTerms (tables draft.old) (tables draft.new)) }
-    ensures low { OnOk result (WorksLow (sites text.now.nodes.now) text.now.names.now scope.now (work ∷ reverse works.old.items) (templates draft.old) places.old.items →
-        WorksLow (sites text.now.nodes.now) text.now.names.now scope.now (reverse works.new.items) (templates draft.new) places.new.items) }
-    ensures falls { OnOk result (works_size (sites text.now.nodes.now) works.new.items
-        < work_size (sites text.now.nodes.now) work + works_size (sites text.now.nodes.now) works.old.items) }
+    ensures low { OnOk result (WorksLow (data_of context.now) context.now.names.now scope.now (work ∷ reverse works.old.items) (templates draft.old) places.old.items →
+        WorksLow (data_of context.now) context.now.names.now scope.now (reverse works.new.items) (templates draft.new) places.new.items) }
+    ensures falls { OnOk result (works_size (data_of context.now) works.new.items
+        < work_size (data_of context.now) work + works_size (data_of context.now) works.old.items) }
 {
     match work {
         Work::Term(task) => {
-            let step = open(text.nodes, text.names, task);
-            build_step(text, scope, step, draft, places, works)?;
+            let step = parse_task(context.flat, context.names, task);
+            build_step(context, scope, step, draft, places, works)?;
         }
         Work::Pair => join(draft, places)?,
     }
@@ -150,42 +147,42 @@ fn build_work(
 
 /// Builds the template of a term where these names are in scope, and gives its place.
 pub(crate) fn build_term(
-    text: &Text,
+    context: &Context,
     scope: &[Option<u32>],
     task: Task,
     draft: &mut Draft,
 ) -> Result<u32, Memory>
     requires room { HasRoom (tables draft.old) }
-    ensures made { IfOk result (λ at. HasTemplate (tables draft.new) at (template_in scope.now (task_form (sites text.now.nodes.now) text.now.names.now task))) }
+    ensures made { IfOk result (λ at. HasTemplate (tables draft.new) at (task_template context.now scope.now task)) }
     ensures grows { OnOk result (Grows (tables draft.old) (tables draft.new)) }
     ensures room { OnOk result (HasRoom (tables draft.new)) }
     ensures same { OnOk result ((tables draft.new).goals ≡ (tables draft.old).goals) }
-    ensures low { OnOk result (KeepsLow (sites text.now.nodes.now) (tables draft.old) (tables draft.new)) }
+    ensures low { OnOk result (KeepsLowIn context.now draft.old draft.new) }
 {
-    let mut places = Vec::new(text.alloc);
-    let mut works = Vec::new(text.alloc);
+    let mut places = Vec::new(context.alloc);
+    let mut works = Vec::new(context.alloc);
     works.push(Work::Term(task))?;
     while let Some(work) = works.pop() {
-        build_work(text, scope, work, draft, &mut places, &mut works)?;
+        build_work(context, scope, work, draft, &mut places, &mut works)?;
     }
     places.pop().ok_or(Memory)
 }
 
 // Builds the templates of the terms in a list, and gives their places.
 fn build_terms(
-    text: &Text,
+    context: &Context,
     scope: &[Option<u32>],
     mut place: u32,
     draft: &mut Draft,
 ) -> Result<Vec<u32>, Memory>
     requires room { HasRoom (tables draft.old) }
-    ensures made { IfOk result (λ places. HasTemplates (tables draft.new) places.items (map (template_in scope.now) (term_forms text.now.names.now (site_at (sites text.now.nodes.now) place)))) }
+    ensures made { IfOk result (λ places. HasTemplates (tables draft.new) places.items (term_templates context.now scope.now place)) }
     ensures adds { OnOk result (AddsTerms (tables draft.old) (tables draft.new)) }
-    ensures low { OnOk result (KeepsLow (sites text.now.nodes.now) (tables draft.old) (tables draft.new)) }
+    ensures low { OnOk result (KeepsLowIn context.now draft.old draft.new) }
 {
-    let mut places = Vec::new(text.alloc);
-    while let Some((first, rest)) = pair_parts(text.nodes, place) {
-        let term = build_term(text, scope, Task::Term(first), draft)?;
+    let mut places = Vec::new(context.alloc);
+    while let Some((first, rest)) = pair_parts(context.flat, place) {
+        let term = build_term(context, scope, Task::Term(first), draft)?;
         places.push(term)?;
         place = rest;
     }
@@ -225,19 +222,19 @@ fn put_arguments(terms: &[u32], draft: &mut Draft) -> Result<u32, Memory>
 /// Builds the templates of the terms in a list and puts them into the table of arguments, one behind the other: gives the
 /// place of the first one, and how many there are.
 pub(crate) fn build_arguments(
-    text: &Text,
+    context: &Context,
     scope: &[Option<u32>],
     place: u32,
     draft: &mut Draft,
 ) -> Result<(u32, u32), Memory>
     requires room { HasRoom (tables draft.old) }
-    ensures made { IfOk result (λ made. HasArguments (tables draft.new) made.0 made.1 (map (template_in scope.now) (term_forms text.now.names.now (site_at (sites text.now.nodes.now) place)))) }
+    ensures made { IfOk result (λ made. HasArguments (tables draft.new) made.0 made.1 (term_templates context.now scope.now place)) }
     ensures grows { OnOk result (Grows (tables draft.old) (tables draft.new)) }
     ensures room { OnOk result (HasRoom (tables draft.new)) }
     ensures same { OnOk result ((tables draft.new).goals ≡ (tables draft.old).goals) }
-    ensures low { OnOk result (KeepsLow (sites text.now.nodes.now) (tables draft.old) (tables draft.new)) }
+    ensures low { OnOk result (KeepsLowIn context.now draft.old draft.new) }
 {
-    let terms = build_terms(text, scope, place, draft)?;
+    let terms = build_terms(context, scope, place, draft)?;
     let at = put_arguments(&terms, draft)?;
     Ok((at, terms.len() as u32))
 }

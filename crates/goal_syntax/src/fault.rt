@@ -2,7 +2,7 @@
 
 ghost use Rattle.std.specs.Prelude.{◌≡◌, [], ◌∷◌, ◌++◌, OnOk};
 ghost use Rattle.kan_grammar.specs.Data.Faults.{fault};
-ghost use Rattle.goal_syntax.specs.FaultLists.{fault_list};
+ghost use Rattle.goal_syntax.specs.Judging.FaultLists.{AddsFaults};
 
 use kan_terms::Memory;
 
@@ -15,7 +15,8 @@ pub(crate) struct Fault {
 
 /// Notes a fault.
 pub(crate) fn report(faults: &mut Vec<Fault>, at: u32, number: u8) -> Result<(), Memory>
-    ensures { OnOk result (fault_list faults.new.items ≡ fault_list faults.old.items ++ fault at number ∷ []) }
+    ensures { OnOk result (AddsFaults faults.old.items faults.new.items
+        (fault at number ∷ [])) }
 {
     faults.push(Fault { at, number })?;
     Ok(())

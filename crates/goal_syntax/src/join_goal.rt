@@ -4,12 +4,13 @@ ghost use Rattle.std.specs.Prelude.{◌≡◌, length, true, OnOk};
 ghost use Rattle.kan_model.specs.Programs.Drafts.{tables};
 ghost use Rattle.kan_model.specs.Programs.Nodes.{goal_entry};
 ghost use Rattle.kan_model.specs.Programs.Tables.{is_goal_grown};
-ghost use Rattle.goal_syntax.specs.Built.{built, with_entry};
-ghost use Rattle.goal_syntax.specs.Drafting.{Grows, HasRoom};
-ghost use Rattle.goal_syntax.specs.GoalWorks.{empty_entry, freshened, join_entry, joined};
-ghost use Rattle.goal_syntax.specs.Turning.{are_below};
+ghost use Rattle.goal_syntax.specs.Building.GoalsBuilt.{built, with_entry};
+ghost use Rattle.goal_syntax.specs.Building.GrownTables.{Grows, HasRoom};
+ghost use Rattle.goal_syntax.specs.Building.GoalsLeft.{empty_entry, freshened, join_entry, joined, suspended};
+ghost use Rattle.goal_forms.specs.Places.{are_below};
 
 use crate::drafting::add_goal;
+use kan_grammar::Dialect;
 use kan_model::{Draft, GoalNode};
 use kan_terms::Memory;
 
@@ -99,4 +100,41 @@ pub(crate) fn add_slots(count: u32, draft: &mut Draft, places: &mut Vec<u32>) ->
     };
     make(GoalNode::Fresh(count, goal), draft, places)?;
     Ok(())
+}
+
+// Lets the goal that was made last suspend.
+fn add_later(draft: &mut Draft, places: &mut Vec<u32>) -> Result<(), Memory>
+    requires room { HasRoom (tables draft.old) }
+    requires below { are_below (length (tables draft.old).goals) places.old.items ≡ true }
+    ensures made { OnOk result (built (tables draft.new) places.new.items ≡ suspended Dialect.All (built (tables draft.old) places.old.items)) }
+    ensures below { OnOk result (are_below (length (tables draft.new).goals) places.new.items ≡ true) }
+    ensures grows { OnOk result (Grows (tables draft.old) (tables draft.new)) }
+    ensures room { OnOk result (HasRoom (tables draft.new)) }
+    ensures terms { OnOk result ((tables draft.new).terms ≡ (tables draft.old).terms) }
+{
+    let Some(goal) = places.pop() else {
+        return Ok(());
+    };
+    make(GoalNode::Later(goal), draft, places)?;
+    Ok(())
+}
+
+/// Lets the goal that was made last suspend, in the dialect in which `fresh` and `conde` do.
+pub(crate) fn suspend(
+    dialect: Dialect,
+    draft: &mut Draft,
+    places: &mut Vec<u32>,
+) -> Result<(), Memory>
+    requires room { HasRoom (tables draft.old) }
+    requires below { are_below (length (tables draft.old).goals) places.old.items ≡ true }
+    ensures made { OnOk result (built (tables draft.new) places.new.items ≡ suspended dialect (built (tables draft.old) places.old.items)) }
+    ensures below { OnOk result (are_below (length (tables draft.new).goals) places.new.items ≡ true) }
+    ensures grows { OnOk result (Grows (tables draft.old) (tables draft.new)) }
+    ensures room { OnOk result (HasRoom (tables draft.new)) }
+    ensures terms { OnOk result ((tables draft.new).terms ≡ (tables draft.old).terms) }
+{
+    match dialect {
+        Dialect::Book => Ok(()),
+        Dialect::All => add_later(draft, places),
+    }
 }

@@ -3,21 +3,20 @@
 ghost use Rattle.std.specs.Prelude.{◌≡◌, ◌+◌, ◌++◌, OnOk};
 ghost use Rattle.std.specs.List.{flat_map};
 ghost use Rattle.kan_grammar.specs.Texts.TextFaults.{use_faults, term_faults};
-ghost use Rattle.goal_syntax.specs.FaultLists.{fault_list};
-ghost use Rattle.goal_syntax.specs.Parts.{sites};
-ghost use Rattle.goal_syntax.specs.TermSteps.{task_form, step_size};
-ghost use Rattle.goal_syntax.specs.Waiting.{own_uses, later_uses, waiting_uses, waiting_size};
+ghost use Rattle.goal_syntax.specs.Judging.FaultLists.{AddsFaults};
+ghost use Rattle.goal_forms.specs.Parts.{sites};
+ghost use Rattle.goal_forms.specs.TermSteps.{task_form, step_size};
+ghost use Rattle.goal_syntax.specs.Judging.TermsLeft.{own_uses, later_uses, waiting_uses, waiting_size};
 
 use crate::fault::{Fault, report};
-use crate::node::Nodes;
-use crate::scope::slot_of;
-use crate::term::{Step, Task, open};
+use goal_forms::{FlatData, Step, Task, parse_task, slot_of};
 use kan_terms::{Memory, Names};
 use std::alloc::Global;
 
 // Notes the fault of a step, where it has one itself.
 fn judge_step(scope: &[Option<u32>], step: Step, faults: &mut Vec<Fault>) -> Result<(), Memory>
-    ensures { OnOk result (fault_list faults.new.items ≡ fault_list faults.old.items ++ flat_map (use_faults scope.now) (own_uses step)) }
+    ensures { OnOk result (AddsFaults faults.old.items faults.new.items
+        (flat_map (use_faults scope.now) (own_uses step))) }
 {
     match step {
         Step::Variable(at, symbol) => {
@@ -32,11 +31,11 @@ fn judge_step(scope: &[Option<u32>], step: Step, faults: &mut Vec<Fault>) -> Res
 }
 
 // Puts the tasks of a step on the stack, the first one on top.
-fn wait_for(nodes: &Nodes, names: &Names, step: Step, waiting: &mut Vec<Task>) -> Result<(), Memory>
-    ensures uses { OnOk result (waiting_uses (sites nodes.now) names.now waiting.new.items
-        ≡ later_uses (sites nodes.now) names.now step ++ waiting_uses (sites nodes.now) names.now waiting.old.items) }
-    ensures size { OnOk result (waiting_size (sites nodes.now) waiting.new.items
-        ≡ step_size (sites nodes.now) step + waiting_size (sites nodes.now) waiting.old.items) }
+fn wait_for(flat: &FlatData, names: &Names, step: Step, waiting: &mut Vec<Task>) -> Result<(), Memory>
+    ensures uses { OnOk result (waiting_uses (sites flat.now) names.now waiting.new.items
+        ≡ later_uses (sites flat.now) names.now step ++ waiting_uses (sites flat.now) names.now waiting.old.items) }
+    ensures size { OnOk result (waiting_size (sites flat.now) waiting.new.items
+        ≡ step_size (sites flat.now) step + waiting_size (sites flat.now) waiting.old.items) }
 {
     match step {
         Step::Pair(first, rest) => {
@@ -52,21 +51,21 @@ fn wait_for(nodes: &Nodes, names: &Names, step: Step, waiting: &mut Vec<Task>) -
 /// Notes the faults of a task's term, where these names are in scope.
 pub(crate) fn judge_term(
     alloc: Global,
-    nodes: &Nodes,
+    flat: &FlatData,
     names: &Names,
     scope: &[Option<u32>],
     task: Task,
     faults: &mut Vec<Fault>,
 ) -> Result<(), Memory>
-    ensures { OnOk result (fault_list faults.new.items
-        ≡ fault_list faults.old.items ++ term_faults scope.now (task_form (sites nodes.now) names.now task)) }
+    ensures { OnOk result (AddsFaults faults.old.items faults.new.items
+        (term_faults scope.now (task_form (sites flat.now) names.now task))) }
 {
     let mut waiting = Vec::new(alloc);
     waiting.push(task)?;
     while let Some(next) = waiting.pop() {
-        let step = open(nodes, names, next);
+        let step = parse_task(flat, names, next);
         judge_step(scope, step, faults)?;
-        wait_for(nodes, names, step, &mut waiting)?;
+        wait_for(flat, names, step, &mut waiting)?;
     }
     Ok(())
 }

@@ -1,21 +1,15 @@
 //! The faults of texts, and the one that comes first.
 
-ghost use Rattle.std.specs.Prelude.{◌≡◌, ◌<◌, ◌≤◌, ◌+◌, ◌^◌, ◌++◌, length, take, map, IfOk, OnOk, option_map};
-ghost use Rattle.kan_grammar.specs.Texts.TopForms.{definitions, definitions_of as defined_by_form};
-ghost use Rattle.kan_grammar.specs.Texts.TextFaults.{is_before, first_of, least, forms_faults, faults_of};
-ghost use Rattle.goal_syntax.specs.FaultLists.{fault_of, fault_list};
-ghost use Rattle.goal_syntax.specs.Parts.{sites, site_at};
-ghost use Rattle.goal_syntax.specs.Related.{related};
-ghost use Rattle.goal_syntax.specs.Tabled.{relations};
+ghost use Rattle.std.specs.Prelude.{◌≡◌, ◌<◌, ◌≤◌, ◌+◌, ◌^◌, ◌++◌, length, take, IfOk, OnOk, option_map};
+ghost use Rattle.kan_grammar.specs.Texts.TopForms.{definitions};
+ghost use Rattle.kan_grammar.specs.Texts.TextFaults.{is_before, first_of, least, forms_faults};
+ghost use Rattle.goal_forms.specs.Contexts.{data_at, defined_in};
+ghost use Rattle.goal_syntax.specs.Judging.FaultLists.{fault_of, fault_list, AddsFaults};
 
 use crate::fault::Fault;
-use crate::form::{definitions_of, open};
 use crate::judge_form::judge_form;
-use crate::judge_goal::Text;
-use crate::node::Nodes;
-use crate::relations::{Defined, Relations};
-use kan_terms::{Memory, Names};
-use std::alloc::Global;
+use goal_forms::{Context, count_defined, parse_form};
+use kan_terms::Memory;
 
 // Whether a fault comes before another: by its offset, and at one offset by its number.
 fn is_before(fault: Fault, other: Fault) -> bool
@@ -45,91 +39,41 @@ pub(crate) fn least(mut faults: Vec<Fault>) -> Option<Fault>
     first
 }
 
-/// Adds the relations that top forms define.
-pub(crate) fn define_all(
-    nodes: &Nodes,
-    names: &Names,
-    forms: &[u32],
-    rows: &mut Vec<Defined>,
-) -> Result<(), Memory>
-    ensures { OnOk result (related rows.new.items ≡ related rows.old.items ++ definitions names.now (map (site_at (sites nodes.now)) forms.now)) }
-{
-    for place in forms {
-        if let Some(relation) = definitions_of(nodes, names, *place) {
-            rows.push(relation)?;
-        }
-    }
-    Ok(())
-}
-
-// How many relations a top form defines.
-fn count_defined(nodes: &Nodes, names: &Names, place: u32) -> u32
-    ensures { result ≡ length (defined_by_form names.now (site_at (sites nodes.now) place)) }
-{
-    match definitions_of(nodes, names, place) {
-        Some(_) => 1,
-        None => 0,
-    }
-}
-
 /// Notes the faults of top forms, before which this many relations are defined.
 pub(crate) fn judge_forms(
-    text: &Text,
+    context: &Context,
     mut before: u32,
     forms: &[u32],
     faults: &mut Vec<Fault>,
 ) -> Result<(), Memory>
-    requires few { length (relations text.now.relations.now) < 2 ^ 32 }
-    requires before { before ≤ length (relations text.now.relations.now) }
-    requires later { relations text.now.relations.now ≡ take before (relations text.now.relations.now)
-        ++ definitions text.now.names.now (map (site_at (sites text.now.nodes.now)) forms.now) }
-    ensures { OnOk result (fault_list faults.new.items ≡ fault_list faults.old.items
-        ++ forms_faults text.now.names.now (relations text.now.relations.now) (take before (relations text.now.relations.now))
-        (map (site_at (sites text.now.nodes.now)) forms.now)) }
+    requires few { length (defined_in context.now) < 2 ^ 32 }
+    requires before { before ≤ length (defined_in context.now) }
+    requires later { defined_in context.now ≡ take before (defined_in context.now)
+        ++ definitions context.now.names.now (data_at context.now forms.now) }
+    ensures { OnOk result (AddsFaults faults.old.items faults.new.items
+        (forms_faults context.now.names.now (defined_in context.now) (take before (defined_in context.now)) (data_at context.now forms.now))) }
 {
     for place in forms {
-        judge_form(text, before, open(text.nodes, text.names, *place), faults)?;
-        before += count_defined(text.nodes, text.names, *place);
+        judge_form(context, before, parse_form(context.flat, context.names, *place), faults)?;
+        before += count_defined(context.flat, context.names, *place);
     }
     Ok(())
 }
 
-/// The relations that a library and a text define, and how many of them are the library's.
-pub(crate) fn define(
-    alloc: Global,
-    nodes: &Nodes,
-    names: &Names,
-    library: &[u32],
-    text: &[u32],
-) -> Result<(Relations, u32), Memory>
-    requires { length library.now + length text.now < 2 ^ 32 }
-    ensures relations { IfOk result (λ made. relations made.0
-        ≡ definitions names.now (map (site_at (sites nodes.now)) library.now) ++ definitions names.now (map (site_at (sites nodes.now)) text.now)) }
-    ensures before { IfOk result (λ made. made.1 ≡ length (definitions names.now (map (site_at (sites nodes.now)) library.now))) }
-    ensures few { IfOk result (λ made. length (relations made.0) < 2 ^ 32) }
-{
-    let mut rows = Vec::new(alloc);
-    define_all(nodes, names, library, &mut rows)?;
-    let before = rows.len() as u32;
-    define_all(nodes, names, text, &mut rows)?;
-    let relations = Relations::of(alloc, rows)?;
-    Ok((relations, before))
-}
-
 /// The fault that comes first of top forms before which this many relations are defined, where they have one.
 pub(crate) fn first_of_forms(
-    text: &Text,
+    context: &Context,
     before: u32,
     forms: &[u32],
 ) -> Result<Option<Fault>, Memory>
-    requires few { length (relations text.now.relations.now) < 2 ^ 32 }
-    requires before { before ≤ length (relations text.now.relations.now) }
-    requires later { relations text.now.relations.now ≡ take before (relations text.now.relations.now)
-        ++ definitions text.now.names.now (map (site_at (sites text.now.nodes.now)) forms.now) }
+    requires few { length (defined_in context.now) < 2 ^ 32 }
+    requires before { before ≤ length (defined_in context.now) }
+    requires later { defined_in context.now ≡ take before (defined_in context.now)
+        ++ definitions context.now.names.now (data_at context.now forms.now) }
     ensures { IfOk result (λ fault. option_map fault_of fault
-        ≡ least (forms_faults text.now.names.now (relations text.now.relations.now) (take before (relations text.now.relations.now)) (map (site_at (sites text.now.nodes.now)) forms.now))) }
+        ≡ least (forms_faults context.now.names.now (defined_in context.now) (take before (defined_in context.now)) (data_at context.now forms.now))) }
 {
-    let mut faults = Vec::new(text.alloc);
-    judge_forms(text, before, forms, &mut faults)?;
+    let mut faults = Vec::new(context.alloc);
+    judge_forms(context, before, forms, &mut faults)?;
     Ok(least(faults))
 }

@@ -1,11 +1,11 @@
-//! Whether the symbols of a program have names.
+//! Whether the symbols of a program have names, and its strings texts.
 
 ghost use Rattle.std.specs.Prelude.{◌≡◌, ◌<◌, ◌^◌, length};
 ghost use Rattle.std.specs.List.{list_all};
-ghost use Rattle.kan_model.specs.Programs.Nodes.{term_entry, goal_entry, relation_entry};
+ghost use Rattle.kan_model.specs.Programs.Nodes.{term_entry, goal_entry};
 ghost use Rattle.kan_model.specs.Programs.Closed as programs;
-ghost use Rattle.goal_syntax.specs.Drafting.{HasRoom};
-ghost use Rattle.goal_syntax.specs.Named as named;
+ghost use Rattle.goal_syntax.specs.Building.GrownTables.{HasRoom};
+ghost use Rattle.goal_syntax.specs.Compiling.SymbolNames as named;
 
 use kan_model::{GoalNode, Program, TermNode};
 use kan_terms::Names;
@@ -17,12 +17,20 @@ fn has_name(names: &Names, symbol: u32) -> bool
     names.name(symbol).is_some()
 }
 
-// Whether the symbol of a template has one.
+// Whether a string has a text.
+fn has_text(names: &Names, text: u32) -> bool
+    ensures { result ≡ named.has_text names.now text }
+{
+    names.string(text).is_some()
+}
+
+// Whether the symbol of a template has one, and its string a text.
 fn is_term_named(names: &Names, node: TermNode) -> bool
     ensures { result ≡ named.is_term_named names.now (term_entry node) }
 {
     match node {
         TermNode::Sym(symbol) => has_name(names, symbol),
+        TermNode::Str(text) => has_text(names, text),
         _ => true,
     }
 }
@@ -82,7 +90,7 @@ fn are_relations_named(names: &Names, program: &Program) -> bool
     true
 }
 
-/// Whether all symbols in a program have names.
+/// Whether all symbols in a program have names, and all strings texts.
 pub(crate) fn are_named(names: &Names, program: &Program) -> bool
     requires { HasRoom (programs.tables program.now) }
     ensures { result ≡ named.are_named names.now (programs.tables program.now) }

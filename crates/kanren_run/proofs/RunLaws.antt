@@ -13,7 +13,7 @@ use Rattle.kan_model.specs.Streams.Running.{run, force, enter, start, assert, in
 use Rattle.kan_model.specs.Streams.Taking.{Taken, Ending, give, take, taken, nothing_more, with_answer, with_pull}
 use Rattle.kan_model.specs.Answers.Text.{Table}
 use Rattle.kan_model.specs.Answers.Output.{runs_output, taken_text}
-use Rattle.goal_syntax.specs.Equational as equational
+use Rattle.goal_syntax.specs.Building.Equations as equational
 use Rattle.kanren_run.specs.Answers.{spends, is_fuel}
 use Rattle.kanren_run.specs.Equations.{HasEquations, Each}
 

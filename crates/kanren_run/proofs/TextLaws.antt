@@ -4,12 +4,12 @@ use Rattle.kan_grammar.specs.Data.Faults.{read_text, data_are}
 use Rattle.sexpr.specs.Seen.{Table, written, as_kept}
 use Rattle.sexpr.specs.Reads.{Extends}
 use Rattle.sexpr.specs.declared.data.Datum.{Datum}
-use Rattle.goal_syntax.specs.Checks.{NamesPrefixes}
-use Rattle.goal_syntax.specs.Compiles.{Compiles, IsCompiled, fault_found, relations_meant, queries_meant}
-use Rattle.goal_syntax.specs.Equational.{are_equational}
-use Rattle.goal_syntax.specs.declared.check.SyntaxError.{SyntaxError}
-use Rattle.goal_syntax.specs.declared.check.SyntaxError.TheVariants as syntax
-use Rattle.goal_syntax.specs.declared.compiling.Compiled.{Compiled}
+use Rattle.goal_forms.specs.PrefixSymbols.{NamesPrefixes}
+use Rattle.goal_syntax.specs.Compiling.Compiles.{Compiles, IsCompiled, fault_found, relations_meant, queries_meant}
+use Rattle.goal_syntax.specs.Building.Equations.{are_equational}
+use Rattle.goal_syntax.specs.declared.refusal.SyntaxError.{SyntaxError}
+use Rattle.goal_syntax.specs.declared.refusal.SyntaxError.TheVariants as syntax
+use Rattle.goal_syntax.specs.declared.compiler.Compiled.{Compiled}
 use Rattle.kanren_run.specs.Answers.{Answered, faulty, not_built, refusal, HasFault}
 use Rattle.kanren_run.specs.Replies.{HasRuns, ComesTo, EquationsAlone, IsRefused}
 use Rattle.kanren_run.specs.declared.text.NotRun.{NotRun}

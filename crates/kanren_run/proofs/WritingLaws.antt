@@ -27,7 +27,7 @@ use Rattle.kan_search.specs.declared.batch.Ended.{Ended}
 use Rattle.kanren_run.specs.Writing.{Puts, Stops, Written, WritesNext, Continues, CanRun, answer_lines, end_text, rest_text}
 use Rattle.kanren_run.specs.declared.writing.Stop.{Stop}
 use Rattle.kanren_run.specs.declared.writing.Stop.TheVariants.{Fault, Memory}
-use Rattle.goal_syntax.specs.Equational.{is_equational_query}
+use Rattle.goal_syntax.specs.Building.Equations.{is_equational_query}
 use Rattle.kanren_run.specs.Answers.{is_fuel, spends}
 use Rattle.kanren_run.specs.Equations.{HasEquations, Each}
 

@@ -9,9 +9,9 @@ use Rattle.kan_model.specs.Streams.Taking.{Ending, taken}
 use Rattle.kan_model.specs.Answers.Output.{runs_output}
 use Rattle.sexpr.specs.Seen.{Table, written, as_kept}
 use Rattle.sexpr.specs.declared.data.Datum.{Datum}
-use Rattle.goal_syntax.specs.Checks.{NamesPrefixes}
-use Rattle.goal_syntax.specs.Compiles.{fault_found, relations_meant, queries_meant}
-use Rattle.goal_syntax.specs.Equational.{are_equational}
+use Rattle.goal_forms.specs.PrefixSymbols.{NamesPrefixes}
+use Rattle.goal_syntax.specs.Compiling.Compiles.{fault_found, relations_meant, queries_meant}
+use Rattle.goal_syntax.specs.Building.Equations.{are_equational}
 use Rattle.kanren_run.specs.Refusals.{refusal_line}
 
 -- what a text is answered with: the output of its runs and whether one of them spent its fuel, or the offset and the number of a refusal

@@ -4,9 +4,9 @@ use Rattle.kan_model.specs.Programs.Closed as programs
 use Rattle.kan_model.specs.declared.program.Program.{Program}
 use Rattle.kan_model.specs.declared.nodes.Query.{Query}
 use Rattle.sexpr.specs.Seen.{Table}
-use Rattle.goal_syntax.specs.Compiles.{IsCompiled}
-use Rattle.goal_syntax.specs.Equational.{are_equational_entries}
-use Rattle.goal_syntax.specs.declared.compiling.Compiled.{Compiled}
+use Rattle.goal_syntax.specs.Compiling.Compiles.{IsCompiled}
+use Rattle.goal_syntax.specs.Building.Equations.{are_equational_entries}
+use Rattle.goal_syntax.specs.declared.compiler.Compiled.{Compiled}
 use Rattle.kanren_run.specs.Answers.{HasFault, Answered, refusal, names_of, has_equations_alone}
 use Rattle.kanren_run.specs.declared.text.NotRun.{NotRun}
 use Rattle.kanren_run.specs.declared.text.NotRun.TheVariants.{Fault, Memory}

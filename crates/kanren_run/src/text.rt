@@ -5,8 +5,8 @@ ghost use Rattle.kan_grammar.specs.Data.Faults.{read_text, data_are};
 ghost use Rattle.kan_model.specs.Programs.Nodes.{goal_entry};
 ghost use Rattle.kan_model.specs.Programs.Closed as programs;
 ghost use Rattle.sexpr.specs.Seen.{written, as_kept};
-ghost use Rattle.goal_syntax.specs.Compiles.{AreOfText, Compiles};
-ghost use Rattle.goal_syntax.specs.Equational.{is_equational_entry, are_equational_entries};
+ghost use Rattle.goal_syntax.specs.Compiling.Compiles.{AreOfText, Compiles};
+ghost use Rattle.goal_syntax.specs.Building.Equations.{is_equational_entry, are_equational_entries};
 ghost use Rattle.kanren_run.specs.Replies.{ComesTo, EquationsAlone};
 
 use crate::refusal::Fault;

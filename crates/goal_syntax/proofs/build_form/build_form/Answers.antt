@@ -1,5 +1,6 @@
 use Rattle.kan_model.specs.Programs.Drafts.{tables}
-use Rattle.goal_syntax.proofs.BuiltTextLaws.{query_means, none_asked}
+use Rattle.goal_syntax.proofs.Building.FormsBuiltLaws.{query_means, none_asked}
+use Rattle.goal_syntax.proofs.Building.FormsBuiltLaws.{grown_named}
 use Rattle.goal_syntax.proofs.build_form.build_form.Goals as goal
 
 pub returns-in_ok-build_relation-in-Relation-clause-means : goal.returns-in_ok-build_relation-in-Relation-clause-means
@@ -12,3 +13,9 @@ returns-in_ok-ask-in-RunOfOne-clause-means c = λ rs asked means. rw c.in-RunOfO
 pub returns-in_ok-ask-in-RunOfList-clause-means : goal.returns-in_ok-ask-in-RunOfList-clause-means
 returns-in_ok-ask-in-RunOfList-clause-means c = λ rs asked means. rw c.in-RunOfList.is
     (query_means (tables c.args.draft.now) (tables c.build_list.new.draft) _ _ _ c.args.queries.now _ c.in_ok-goal-in-RunOfList.ensures.made c.in_ok-goal-in-RunOfList.ensures.grows c.in_ok-ask-in-RunOfList.ensures rs asked means)
+
+pub returns-in_ok-ask-in-RunOfOne-clause-names : goal.returns-in_ok-ask-in-RunOfOne-clause-names
+returns-in_ok-ask-in-RunOfOne-clause-names c = rw c.in-RunOfOne.is (grown_named (tables c.args.draft.now) (tables c.build_one.new.draft) c.in_ok-goal-in-RunOfOne.ensures.grows)
+
+pub returns-in_ok-ask-in-RunOfList-clause-names : goal.returns-in_ok-ask-in-RunOfList-clause-names
+returns-in_ok-ask-in-RunOfList-clause-names c = rw c.in-RunOfList.is (grown_named (tables c.args.draft.now) (tables c.build_list.new.draft) c.in_ok-goal-in-RunOfList.ensures.grows)

@@ -1,14 +1,14 @@
-use Rattle.goal_syntax.proofs.GoalWorkLaws.{goal_built, goal_falls}
-use Rattle.goal_syntax.specs.Parts.{sites, site_at}
-use Rattle.goal_syntax.specs.Tabled.{relations}
+use Rattle.goal_syntax.proofs.Building.GoalsLeftLaws.{goal_built, goal_falls}
+use Rattle.goal_forms.specs.Parts.{sites, site_at}
+use Rattle.goal_forms.specs.RelationTables.{relations}
 use Rattle.goal_syntax.proofs.build_goal.build_goal.Goals as goal
 
 pub returns-clause-made : goal.returns-clause-made
 returns-clause-made c =
-    goal_built (relations c.args.text.now.relations.now) c.args.text.now.names.now (sites c.args.text.now.nodes.now) _ c.args.scope.now.items _ c.args.works.now.items _ _ _ c.open-goal.result _
-    c.open-goal.ensures.form c.deref.ensures.value c.in_ok-build_own.ensures.made c.in_ok-wait_for.ensures.scope c.in_ok-wait_for.ensures.works
+    goal_built c.args.context.now.dialect (relations c.args.context.now.relations.now) c.args.context.now.names.now (sites c.args.context.now.flat.now) _ c.args.scope.now.items _ c.args.works.now.items _ _ _ c.parse_goal-goal.result _
+    c.parse_goal-goal.ensures.form c.deref.ensures.value c.in_ok-build_own.ensures.made c.in_ok-wait_for.ensures.scope c.in_ok-wait_for.ensures.works
 
 pub returns-clause-falls : goal.returns-clause-falls
 returns-clause-falls c =
-    goal_falls c.args.text.now.names.now (sites c.args.text.now.nodes.now) c.args.scope.now.items (site_at (sites c.args.text.now.nodes.now) c.args.place) c.args.works.now.items _ c.open-goal.result
-    c.open-goal.ensures.size c.in_ok-wait_for.ensures.works
+    goal_falls c.args.context.now.names.now (sites c.args.context.now.flat.now) c.args.scope.now.items (site_at (sites c.args.context.now.flat.now) c.args.place) c.args.works.now.items _ c.parse_goal-goal.result
+    c.parse_goal-goal.ensures.size c.in_ok-wait_for.ensures.works

@@ -1,4 +1,4 @@
-use Rattle.goal_syntax.proofs.DraftLaws.{grows_on}
+use Rattle.goal_syntax.proofs.Building.TableLaws.{grows_on}
 use Rattle.goal_syntax.proofs.build_node.build_two.Goals as goal
 
 pub returns-clause-left : goal.returns-clause-left

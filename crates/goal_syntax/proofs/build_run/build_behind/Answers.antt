@@ -1,8 +1,8 @@
 use Rattle.kan_model.specs.Programs.Drafts.{tables}
-use Rattle.goal_syntax.proofs.DraftLaws.{grows_on}
-use Rattle.goal_syntax.proofs.BuiltTextLaws.{goals_there}
-use Rattle.goal_syntax.specs.Parts.{sites}
-use Rattle.goal_syntax.proofs.CalledLaws.{joined_closed}
+use Rattle.goal_syntax.proofs.Building.TableLaws.{grows_on}
+use Rattle.goal_syntax.proofs.Building.FormsBuiltLaws.{goals_there}
+use Rattle.goal_forms.specs.Parts.{sites}
+use Rattle.goal_syntax.proofs.Building.CallsThereLaws.{joined_closed}
 use Rattle.goal_syntax.proofs.build_run.build_behind.Goals as goal
 
 pub add_goal-requires-clause-there : goal.add_goal-requires-clause-there
@@ -13,5 +13,5 @@ returns-clause-grows c = grows_on _ _ _ c.in_ok-rest.ensures.grows c.in_ok-both.
 
 pub returns-clause-closed : goal.returns-clause-closed
 returns-clause-closed c =
-    joined_closed (sites c.args.text.now.nodes.now) (tables c.args.draft.now) (tables c.build_goals.new.draft) (tables c.add_goal.new.draft) _
+    joined_closed (sites c.args.context.now.flat.now) (tables c.args.draft.now) (tables c.build_goals.new.draft) (tables c.add_goal.new.draft) _
     c.in_ok-rest.ensures.low c.in_ok-rest.ensures.called c.in_ok-both.ensures.terms c.in_ok-both.ensures.called

@@ -1,7 +1,7 @@
 use Rattle.kan_model.specs.Programs.Drafts.{tables}
-use Rattle.goal_syntax.proofs.DraftLaws.{grows_on}
-use Rattle.goal_syntax.proofs.BuiltTextLaws.{sides_there}
-use Rattle.goal_syntax.proofs.CalledLaws.{equation_called}
+use Rattle.goal_syntax.proofs.Building.TableLaws.{grows_on}
+use Rattle.goal_syntax.proofs.Building.FormsBuiltLaws.{sides_there}
+use Rattle.goal_syntax.proofs.Building.CallsThereLaws.{equation_called}
 use Rattle.goal_syntax.proofs.build_run.build_equation.Goals as goal
 
 pub add_goal-requires-clause-there : goal.add_goal-requires-clause-there

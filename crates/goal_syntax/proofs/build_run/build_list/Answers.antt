@@ -1,25 +1,22 @@
-use Rattle.std.proofs.Common.{length}
-use Rattle.std.proofs.lemmas.Bool.{lt-ltb}
 use Rattle.kan_model.specs.Programs.Drafts.{tables}
-use Rattle.goal_syntax.proofs.DraftLaws.{grows_on}
-use Rattle.std.proofs.Common.{ap, ◌∙◌}
-use Rattle.kan_grammar.specs.Texts.GoalForms.{goal_forms}
-use Rattle.kan_grammar.specs.Texts.Resolved.{within}
-use Rattle.goal_syntax.specs.Parts.{sites, site_at}
-use Rattle.goal_syntax.specs.Tabled.{relations}
-use Rattle.goal_syntax.proofs.CalledLaws.{run_closed}
+use Rattle.goal_forms.specs.Parts.{sites}
+use Rattle.goal_syntax.proofs.Building.TableLaws.{grows_on}
+use Rattle.goal_syntax.proofs.Building.CallsThereLaws.{suspended_closed, suspended_equational}
 use Rattle.goal_syntax.proofs.build_run.build_list.Goals as goal
 
-pub add_goal-requires-clause-there : goal.add_goal-requires-clause-there
-add_goal-requires-clause-there c = lt-ltb _ (length (tables c.build_behind.new.draft).goals) (c.in_ok-goal.ensures.made _ c.in_ok-first.ensures.made).there
+pub suspend_at-requires-clause-there : goal.suspend_at-requires-clause-there
+suspend_at-requires-clause-there c = c.in_ok-fresh.ensures.made.there
+
+pub returns-clause-made : goal.returns-clause-made
+returns-clause-made c = c.in_ok-goal.ensures.made _ c.in_ok-fresh.ensures.made
 
 pub returns-clause-grows : goal.returns-clause-grows
-returns-clause-grows c = grows_on _ _ _ c.in_ok-first.ensures.grows (grows_on _ _ _ c.in_ok-goal.ensures.grows c.in_ok-fresh.ensures.grows)
+returns-clause-grows c = grows_on _ _ _ c.in_ok-fresh.ensures.grows c.in_ok-goal.ensures.grows
 
 pub returns-clause-closed : goal.returns-clause-closed
 returns-clause-closed c =
-    let text = c.args.text.now in
-    run_closed (sites text.nodes.now) text.names.now c.args.binder (relations text.relations.now) (goal_forms text.names.now (site_at (sites text.nodes.now) c.args.goals))
-    c.in_ok-bound.bound.items c.in_ok-scope.scope.items _ (tables c.args.draft.now) (tables c.build_equation.new.draft) (tables c.build_behind.new.draft) (tables c.add_goal.new.draft)
-    c.in_ok-scope.ensures (c.in_ok-enter.ensures ∙ ap (within c.in_ok-scope.scope.items) c.deref.ensures.value) c.in_ok-bound.ensures.bound
-    (rw c.deref-2.ensures.value at c.in_ok-first.ensures.low) c.in_ok-first.ensures.called c.in_ok-goal.ensures.closed c.in_ok-fresh.ensures.terms c.in_ok-fresh.ensures.called
+    suspended_closed c.args.context.now.dialect (sites c.args.context.now.flat.now) (tables c.args.draft.now) (tables c.build_fresh.new.draft) (tables c.suspend_at.new.draft) _
+    c.in_ok-fresh.ensures.closed c.in_ok-goal.ensures.terms c.in_ok-goal.ensures.called
+
+pub returns-clause-equational : goal.returns-clause-equational
+returns-clause-equational c = suspended_equational c.args.context.now.dialect _ _ _ _ c.in_ok-fresh.ensures.equational c.in_ok-goal.ensures.equational

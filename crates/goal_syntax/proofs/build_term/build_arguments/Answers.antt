@@ -1,5 +1,5 @@
 use Rattle.kan_model.specs.Programs.Drafts.{tables}
-use Rattle.goal_syntax.proofs.DraftLaws.{grows_on}
+use Rattle.goal_syntax.proofs.Building.TableLaws.{grows_on}
 use Rattle.goal_syntax.proofs.build_term.build_arguments.Goals as goal
 
 pub returns-clause-grows : goal.returns-clause-grows

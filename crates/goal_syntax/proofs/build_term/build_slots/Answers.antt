@@ -1,8 +1,8 @@
 use Rattle.std.proofs.Common.{arith, refl}
 use Rattle.kan_model.specs.Programs.Drafts.{tables}
-use Rattle.goal_syntax.specs.Building.{AddsTerms}
-use Rattle.goal_syntax.proofs.BuildLaws.{adds_on, both_there, slots_next}
-use Rattle.goal_syntax.proofs.BuildLowLaws.{slots_low}
+use Rattle.goal_syntax.specs.Building.TermsLeft.{AddsTerms}
+use Rattle.goal_syntax.proofs.Building.TermsLeftLaws.{adds_on, both_there, slots_next}
+use Rattle.goal_syntax.proofs.Building.TermHeightLaws.{slots_low}
 use Rattle.goal_syntax.proofs.build_term.build_slots.Goals as goal
 
 pub add_term-requires-in-loop-slot-2-clause-there : goal.add_term-requires-in-loop-slot-2-clause-there

@@ -3,8 +3,8 @@ use Rattle.kan_model.specs.Programs.Drafts.{tables, templates}
 use Rattle.kan_model.specs.Programs.Scope.{is_low}
 use Rattle.std.specs.List.{list_all}
 use Rattle.kan_grammar.specs.Texts.ProgramText.{slot_list}
-use Rattle.goal_syntax.specs.Building.{AddsTerms}
-use Rattle.goal_syntax.specs.Drafting.{HasTemplate}
+use Rattle.goal_syntax.specs.Building.TermsLeft.{AddsTerms}
+use Rattle.goal_syntax.specs.Building.GrownTables.{HasTemplate}
 use Rattle.goal_syntax.proofs.build_term.build_slots.Given as goal
 
 -- the list so far has the slots behind this one

@@ -3,20 +3,20 @@ use Rattle.kan_model.specs.Programs.Drafts.{tables, templates}
 use Rattle.kan_grammar.specs.Texts.GoalForms.{term_forms}
 use Rattle.kan_grammar.specs.Texts.Resolved.{template_in}
 use Rattle.kan_model.specs.Programs.Tables.{template_at}
-use Rattle.goal_syntax.specs.Building.{AddsTerms}
-use Rattle.goal_syntax.specs.Low.{KeepsLow}
-use Rattle.goal_syntax.specs.Parts.{sites, site_at}
-use Rattle.goal_syntax.specs.Turning.{are_below}
+use Rattle.goal_syntax.specs.Building.TermsLeft.{AddsTerms}
+use Rattle.goal_syntax.specs.Building.LowTemplates.{KeepsLow}
+use Rattle.goal_forms.specs.Parts.{sites, site_at}
+use Rattle.goal_forms.specs.Places.{are_below}
 use Rattle.goal_syntax.proofs.build_term.build_terms.Given as goal
 
 -- the templates so far and those of the terms that are left are all
 abbrev pub invariant-loop-first : goal.invariant-loop-first
 invariant-loop-first l = record {
-  are : map (template_at (templates l.draft)) l.places.items ++ map (template_in l.scope) (term_forms l.text.names.now (site_at (sites l.text.nodes.now) l.place))
-      ≡ map (template_in l.scope) (term_forms l.text.names.now (site_at (sites l.text.nodes.now) l.fn.place));
+  are : map (template_at (templates l.draft)) l.places.items ++ map (template_in l.scope) (term_forms l.context.names.now (site_at (sites l.context.flat.now) l.place))
+      ≡ map (template_in l.scope) (term_forms l.context.names.now (site_at (sites l.context.flat.now) l.fn.place));
   below : are_below (length (tables l.draft).terms) l.places.items ≡ true;
   adds : AddsTerms (tables l.fn.draft) (tables l.draft);
-  low : KeepsLow (sites l.text.nodes.now) (tables l.fn.draft) (tables l.draft);
+  low : KeepsLow (sites l.context.flat.now) (tables l.fn.draft) (tables l.draft);
 }
 
 abbrev pub decreases-loop-first : goal.decreases-loop-first

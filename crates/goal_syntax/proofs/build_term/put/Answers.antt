@@ -1,5 +1,5 @@
 use Rattle.kan_model.specs.Programs.Drafts.{tables}
-use Rattle.goal_syntax.proofs.BuildLaws.{put_built, put_below}
+use Rattle.goal_syntax.proofs.Building.TermsLeftLaws.{put_built, put_below}
 use Rattle.goal_syntax.proofs.build_term.put.Goals as goal
 
 pub returns-clause-made : goal.returns-clause-made

@@ -1,5 +1,5 @@
 use Rattle.kan_model.specs.Programs.Drafts.{tables}
-use Rattle.goal_syntax.proofs.BuildLaws.{adds_on, adds_argument, below_within, put_next}
+use Rattle.goal_syntax.proofs.Building.TermsLeftLaws.{adds_on, adds_argument, below_within, put_next}
 use Rattle.goal_syntax.proofs.build_term.put_behind.Goals as goal
 
 pub add_argument-requires-clause-there : goal.add_argument-requires-clause-there

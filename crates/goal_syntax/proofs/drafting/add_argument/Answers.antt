@@ -1,5 +1,5 @@
 use Rattle.kan_model.specs.Programs.Drafts.{tables}
-use Rattle.goal_syntax.proofs.DraftLaws.{grows_argument, grows_to}
+use Rattle.goal_syntax.proofs.Building.TableLaws.{grows_argument, grows_to}
 use Rattle.goal_syntax.proofs.drafting.add_argument.Goals as goal
 
 pub returns-then-at-lt-MOST_ENTRIES-clause-grows : goal.returns-then-at-lt-MOST_ENTRIES-clause-grows

@@ -1,6 +1,6 @@
 use Rattle.kan_model.specs.Programs.Drafts.{tables}
 use Rattle.kan_model.specs.Programs.Nodes.{goal_entry}
-use Rattle.goal_syntax.proofs.DraftLaws.{goal_made, goal_equational, goal_called, grows_goal, grows_to}
+use Rattle.goal_syntax.proofs.Building.TableLaws.{goal_made, goal_equational, goal_called, grows_goal, grows_to}
 use Rattle.goal_syntax.proofs.drafting.add_goal.Goals as goal
 
 pub returns-then-at-lt-MOST_ENTRIES-clause-made : goal.returns-then-at-lt-MOST_ENTRIES-clause-made

@@ -1,7 +1,7 @@
 use Rattle.kan_model.specs.Programs.Drafts.{tables}
 use Rattle.kan_model.specs.Programs.Nodes.{term_entry}
-use Rattle.goal_syntax.proofs.DraftLaws.{term_made, grows_term, grows_to}
-use Rattle.goal_syntax.proofs.BuildLowLaws.{term_low}
+use Rattle.goal_syntax.proofs.Building.TableLaws.{term_made, grows_term, grows_to}
+use Rattle.goal_syntax.proofs.Building.TermHeightLaws.{term_low}
 use Rattle.goal_syntax.proofs.drafting.add_term.Goals as goal
 
 pub returns-then-at-lt-MOST_ENTRIES-clause-made : goal.returns-then-at-lt-MOST_ENTRIES-clause-made

@@ -1,8 +1,8 @@
 use Rattle.std.proofs.Common.{length}
 use Rattle.kan_model.specs.Programs.Drafts.{tables}
 use Rattle.kan_model.specs.Programs.Nodes.{goal_entry}
-use Rattle.goal_syntax.proofs.BuiltLaws.{top_two, join_grown}
-use Rattle.goal_syntax.proofs.BuiltLaws.{two_joined}
+use Rattle.goal_syntax.proofs.Building.GoalsBuiltLaws.{top_two, join_grown}
+use Rattle.goal_syntax.proofs.Building.GoalsBuiltLaws.{two_joined}
 use Rattle.goal_syntax.proofs.join_goal.join_two.Goals as goal
 
 pub make-requires-clause-there : goal.make-requires-clause-there

@@ -1,5 +1,5 @@
-use Rattle.goal_syntax.proofs.RelationLaws.{new_none, new_some}
-use Rattle.goal_syntax.specs.Tabled.{relations}
+use Rattle.goal_forms.proofs.RelationLaws.{new_none, new_some}
+use Rattle.goal_forms.specs.RelationTables.{relations}
 use Rattle.goal_syntax.proofs.judge_form.is_new.Goals as goal
 
 pub returns-in-Some : goal.returns-in-Some

@@ -1,4 +1,4 @@
-use Rattle.goal_syntax.proofs.WaitingLaws.{one_waits, one_waits_size, two_wait, two_wait_size}
+use Rattle.goal_syntax.proofs.Judging.TermsLeftLaws.{one_waits, one_waits_size, two_wait, two_wait_size}
 use Rattle.goal_syntax.proofs.judge_term.wait_for.Goals as goal
 
 pub returns-in_ok-push-in-Pair-2-clause-uses : goal.returns-in_ok-push-in-Pair-2-clause-uses

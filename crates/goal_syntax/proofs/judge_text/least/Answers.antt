@@ -1,5 +1,5 @@
-use Rattle.goal_syntax.proofs.FaultLaws.{least_step, least_before_none}
-use Rattle.goal_syntax.specs.FaultLists.{fault_list}
+use Rattle.goal_syntax.proofs.Judging.FaultLaws.{least_step, least_before_none}
+use Rattle.goal_syntax.specs.Judging.FaultLists.{fault_list}
 use Rattle.goal_syntax.proofs.judge_text.least.Goals as goal
 
 pub loop-fault-init : goal.loop-fault-init

@@ -1,8 +1,8 @@
 use Rattle.std.proofs.Common.{◌≡◌, length}
 use Rattle.std.specs.Prelude.{option_map}
 use Rattle.kan_grammar.specs.Texts.TextFaults.{least}
-use Rattle.goal_syntax.specs.FaultLists.{fault_of, fault_list}
-use Rattle.goal_syntax.specs.Firsts.{least_before}
+use Rattle.goal_syntax.specs.Judging.FaultLists.{fault_of, fault_list}
+use Rattle.goal_syntax.specs.Judging.FirstFault.{least_before}
 use Rattle.goal_syntax.proofs.judge_text.least.Given as goal
 
 -- the first of the faults that were taken, behind those that are left, is the first of all

@@ -1,7 +1,7 @@
 use Rattle.std.proofs.Common.{arith, sym, ◌∙◌}
 use Rattle.std.proofs.lemmas.Option.{slice_get_within}
-use Rattle.goal_syntax.specs.Named.{is_goal_named}
-use Rattle.goal_syntax.proofs.EachLaws.{one_fails, one_passes, all_pass}
+use Rattle.goal_syntax.specs.Compiling.SymbolNames.{is_goal_named}
+use Rattle.goal_syntax.proofs.Compiling.EachLaws.{one_fails, one_passes, all_pass}
 use Rattle.goal_syntax.proofs.named.are_goals_named.Goals as goal
 
 pub returns-then-not-is_goal_named : goal.returns-then-not-is_goal_named

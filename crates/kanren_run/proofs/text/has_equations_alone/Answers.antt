@@ -1,7 +1,7 @@
 use Rattle.std.proofs.Common.{arith, sym, ◌∙◌}
 use Rattle.std.proofs.lemmas.Option.{slice_get_within}
-use Rattle.goal_syntax.specs.Equational.{is_equational_entry}
-use Rattle.goal_syntax.proofs.EachLaws.{one_fails, one_passes, all_pass}
+use Rattle.goal_syntax.specs.Building.Equations.{is_equational_entry}
+use Rattle.goal_syntax.proofs.Compiling.EachLaws.{one_fails, one_passes, all_pass}
 use Rattle.kanren_run.proofs.text.has_equations_alone.Goals as goal
 
 pub returns-then-not-is_equational : goal.returns-then-not-is_equational

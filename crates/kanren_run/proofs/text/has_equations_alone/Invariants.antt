@@ -1,6 +1,6 @@
 use Rattle.std.proofs.Common.{◌≡◌, ◌≤◌, ◌-◌, length, drop}
 use Rattle.kan_model.specs.Programs.Closed as programs
-use Rattle.goal_syntax.specs.Equational.{are_equational_entries}
+use Rattle.goal_syntax.specs.Building.Equations.{are_equational_entries}
 use Rattle.kanren_run.proofs.text.has_equations_alone.Given as goal
 
 -- the goals that are left have equations alone exactly where all have

@@ -1,0 +1,12 @@
+pub mod PartLaws
+pub mod ShapeLaws
+pub mod TermLaws
+pub mod ScopeLaws
+pub mod RelationLaws
+pub mod PlaceLaws
+pub mod FlatteningLaws
+pub mod FlatHeightLaws
+pub mod DataPlaces
+pub mod HeightLaws
+pub mod DefinedLaws
+pub mod PrefixLaws

@@ -1,0 +1,16 @@
+use Rattle.std.proofs.Common.{◌≡◌, ◌++◌, map, take, reverse, length, true}
+use Rattle.std.specs.List.{list_all}
+use Rattle.goal_forms.specs.Heights.{is_low_datum, AreLow}
+use Rattle.goal_forms.specs.Parts.{sites}
+use Rattle.goal_forms.specs.Places.{are_below, kept}
+use Rattle.goal_forms.specs.Flattening.{meaning}
+use Rattle.goal_forms.proofs.flatten.turn.Given as goal
+
+-- the data so far are made, on top of what was made before
+abbrev pub invariant-loop-datum : goal.invariant-loop-datum
+invariant-loop-datum l = record {
+  made : kept (sites l.table) l.places.items ≡ reverse (map (meaning l.names) (take l.datum-index l.forms)) ++ kept (sites l.fn.table) l.fn.places.items;
+  below : are_below (length (sites l.table)) l.places.items ≡ true;
+  low : AreLow (map (meaning l.names) l.forms) → list_all is_low_datum (kept (sites l.fn.table) l.fn.places.items) ≡ true → AreLow (sites l.fn.table) →
+      (list_all is_low_datum (kept (sites l.table) l.places.items) ≡ true) × AreLow (sites l.table);
+}

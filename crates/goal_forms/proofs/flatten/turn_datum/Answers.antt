@@ -1,0 +1,26 @@
+use Rattle.goal_forms.proofs.FlatteningLaws.{list_falls, prefixed_falls, prefixed_finish}
+use Rattle.goal_forms.proofs.FlatHeightLaws.{list_low, prefixed_low}
+use Rattle.goal_forms.proofs.flatten.turn_datum.Goals as goal
+
+pub returns-in_ok-push-in-List-clause-falls : goal.returns-in_ok-push-in-List-clause-falls
+returns-in_ok-push-in-List-clause-falls c =
+    list_falls c.args.names.now c.args.datum.now c.in-List.items c.in-List.last c.as_slice.result c.lent.result _ c.args.works.now.items _ c.in-List.is c.as_slice.ensures c.lent.ensures c.in_ok-push-in-List.ensures.items
+
+pub returns-in_ok-push-in-Prefixed-2-clause-made : goal.returns-in_ok-push-in-Prefixed-2-clause-made
+returns-in_ok-push-in-Prefixed-2-clause-made c =
+    prefixed_finish c.args.names.now c.args.datum.now c.in-Prefixed.prefix c.in-Prefixed.inner c.get.result _ _ c.args.works.now.items _ c.push-in-Prefixed-2.new.self.items
+    c.in-Prefixed.is c.get.ensures (c.prefix_symbol.ensures c.args.names.now c.requires.numbered) c.in_ok-push-in-Prefixed.ensures.items c.in_ok-push-in-Prefixed-2.ensures.items
+
+pub returns-in_ok-push-in-Prefixed-2-clause-falls : goal.returns-in_ok-push-in-Prefixed-2-clause-falls
+returns-in_ok-push-in-Prefixed-2-clause-falls c =
+    prefixed_falls c.args.names.now c.args.datum.now c.in-Prefixed.prefix c.in-Prefixed.inner c.get.result _ _ c.args.works.now.items _ c.push-in-Prefixed-2.new.self.items
+    c.in-Prefixed.is c.get.ensures c.in_ok-push-in-Prefixed.ensures.items c.in_ok-push-in-Prefixed-2.ensures.items
+
+pub returns-in_ok-push-in-List-clause-low : goal.returns-in_ok-push-in-List-clause-low
+returns-in_ok-push-in-List-clause-low c = λ low.
+    list_low c.args.names.now c.args.datum.now c.in-List.items c.in-List.last c.as_slice.result c.lent.result c.args.works.now.items _ _ _ c.in-List.is c.as_slice.ensures c.lent.ensures c.in_ok-push-in-List.ensures.items low.left low.there
+
+pub returns-in_ok-push-in-Prefixed-2-clause-low : goal.returns-in_ok-push-in-Prefixed-2-clause-low
+returns-in_ok-push-in-Prefixed-2-clause-low c = λ low.
+    prefixed_low c.args.names.now c.args.datum.now c.in-Prefixed.prefix c.in-Prefixed.inner c.get.result _ c.args.works.now.items _ c.push-in-Prefixed-2.new.self.items _ _
+    c.in-Prefixed.is c.get.ensures (c.prefix_symbol.ensures c.args.names.now c.requires.numbered) c.in_ok-push-in-Prefixed.ensures.items c.in_ok-push-in-Prefixed-2.ensures.items low.left low.there

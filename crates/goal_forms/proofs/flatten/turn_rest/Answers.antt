@@ -1,0 +1,16 @@
+use Rattle.goal_forms.proofs.FlatteningLaws.{rest_falls, last_falls}
+use Rattle.goal_forms.proofs.FlatHeightLaws.{rest_low}
+use Rattle.goal_forms.proofs.flatten.turn_rest.Goals as goal
+
+pub returns-in-Some-clause-falls : goal.returns-in-Some-clause-falls
+returns-in-Some-clause-falls c =
+    rest_falls c.args.names.now c.args.items c.in-Some.rest c.in-Some.first c.args.last _ c.args.works.now.items _ _ c.push-in-Some-2.new.self.items c.in-Some.ensures.cases.0 c.in_ok-push.ensures.items c.in_ok-push-2.ensures.items c.in_ok-push-3.ensures.items
+
+pub returns-in_ok-push-in-Some-last-clause-falls : goal.returns-in_ok-push-in-Some-last-clause-falls
+returns-in_ok-push-in-Some-last-clause-falls c =
+    last_falls c.args.names.now c.args.items c.in-Some-last.datum c.args.last c.args.works.now.items _ c.in_default.ensures.cases c.in-Some-last.is c.in_ok-push-in-Some-last.ensures.items
+
+pub returns-in-Some-clause-low : goal.returns-in-Some-clause-low
+returns-in-Some-clause-low c = λ low.
+    rest_low c.args.names.now c.args.items c.in-Some.rest c.in-Some.first c.args.last _ c.args.works.now.items _ _ c.push-in-Some-2.new.self.items _ _ c.in-Some.ensures.cases.0
+    c.in_ok-push.ensures.items c.in_ok-push-2.ensures.items c.in_ok-push-3.ensures.items low.left low.there

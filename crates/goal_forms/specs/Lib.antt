@@ -1,0 +1,14 @@
+pub mod Words
+pub mod PartRows
+pub mod Parts
+pub mod Shapes
+pub mod TermSteps
+pub mod GoalSteps
+pub mod FormSteps
+pub mod DefinedRelations
+pub mod RelationTables
+pub mod Places
+pub mod Flattening
+pub mod FlatHeights
+pub mod Heights
+pub mod Contexts

@@ -1,0 +1,25 @@
+-- What is left to be turned into parts, and the data of those that were made.
+use Rattle.std.specs.Prelude.{ℕ, Bool, true, ◌&&◌, nat_lt, List, [], ◌∷◌, ◌++◌}
+use Rattle.kan_grammar.specs.Texts.Sited.{Sited}
+use Rattle.goal_forms.specs.Parts.{site_at}
+
+-- all places are below a number
+abbrev pub are_below : ℕ → List ℕ → Bool
+are_below n [] = true
+are_below n (p ∷ ps) = nat_lt p n && are_below n ps
+
+-- the data at the places on a stack, the top first
+abbrev pub kept : List Sited → List ℕ → List Sited
+kept ds [] = []
+kept ds (p ∷ ps) = kept ds ps ++ site_at ds p ∷ []
+
+-- the pair of the two data made last
+abbrev pub joined : ℕ → List Sited → List Sited
+joined at [] = []
+joined at (d ∷ []) = []
+joined at (d ∷ a ∷ made) = Sited.pair at a d ∷ made
+
+-- the list of a symbol and the datum made last
+abbrev pub prefixed_last : ℕ → ℕ → List Sited → List Sited
+prefixed_last at s [] = []
+prefixed_last at s (d ∷ made) = Sited.pair at (Sited.name at s) (Sited.pair at d (Sited.nil at)) ∷ made

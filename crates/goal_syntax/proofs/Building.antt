@@ -1,0 +1,8 @@
+-- The tables of a program, as they are built.
+pub mod TableLaws
+pub mod TermsLeftLaws
+pub mod TermHeightLaws
+pub mod GoalsBuiltLaws
+pub mod GoalsLeftLaws
+pub mod FormsBuiltLaws
+pub mod CallsThereLaws

@@ -1,0 +1,5 @@
+-- The faults of texts.
+pub mod FaultLaws
+pub mod TermsLeftLaws
+pub mod GoalsLeftLaws
+pub mod FormLaws

@@ -1,0 +1,26 @@
+use Rattle.std.proofs.Common.{arith}
+use Rattle.std.proofs.lemmas.List.{take_all}
+use Rattle.kan_model.specs.Programs.Drafts.{tables}
+use Rattle.goal_forms.specs.Parts.{sites}
+use Rattle.goal_forms.specs.RelationTables.{relations}
+use Rattle.goal_syntax.proofs.Compiling.CompilingLaws.{names_next, text_means, text_equational}
+use Rattle.goal_syntax.proofs.Building.CallsThereLaws.{text_closed}
+use Rattle.goal_syntax.proofs.compiler.build_text.Goals as goal
+
+pub loop-place-preserved : goal.loop-place-preserved
+loop-place-preserved c =
+    let t = c.args.context.now.names.now in
+    let ds = sites c.args.context.now.flat.now in
+    let rules = relations c.args.context.now.relations.now in
+    record {
+      means = text_means c.args.context.now.dialect t rules ds c.args.forms.now c.loop-place.place-index (tables c.args.draft.now) (tables c.loop-place.draft) (tables c.build_form.new.draft) c.args.queries.now c.loop-place.queries c.build_form.new.queries (omega arith)
+          c.loop-place.invariant.means (rw c.parse_form.ensures at c.in_ok-build_form.ensures.means);
+      equational = text_equational c.args.context.now.dialect t rules ds c.args.forms.now c.loop-place.place-index _ _ _ (omega arith) c.loop-place.invariant.equational (rw c.parse_form.ensures at c.in_ok-build_form.ensures.equational);
+      names = names_next t ds c.args.forms.now c.loop-place.place-index (tables c.args.draft.now) (tables c.loop-place.draft) (tables c.build_form.new.draft) (omega arith) c.loop-place.invariant.names (rw c.parse_form.ensures at c.in_ok-build_form.ensures.names);
+      room = c.in_ok-build_form.ensures.room;
+      closed = text_closed c.args.context.now.dialect t rules ds c.args.forms.now c.loop-place.place-index (tables c.args.draft.now) (tables c.loop-place.draft) (tables c.build_form.new.draft) (omega arith)
+          c.loop-place.invariant.closed (rw c.parse_form.ensures at c.in_ok-build_form.ensures.closed);
+    }
+
+pub returns-clause-means : goal.returns-clause-means
+returns-clause-means c = λ rs asked means. rw (take_all c.loop-place.place-index c.args.forms.now (omega arith)) at (c.loop-place.invariant.means rs asked means)

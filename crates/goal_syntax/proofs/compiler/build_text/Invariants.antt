@@ -1,0 +1,28 @@
+use Rattle.std.proofs.Common.{◌≡◌, ◌++◌, List, map, take}
+use Rattle.std.specs.Prelude.{◌&&◌}
+use Rattle.kan_model.specs.Programs.Drafts.{tables}
+use Rattle.kan_model.specs.Programs.Goals as model
+use Rattle.kan_grammar.specs.Texts.ProgramText.{relations_of, queries_of}
+use Rattle.goal_syntax.specs.Building.FormsBuilt.{AddsNames, Means, relation_names}
+use Rattle.goal_syntax.specs.Building.CallsThere.{KeepsClosed, all_named}
+use Rattle.goal_syntax.specs.Building.GrownTables.{HasRoom}
+use Rattle.goal_syntax.specs.Building.Equations.{are_equational, are_equational_entries}
+use Rattle.goal_forms.specs.Parts.{sites, site_at}
+use Rattle.goal_forms.specs.RelationTables.{relations}
+use Rattle.goal_syntax.proofs.compiler.build_text.Given as goal
+
+-- the relations and the runs of the forms so far were added
+abbrev pub invariant-loop-place : goal.invariant-loop-place
+invariant-loop-place l = record {
+  means : (rs : List model.Relation) → (asked : List model.Query) → Means (tables l.fn.draft) l.fn.queries rs asked →
+      Means (tables l.draft) l.queries
+      (rs ++ relations_of l.context.dialect l.context.names.now (relations l.context.relations.now) (map (site_at (sites l.context.flat.now)) (take l.place-index l.forms)))
+      (asked ++ queries_of l.context.dialect l.context.names.now (relations l.context.relations.now) (map (site_at (sites l.context.flat.now)) (take l.place-index l.forms)));
+  equational : are_equational_entries (tables l.draft).goals ≡ (are_equational_entries (tables l.fn.draft).goals
+      && are_equational (relations_of l.context.dialect l.context.names.now (relations l.context.relations.now) (map (site_at (sites l.context.flat.now)) (take l.place-index l.forms)))
+      (queries_of l.context.dialect l.context.names.now (relations l.context.relations.now) (map (site_at (sites l.context.flat.now)) (take l.place-index l.forms))));
+  names : AddsNames (tables l.fn.draft) (tables l.draft) (relation_names l.context.names.now (map (site_at (sites l.context.flat.now)) (take l.place-index l.forms)));
+  room : HasRoom (tables l.draft);
+  closed : KeepsClosed (sites l.context.flat.now) (tables l.fn.draft) (tables l.draft) (all_named (relations_of l.context.dialect l.context.names.now (relations l.context.relations.now) (map (site_at (sites l.context.flat.now)) (take l.place-index l.forms)))
+      (queries_of l.context.dialect l.context.names.now (relations l.context.relations.now) (map (site_at (sites l.context.flat.now)) (take l.place-index l.forms))));
+}

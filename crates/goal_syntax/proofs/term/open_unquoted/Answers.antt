@@ -1,5 +1,0 @@
-use Rattle.goal_syntax.proofs.TermLaws.{unquoted_only}
-use Rattle.goal_syntax.proofs.term.open_unquoted.Goals as goal
-
-pub returns-in-Some-clause-form : goal.returns-in-Some-clause-form
-returns-in-Some-clause-form c = unquoted_only _ c.args.at _ _ c.in-Some.ensures

@@ -1,0 +1,54 @@
+-- What is made of the terms that are left to be built.
+use Rattle.std.specs.Prelude.{◌≡◌, ℕ, ◌+◌, true, List, [], ◌∷◌, ◌++◌, length, map}
+use Rattle.kan_terms.specs.Tree.{Tree}
+use Rattle.kan_terms.specs.Table.{Table}
+use Rattle.kan_model.specs.Programs.Goals.{Template}
+use Rattle.kan_grammar.specs.Texts.Sited.{Sited}
+use Rattle.kan_model.specs.Programs.Tables.{Tables, template_at, templates_of}
+use Rattle.kan_grammar.specs.Texts.Resolved.{Names, template_in}
+use Rattle.goal_syntax.specs.Building.GrownTables.{Grows, HasRoom}
+use Rattle.goal_forms.specs.Places.{are_below}
+use Rattle.goal_forms.specs.TermSteps.{task_form, task_size}
+use Rattle.goal_syntax.specs.declared.build_term.Work.{Work}
+use Rattle.goal_syntax.specs.declared.build_term.Work.TheVariants.{Term, Pair}
+
+-- templates and arguments came to tables, and room for more is left
+pub record AddsTerms (ts us : Tables) : Type 0 where
+  pub grows : Grows ts us
+  pub room : HasRoom us
+  pub same : us.goals ≡ ts.goals
+
+-- the templates at places
+pub record HasTemplates (ts : Tables) (ps : List ℕ) (us : List Template) : Type 0 where
+  pub below : are_below (length ts.terms) ps ≡ true
+  pub are : map (template_at (templates_of ts.terms)) ps ≡ us
+
+-- tables with some arguments more
+abbrev pub with_arguments : Tables → List ℕ → Tables
+with_arguments ts ps = record ts { arguments = ts.arguments ++ ps }
+
+-- the templates at the places on a stack, the top first
+abbrev pub built : List Template → List ℕ → List Template
+built ts [] = []
+built ts (p ∷ ps) = built ts ps ++ template_at ts p ∷ []
+
+-- the pair of the two templates built last
+abbrev pub paired : List Template → List Template
+paired [] = []
+paired (d ∷ []) = []
+paired (d ∷ a ∷ made) = Tree.pair a d ∷ made
+
+-- what is built once all work on a stack is done, the top first, and the template built last
+abbrev pub finish : List Sited → Table → Names → List Work → List Template → List Template
+finish ds t ns [] made = made
+finish ds t ns (Term task ∷ ws) made = finish ds t ns ws (template_in ns (task_form ds t task) ∷ made)
+finish ds t ns (Pair ∷ ws) made = finish ds t ns ws (paired made)
+
+-- how much work is left at most
+abbrev pub work_size : List Sited → Work → ℕ
+work_size ds (Term task) = task_size ds task + task_size ds task
+work_size ds Pair = 1
+
+abbrev pub works_size : List Sited → List Work → ℕ
+works_size ds [] = 0
+works_size ds (w ∷ ws) = work_size ds w + works_size ds ws
