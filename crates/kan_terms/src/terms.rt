@@ -3,7 +3,7 @@
 ghost use Rattle.std.specs.Prelude.{◌≡◌, ◌||◌, ⊤, IfOk};
 ghost use Rattle.kan_terms.specs.Memory.{memory};
 ghost use Rattle.kan_terms.specs.Terms.{tree};
-ghost use Rattle.kan_terms.specs.Tree.{Tree, has_leaf};
+ghost use Rattle.kan_terms.specs.Tree.{Tree, has_leaf, noted_size};
 
 use std::alloc::{AllocError, AllocFailed, Global};
 use std::marker::Model;
@@ -48,7 +48,8 @@ pub enum Term {
     Pair(Arc<PairParts>),
 }
 
-// A loop along the rests, so that a long list is dropped in little stack: only first parts are dropped by recursion.
+// A loop down the heavier parts, so that a term however high is dropped in little stack: a
+// recursion is into a part of at most half the nodes.
 impl Drop for Term {
     fn drop(mut self) {
         loop {
@@ -56,11 +57,18 @@ impl Drop for Term {
                 Term::Pair(parts) => match Arc::into_inner(parts) {
                     Some(
                         PairParts {
-                            first: _,
+                            first,
                             rest,
                             has_variable: _,
+                            weight: _,
                         },
-                    ) => self = rest,
+                    ) => {
+                        if first.weight() > rest.weight() {
+                            self = first;
+                        } else {
+                            self = rest;
+                        }
+                    }
                     None => return,
                 },
                 Term::Var(_) => return,
@@ -83,11 +91,13 @@ pub struct PairParts {
     /// The rest.
     pub rest: Term,
     has_variable: bool,
+    // How many nodes the pair has, as far as the greatest number.
+    weight: u64,
 }
 
 impl Model for PairParts {
     ghost use Rattle.std.specs.Prelude.{◌+◌, ◌≡◌, ◌||◌};
-    ghost use Rattle.kan_terms.specs.Tree.{Tm, has_leaf};
+    ghost use Rattle.kan_terms.specs.Tree.{Tree, Tm, has_leaf, noted_size};
     ghost use Rattle.kan_terms.specs.Tree as trees;
     ghost use Rattle.kan_terms.specs.TermCode.{sides_code};
 
@@ -99,7 +109,9 @@ impl Model for PairParts {
 
     ghost view = { λ parts. (tree parts.first, tree parts.rest) };
 
-    ghost invariant = { λ parts. parts.has_variable ≡ has_leaf (tree parts.first) || has_leaf (tree parts.rest) };
+    ghost invariant = { λ parts.
+        (parts.has_variable ≡ has_leaf (tree parts.first) || has_leaf (tree parts.rest))
+        × (parts.weight ≡ noted_size (Tree.pair (tree parts.first) (tree parts.rest))) };
 
     ghost size = { λ sides. trees.size sides.0 + trees.size sides.1 };
 
@@ -114,6 +126,13 @@ impl PairParts {
         ensures { result ≡ has_leaf self.now.0 || has_leaf self.now.1 }
     {
         self.has_variable
+    }
+
+    // How many nodes the pair has, as far as the greatest number.
+    fn weight(&self) -> u64
+        ensures { result ≡ noted_size (Tree.pair self.now.0 self.now.1) }
+    {
+        self.weight
     }
 }
 
@@ -138,21 +157,38 @@ impl Term {
         }
     }
 
+    // How many nodes the term has, as far as the greatest number. It looks into no pair.
+    fn weight(&self) -> u64
+        ensures { result ≡ noted_size (tree self.now) }
+    {
+        match self {
+            Term::Var(_) => 1,
+            Term::Sym(_) | Term::Str(_) | Term::Num(_) | Term::Truth(_) | Term::Nil => 1,
+            Term::Pair(parts) => parts.weight(),
+        }
+    }
+
     /// The pair of two terms.
     pub fn pair(alloc: Global, first: Term, rest: Term) -> Result<Term, Memory>
         ensures { IfOk result (λ made. tree made ≡ Tree.pair (tree first) (tree rest)) }
     {
         let has_variable = first.has_variable() || rest.has_variable();
+        let weight = first
+            .weight()
+            .saturating_add(rest.weight())
+            .saturating_add(1);
         let parts = PairParts {
             first,
             rest,
             has_variable,
+            weight,
         };
         let parts = Arc::new(alloc, parts)?;
         Ok(Term::Pair(parts))
     }
 
-    /// The term once more. A pair is shared and not copied, so this takes the same time for every term.
+    /// The term once more. A pair is shared and not copied, so this takes the same time for every
+    /// term.
     pub fn again(&self) -> Result<Term, Memory>
         ensures { IfOk result (λ copy. tree copy ≡ tree self.now) }
     {
