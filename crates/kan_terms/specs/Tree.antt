@@ -40,16 +40,6 @@ leaves (Tree.truth b) = []
 leaves Tree.nil = []
 leaves (Tree.pair a b) = leaves a ++ leaves b
 
--- some leaf stands in a tree
-abbrev pub has_leaf : {V : Type 0} → Tree V → Bool
-has_leaf (Tree.leaf v) = true
-has_leaf (Tree.sym s) = false
-has_leaf (Tree.str s) = false
-has_leaf (Tree.num n) = false
-has_leaf (Tree.truth b) = false
-has_leaf Tree.nil = false
-has_leaf (Tree.pair a b) = has_leaf a || has_leaf b
-
 -- a variable stands in a term
 abbrev pub occurs : ℕ → Tm → Bool
 occurs x (Tree.leaf v) = eqb x v

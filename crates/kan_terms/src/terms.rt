@@ -1,9 +1,10 @@
 //! Terms, whose pairs are shared behind `Arc`.
 
-ghost use Rattle.std.specs.Prelude.{◌≡◌, ◌||◌, ⊤, IfOk};
+ghost use Rattle.std.specs.Prelude.{◌≡◌, ⊤, IfOk};
+ghost use Rattle.kan_terms.specs.Greatest.{greater, greatest_in};
 ghost use Rattle.kan_terms.specs.Memory.{memory};
 ghost use Rattle.kan_terms.specs.Terms.{tree};
-ghost use Rattle.kan_terms.specs.Tree.{Tree, has_leaf, noted_size};
+ghost use Rattle.kan_terms.specs.Tree.{Tree, noted_size};
 
 use std::alloc::{AllocError, AllocFailed, Global};
 use std::marker::Model;
@@ -59,7 +60,7 @@ impl Drop for Term {
                         PairParts {
                             first,
                             rest,
-                            has_variable: _,
+                            greatest: _,
                             weight: _,
                         },
                     ) => {
@@ -90,14 +91,15 @@ pub struct PairParts {
     pub first: Term,
     /// The rest.
     pub rest: Term,
-    has_variable: bool,
+    greatest: Option<u64>,
     // How many nodes the pair has, as far as the greatest number.
     weight: u64,
 }
 
 impl Model for PairParts {
-    ghost use Rattle.std.specs.Prelude.{◌+◌, ◌≡◌, ◌||◌};
-    ghost use Rattle.kan_terms.specs.Tree.{Tree, Tm, has_leaf, noted_size};
+    ghost use Rattle.std.specs.Prelude.{◌+◌, ◌≡◌};
+    ghost use Rattle.kan_terms.specs.Greatest.{greater, greatest_in};
+    ghost use Rattle.kan_terms.specs.Tree.{Tree, Tm, noted_size};
     ghost use Rattle.kan_terms.specs.Tree as trees;
     ghost use Rattle.kan_terms.specs.TermCode.{sides_code};
 
@@ -110,7 +112,7 @@ impl Model for PairParts {
     ghost view = { λ parts. (tree parts.first, tree parts.rest) };
 
     ghost invariant = { λ parts.
-        (parts.has_variable ≡ has_leaf (tree parts.first) || has_leaf (tree parts.rest))
+        (parts.greatest ≡ greater (greatest_in (tree parts.first)) (greatest_in (tree parts.rest)))
         × (parts.weight ≡ noted_size (Tree.pair (tree parts.first) (tree parts.rest))) };
 
     ghost size = { λ sides. trees.size sides.0 + trees.size sides.1 };
@@ -121,11 +123,11 @@ impl Model for PairParts {
 }
 
 impl PairParts {
-    /// Whether a variable stands in one of the parts. It looks at neither.
-    pub fn has_variable(&self) -> bool
-        ensures { result ≡ has_leaf self.now.0 || has_leaf self.now.1 }
+    /// The greatest variable that stands in the parts. It looks at neither.
+    pub fn greatest_variable(&self) -> Option<u64>
+        ensures { result ≡ greater (greatest_in self.now.0) (greatest_in self.now.1) }
     {
-        self.has_variable
+        self.greatest
     }
 
     // How many nodes the pair has, as far as the greatest number.
@@ -145,15 +147,26 @@ pub struct TermPair {
     pub rest: Term,
 }
 
+/// The greater of two variables, where there are any.
+pub fn greater_of(one: Option<u64>, other: Option<u64>) -> Option<u64>
+    ensures { result ≡ greater one other }
+{
+    match (one, other) {
+        (None, _) => other,
+        (Some(_), None) => one,
+        (Some(first), Some(second)) => Some(first.max(second)),
+    }
+}
+
 impl Term {
-    /// Whether a variable stands in the term. It looks into no pair.
-    pub fn has_variable(&self) -> bool
-        ensures { result ≡ has_leaf (tree self.now) }
+    /// The greatest variable that stands in the term. It looks into no pair.
+    pub fn greatest_variable(&self) -> Option<u64>
+        ensures { result ≡ greatest_in (tree self.now) }
     {
         match self {
-            Term::Var(_) => true,
-            Term::Sym(_) | Term::Str(_) | Term::Num(_) | Term::Truth(_) | Term::Nil => false,
-            Term::Pair(parts) => parts.has_variable(),
+            Term::Var(var) => Some(*var),
+            Term::Sym(_) | Term::Str(_) | Term::Num(_) | Term::Truth(_) | Term::Nil => None,
+            Term::Pair(parts) => parts.greatest_variable(),
         }
     }
 
@@ -172,7 +185,7 @@ impl Term {
     pub fn pair(alloc: Global, first: Term, rest: Term) -> Result<Term, Memory>
         ensures { IfOk result (λ made. tree made ≡ Tree.pair (tree first) (tree rest)) }
     {
-        let has_variable = first.has_variable() || rest.has_variable();
+        let greatest = greater_of(first.greatest_variable(), rest.greatest_variable());
         let weight = first
             .weight()
             .saturating_add(rest.weight())
@@ -180,7 +193,7 @@ impl Term {
         let parts = PairParts {
             first,
             rest,
-            has_variable,
+            greatest,
             weight,
         };
         let parts = Arc::new(alloc, parts)?;
