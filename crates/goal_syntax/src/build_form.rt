@@ -85,9 +85,7 @@ pub(crate) fn build_relation(
         (is_equational_body (relation_at context.now head goals))) }
 {
     let bound = head_params(context.alloc, context.flat, head)?;
-    let Ok(params) = u32::try_from(bound.len()) else {
-        return Err(Memory);
-    };
+    let params = bound.len() as u32;
     let body = build_body(context, &bound, goals, draft)?;
     let name = relation_name(context.flat, head);
     add_relation(draft, Relation { name, params, body })?;

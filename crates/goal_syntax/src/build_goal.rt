@@ -77,9 +77,7 @@ fn enter_fresh(
         ++ Work.Suspend ∷ Work.Fresh (length (binder_at context.now binder).value) ∷ Work.Leave (length scope.old.items) ∷ Work.Row Row.All goals ∷ []) }
 {
     let bound = binder_names(context.alloc, context.flat, binder)?;
-    let Ok(count) = u32::try_from(bound.len()) else {
-        return Err(Memory);
-    };
+    let count = bound.len() as u32;
     works.push(Work::Suspend)?;
     works.push(Work::Fresh(count))?;
     works.push(Work::Leave(scope.len()))?;
@@ -271,7 +269,7 @@ pub(crate) fn build_goals(
         build_next(context, work, &mut scope, draft, &mut places, &mut works)?;
     }
     let Some(goal) = places.pop() else {
-        return Err(Memory);
+        unreachable!()
     };
     Ok(goal)
 }

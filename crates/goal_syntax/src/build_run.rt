@@ -1,7 +1,7 @@
 //! Building the goals of runs.
 
 ghost use Rattle.goal_syntax.specs.Building.InContext.{list_goal, goal_behind, run_goal, fresh_goal};
-ghost use Rattle.std.specs.Prelude.{true, ◌≤◌, ◌≡◌, ◌&&◌, ◌<◌, ◌∷◌, [], List, length, IfOk, OnOk};
+ghost use Rattle.std.specs.Prelude.{true, ◌≤◌, ◌≡◌, ◌&&◌, ◌<◌, ◌^◌, ◌∷◌, [], List, length, IfOk, OnOk};
 ghost use Rattle.kan_model.specs.Programs.Goals as model;
 ghost use Rattle.kan_grammar.specs.Texts.GoalForms.{goal_forms};
 ghost use Rattle.kan_grammar.specs.Texts.Resolved.{suspended_in, within};
@@ -47,6 +47,7 @@ pub(crate) fn build_one(
 
 // Builds the goal that slot 0 is the list of as many slots behind it as there are names.
 fn build_equation(bound: &[u32], draft: &mut Draft) -> Result<u32, Memory>
+    requires few { length bound.now < 2 ^ 32 }
     requires room { HasRoom (tables draft.old) }
     ensures made { IfOk result (λ at. HasGoal (tables draft.new) at (asked_equation bound.now)) }
     ensures grows { OnOk result (Grows (tables draft.old) (tables draft.new)) }
@@ -105,9 +106,7 @@ fn build_fresh(
         (is_equational (fresh_goal context.now binder goals))) }
 {
     let bound = binder_names(context.alloc, context.flat, binder)?;
-    let Ok(count) = u32::try_from(bound.len()) else {
-        return Err(Memory);
-    };
+    let count = bound.len() as u32;
     let mut scope = unnamed(context.alloc)?;
     enter(&bound, &mut scope)?;
     let first = build_equation(&bound, draft)?;

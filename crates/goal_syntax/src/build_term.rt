@@ -1,7 +1,7 @@
 //! Building templates of terms.
 
 ghost use Rattle.goal_syntax.specs.Building.InContext.{task_template, term_templates, KeepsLowIn};
-ghost use Rattle.std.specs.Prelude.{◌≡◌, ◌∷◌, ◌+◌, ◌<◌, ◌≤◌, map, length, reverse, unwrap_or, true, IfOk, OnOk};
+ghost use Rattle.std.specs.Prelude.{◌≡◌, ◌∷◌, ◌+◌, ◌<◌, ◌^◌, ◌≤◌, map, length, reverse, unwrap_or, true, IfOk, OnOk};
 ghost use Rattle.kan_grammar.specs.Texts.ProgramText.{slot_list};
 ghost use Rattle.kan_grammar.specs.Texts.Resolved.{template_in, slot_of};
 ghost use Rattle.kan_model.specs.Programs.Tables.{is_term_grown, template_at, template_of};
@@ -165,7 +165,10 @@ pub(crate) fn build_term(
     while let Some(work) = works.pop() {
         build_work(context, scope, work, draft, &mut places, &mut works)?;
     }
-    places.pop().ok_or(Memory)
+    let Some(place) = places.pop() else {
+        unreachable!()
+    };
+    Ok(place)
 }
 
 // Builds the templates of the terms in a list, and gives their places.
@@ -241,6 +244,7 @@ pub(crate) fn build_arguments(
 
 /// Builds the list of as many slots as there are names, from slot 1 on, and gives its place.
 pub(crate) fn build_slots(bound: &[u32], draft: &mut Draft) -> Result<u32, Memory>
+    requires few { length bound.now < 2 ^ 32 }
     requires room { HasRoom (tables draft.old) }
     ensures made { IfOk result (λ at. HasTemplate (tables draft.new) at (slot_list 1 bound.now)) }
     ensures grows { OnOk result (Grows (tables draft.old) (tables draft.new)) }
@@ -248,7 +252,7 @@ pub(crate) fn build_slots(bound: &[u32], draft: &mut Draft) -> Result<u32, Memor
     ensures same { OnOk result ((tables draft.new).goals ≡ (tables draft.old).goals) }
     ensures low { OnOk result (length bound.now ≤ 2048 → list_all is_low (templates draft.old) ≡ true → list_all is_low (templates draft.new) ≡ true) }
 {
-    let mut slot = u32::try_from(bound.len()).map_err(|_| Memory)?;
+    let mut slot = bound.len() as u32;
     let mut list = add_term(draft, TermNode::Nil)?;
     while slot > 0 {
         let first = add_term(draft, TermNode::Slot(slot))?;

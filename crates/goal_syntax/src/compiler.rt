@@ -141,7 +141,7 @@ fn close(draft: Draft, queries: Queries, names: &Names) -> Result<Compiled, Memo
     ensures named { IfOk result (λ made. are_named names.now (programs.tables made.program) ≡ true) }
 {
     let Ok(program) = draft.close(queries.items()) else {
-        return Err(Memory);
+        unreachable!()
     };
     if !are_narrow(&program) || !are_named(names, &program) {
         return Err(Memory);
