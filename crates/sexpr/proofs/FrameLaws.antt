@@ -3,20 +3,21 @@ use Rattle.std.proofs.Common.{◌≡◌, ℕ, suc, ◌+◌, ◌<◌, ◌≤◌, 
 use Rattle.std.specs.Prelude.{None, Some, Result, Ok, Err, OnOk, nat_le}
 use Rattle.std.specs.List.{fold}
 use Rattle.std.proofs.lemmas.Bool.Decides.{nat_tests}
-use Rattle.kan_grammar.specs.Data.Words.{Atom, Shape, Token, opening, closing, prefix, dot, atom, bad, symbol, number, truth, out_of_range, reserved}
+use Rattle.kan_grammar.specs.Data.Words.{Atom, Shape, Token, opening, closing, prefix, dot, atom, bad_string, bad, symbol, string, number, truth, out_of_range, reserved}
 use Rattle.kan_grammar.specs.Data.Written.{Written, single, deepest, is_allowed_atom}
 use Rattle.kan_grammar.specs.Data.Enclosing.{Place, top, awaiting, depth, put}
 use Rattle.kan_grammar.specs.Data.Faults.{fault, refusal, after, begins, first_fault, is_out_of_range, is_reserved_name}
 use Rattle.sexpr.specs.Meaning.{prefix_of, shape_of}
-use Rattle.sexpr.specs.Seen.{Table, written, as_kept}
-use Rattle.sexpr.specs.Frames.{after_point, inside, place, open_of, deepened, HasDepth, Takes}
+use Rattle.sexpr.specs.Seen.{written, as_kept}
+use Rattle.kan_terms.specs.Table.{Table}
+use Rattle.sexpr.specs.Frames.{after_point, inside, place, enclosing_of, deepened, HasDepth, Takes}
 use Rattle.sexpr.specs.declared.data.Datum.{Datum}
 use Rattle.sexpr.specs.declared.data.Prefix.{Prefix}
 use Rattle.sexpr.specs.declared.data.DatumKind.TheVariants as kinds
-use Rattle.sexpr.specs.declared.frame.OpenList.{OpenList}
+use Rattle.sexpr.specs.declared.frame.ListFrame.{ListFrame}
 use Rattle.sexpr.specs.declared.frame.Frame.{Frame}
 use Rattle.sexpr.specs.declared.frame.Frame.TheVariants as frames
-use Rattle.sexpr.specs.declared.open.Open as stacks
+use Rattle.sexpr.specs.declared.enclosing.Enclosing as stacks
 use Rattle.sexpr.proofs.SeenLaws.{written_prefixed}
 
 -- a fold over one item more
@@ -42,11 +43,11 @@ frames_depth names p [] = refl
 frames_depth names p (f ∷ fs) = frames_depth names (inside names p f) fs ∙ ap (λ n. fold deepened n fs) (inside_depth names p f)
 
 -- what is kept as the depth is that of the next datum
-pub depth_is : (names : Table) (o : stacks.Open) → o.depth ≡ fold deepened 0 o.frames.items → depth (place names o) ≡ o.depth
+pub depth_is : (names : Table) (o : stacks.Enclosing) → o.depth ≡ fold deepened 0 o.frames.items → depth (place names o) ≡ o.depth
 depth_is names o h = frames_depth names (top (map (written names) o.top)) o.frames.items ∙ sym h
 
 -- one frame more
-pub grown_place : (names : Table) (o n : stacks.Open) (f : Frame) → n.top ≡ o.top → n.frames.items ≡ o.frames.items ++ f ∷ [] → place names n ≡ inside names (place names o) f
+pub grown_place : (names : Table) (o n : stacks.Enclosing) (f : Frame) → n.top ≡ o.top → n.frames.items ≡ o.frames.items ++ f ∷ [] → place names n ≡ inside names (place names o) f
 grown_place names o n f t e = rw (t, e) (fold_push (inside names) (top (map (written names) o.top)) o.frames.items f)
 
 -- which questions refuse a token that begins a datum
@@ -56,6 +57,7 @@ asked_deep p at (prefix q) b h = rw h refl
 asked_deep p at (atom a) b h = rw h refl
 asked_deep p at (closing s) b h = absurd cc
 asked_deep p at dot b h = absurd cc
+asked_deep p at bad_string b h = absurd cc
 asked_deep p at bad b h = absurd cc
 
 asked_last : (p : Place Written) (at : ℕ) (t : Token) → begins t ≡ true → nat_le (depth p) deepest ≡ true → refusal (awaiting p) at t ≡ first_fault (is_out_of_range at t ∷ is_reserved_name at t ∷ [])
@@ -64,43 +66,45 @@ asked_last p at (prefix q) b h = rw h refl
 asked_last p at (atom a) b h = rw h refl
 asked_last p at (closing s) b h = absurd cc
 asked_last p at dot b h = absurd cc
+asked_last p at bad_string b h = absurd cc
 asked_last p at bad b h = absurd cc
 
-open_awaits : (names : Table) (o : stacks.Open) → o.ended ≡ None → open_of names o ≡ awaiting (place names o)
-open_awaits names o e = rw e refl
+enclosing_awaits : (names : Table) (o : stacks.Enclosing) → o.ended ≡ None → enclosing_of names o ≡ awaiting (place names o)
+enclosing_awaits names o e = rw e refl
 
-pub refused_deep : (names : Table) (o : stacks.Open) (at : ℕ) → HasDepth o → o.ended ≡ None → 2048 < o.depth → (t : Token) → begins t ≡ true → refusal (open_of names o) at t ≡ Some (fault at 6)
+pub refused_deep : (names : Table) (o : stacks.Enclosing) (at : ℕ) → HasDepth o → o.ended ≡ None → 2048 < o.depth → (t : Token) → begins t ≡ true → refusal (enclosing_of names o) at t ≡ Some (fault at 6)
 refused_deep names o at d e h t b =
     let k : depth (place names o) ≡ o.depth = depth_is names o d.inside_all in
-    ap (λ x. refusal x at t) (open_awaits names o e) ∙ asked_deep (place names o) at t b (rw k (grind (arith, nat_tests)))
+    ap (λ x. refusal x at t) (enclosing_awaits names o e) ∙ asked_deep (place names o) at t b (rw k (grind (arith, nat_tests)))
 
 -- where a datum may begin, only what it is can be refused
-pub refused_last : (names : Table) (o : stacks.Open) (at : ℕ) → HasDepth o → o.ended ≡ None → o.depth ≤ 2048 → (t : Token) → begins t ≡ true → refusal (open_of names o) at t ≡ first_fault (is_out_of_range at t ∷ is_reserved_name at t ∷ [])
+pub refused_last : (names : Table) (o : stacks.Enclosing) (at : ℕ) → HasDepth o → o.ended ≡ None → o.depth ≤ 2048 → (t : Token) → begins t ≡ true → refusal (enclosing_of names o) at t ≡ first_fault (is_out_of_range at t ∷ is_reserved_name at t ∷ [])
 refused_last names o at d e h t b =
     let k : depth (place names o) ≡ o.depth = depth_is names o d.inside_all in
-    ap (λ x. refusal x at t) (open_awaits names o e) ∙ asked_last (place names o) at t b (rw k (grind (arith, nat_tests)))
+    ap (λ x. refusal x at t) (enclosing_awaits names o e) ∙ asked_last (place names o) at t b (rw k (grind (arith, nat_tests)))
 
 -- an atom that a datum may be
 allowed_last : (at : ℕ) (a : Atom) → is_allowed_atom a ≡ true → first_fault (is_out_of_range at (atom a) ∷ is_reserved_name at (atom a) ∷ []) ≡ None
 allowed_last at (symbol s) h = refl
+allowed_last at (string s) h = refl
 allowed_last at (number n) h = refl
 allowed_last at (truth b) h = refl
 allowed_last at out_of_range h = absurd cc
 allowed_last at reserved h = absurd cc
 
 -- a token that opens a frame is taken
-takes_frame : (names : Table) (o n : stacks.Open) (f : Frame) (at : ℕ) (t : Token) → o.ended ≡ None → refusal (open_of names o) at t ≡ None → after as_kept (awaiting (place names o)) at t ≡ awaiting (inside names (place names o) f) → n.top ≡ o.top → n.frames.items ≡ o.frames.items ++ f ∷ [] → n.ended ≡ None → Takes names o n at t
-takes_frame names o n f at t e r a s g m = (r, open_awaits names n m ∙ ap awaiting (grown_place names o n f s g) ∙ sym a ∙ ap (λ x. after as_kept x at t) (sym (open_awaits names o e)))
+takes_frame : (names : Table) (o n : stacks.Enclosing) (f : Frame) (at : ℕ) (t : Token) → o.ended ≡ None → refusal (enclosing_of names o) at t ≡ None → after as_kept (awaiting (place names o)) at t ≡ awaiting (inside names (place names o) f) → n.top ≡ o.top → n.frames.items ≡ o.frames.items ++ f ∷ [] → n.ended ≡ None → Takes names o n at t
+takes_frame names o n f at t e r a s g m = (r, enclosing_awaits names n m ∙ ap awaiting (grown_place names o n f s g) ∙ sym a ∙ ap (λ x. after as_kept x at t) (sym (enclosing_awaits names o e)))
 
-pub takes_opening : (names : Table) (o n : stacks.Open) (l : OpenList) (at : ℕ) → HasDepth o → o.ended ≡ None → o.depth ≤ 2048 → l.items ≡ [] → l.at ≡ at → n.top ≡ o.top → n.frames.items ≡ o.frames.items ++ frames.List l ∷ [] → n.ended ≡ None → Takes names o n at (opening (shape_of l.shape))
+pub takes_opening : (names : Table) (o n : stacks.Enclosing) (l : ListFrame) (at : ℕ) → HasDepth o → o.ended ≡ None → o.depth ≤ 2048 → l.items ≡ [] → l.at ≡ at → n.top ≡ o.top → n.frames.items ≡ o.frames.items ++ frames.List l ∷ [] → n.ended ≡ None → Takes names o n at (opening (shape_of l.shape))
 takes_opening names o n l at d e h i a s g m =
     takes_frame names o n (frames.List l) at (opening (shape_of l.shape)) e (refused_last names o at d e h (opening (shape_of l.shape)) refl) (rw (i, a) refl) s g m
 
-pub takes_prefix : (names : Table) (o n : stacks.Open) (q : Prefix) (at : ℕ) → HasDepth o → o.ended ≡ None → o.depth ≤ 2048 → n.top ≡ o.top → n.frames.items ≡ o.frames.items ++ frames.Prefix at q ∷ [] → n.ended ≡ None → Takes names o n at (prefix (prefix_of q))
+pub takes_prefix : (names : Table) (o n : stacks.Enclosing) (q : Prefix) (at : ℕ) → HasDepth o → o.ended ≡ None → o.depth ≤ 2048 → n.top ≡ o.top → n.frames.items ≡ o.frames.items ++ frames.Prefix at q ∷ [] → n.ended ≡ None → Takes names o n at (prefix (prefix_of q))
 takes_prefix names o n q at d e h s g m = takes_frame names o n (frames.Prefix at q) at (prefix (prefix_of q)) e (refused_last names o at d e h (prefix (prefix_of q)) refl) refl s g m
 
 -- a datum after a prefix goes where the prefixed datum goes
-pub put_prefixed : (names : Table) (o n : stacks.Open) (at : ℕ) (q : Prefix) (d : Datum) → n.top ≡ o.top → o.frames.items ≡ n.frames.items ++ frames.Prefix at q ∷ [] → put as_kept (place names o) (written names d) ≡ put as_kept (place names n) (written names (record { at = at; kind = kinds.Prefixed q d }))
+pub put_prefixed : (names : Table) (o n : stacks.Enclosing) (at : ℕ) (q : Prefix) (d : Datum) → n.top ≡ o.top → o.frames.items ≡ n.frames.items ++ frames.Prefix at q ∷ [] → put as_kept (place names o) (written names d) ≡ put as_kept (place names n) (written names (record { at = at; kind = kinds.Prefixed q d }))
 put_prefixed names o n at q d t e =
     ap (λ p. put as_kept p (written names d)) (grown_place names n o (frames.Prefix at q) (sym t) e)
     ∙ ap (put as_kept (place names n)) (sym (written_prefixed names at q d))
@@ -111,6 +115,6 @@ on_ok (Ok x) f p = f p
 on_ok (Err e) f p = p
 
 -- a datum of one token is taken
-pub takes_single : (names : Table) (o n : stacks.Open) (at : ℕ) (a : Atom) (d : Datum) → HasDepth o → o.ended ≡ None → o.depth ≤ 2048 → is_allowed_atom a ≡ true → written names d ≡ single at a → open_of names n ≡ put as_kept (place names o) (written names d) → Takes names o n at (atom a)
+pub takes_single : (names : Table) (o n : stacks.Enclosing) (at : ℕ) (a : Atom) (d : Datum) → HasDepth o → o.ended ≡ None → o.depth ≤ 2048 → is_allowed_atom a ≡ true → written names d ≡ single at a → enclosing_of names n ≡ put as_kept (place names o) (written names d) → Takes names o n at (atom a)
 takes_single names o n at a d k e h allowed w p =
-    (refused_last names o at k e h (atom a) refl ∙ allowed_last at a allowed, p ∙ ap (put as_kept (place names o)) w ∙ ap (λ x. after as_kept x at (atom a)) (sym (open_awaits names o e)))
+    (refused_last names o at k e h (atom a) refl ∙ allowed_last at a allowed, p ∙ ap (put as_kept (place names o)) w ∙ ap (λ x. after as_kept x at (atom a)) (sym (enclosing_awaits names o e)))

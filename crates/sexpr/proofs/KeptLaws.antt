@@ -8,7 +8,7 @@ use Rattle.kan_grammar.specs.Data.Written.{Written, Within, single, list, prefix
 use Rattle.kan_grammar.specs.Data.Enclosing.{row, as_written}
 use Rattle.kan_grammar.specs.Data.Faults.{Reading, data_are, refused, read_if, read_text}
 use Rattle.kan_grammar.specs.Data.Builds.{build_datum, build_within, map_reading}
-use Rattle.kan_grammar.specs.Data.Printed.{Named, pairs, pairs_within, prefix_name}
+use Rattle.kan_grammar.specs.Data.Printed.{Label, Named, pairs, pairs_within, prefix_name}
 use Rattle.kan_terms.specs.Tree.{leaf, nil, pair}
 use Rattle.kan_grammar.proofs.Data.Exactly.{reads_exactly}
 use Rattle.kan_grammar.proofs.Data.Carried.{read_text-map, made_carries}
@@ -35,7 +35,7 @@ mutual
   pub keeps_meaning : KeepsMeaning
   keeps_meaning (single at a) = refl
   keeps_meaning (list at s inner) = keeps_within at s [] inner
-  keeps_meaning (prefixed at p d) = ap (λ t. pair (leaf (prefix_name p)) (pair t nil)) (keeps_meaning d)
+  keeps_meaning (prefixed at p d) = ap (λ t. pair (leaf (Label.name (prefix_name p))) (pair t nil)) (keeps_meaning d)
 
   keeps_within : (at : ℕ) (s : Shape) (ds : List Written) (inner : Within) → pairs (build_within as_kept at s ds inner) ≡ joined ds (pairs_within inner)
   keeps_within at s ds (close end) = joined_row ds (close 0)

@@ -1,3 +1,4 @@
+pub mod StringLaws
 pub mod PieceLaws
 pub mod SeenLaws
 pub mod FrameLaws

@@ -8,15 +8,16 @@ use Rattle.kan_terms.specs.Table.{name_of}
 use Rattle.kan_grammar.specs.Data.Words.{round, number, truth}
 use Rattle.kan_grammar.specs.Data.Printed.{named_text, pairs, pairs_within, prefix_name}
 use Rattle.sexpr.specs.Meaning.{prefix_of}
-use Rattle.sexpr.specs.Seen.{Table, symbol_atom, inner_of, list_of, written}
-use Rattle.sexpr.specs.Works.{rest_text, within, work_text, works_text, cost, cost_within, work_cost, works_cost}
+use Rattle.sexpr.specs.Seen.{symbol_atom, string_atom, inner_of, list_of, written}
+use Rattle.kan_terms.specs.Table.{Table}
+use Rattle.sexpr.specs.Printing.{string_atom_text, rest_text, within, work_text, works_text, cost, cost_within, work_cost, works_cost}
 use Rattle.sexpr.specs.declared.data.Datum.{Datum}
 use Rattle.sexpr.specs.declared.data.DatumKind.{DatumKind}
 use Rattle.sexpr.specs.declared.data.DatumKind.TheVariants as kinds
 use Rattle.sexpr.specs.declared.data.Prefix.{Prefix}
 use Rattle.sexpr.specs.declared.printer.Work.{Work}
 use Rattle.sexpr.specs.declared.printer.Work.TheVariants as works
-use Rattle.sexpr.proofs.SeenLaws.{written_symbol, written_number, written_truth, written_list, written_dotted, written_prefixed}
+use Rattle.sexpr.proofs.SeenLaws.{written_symbol, written_text, written_number, written_truth, written_list, written_dotted, written_prefixed}
 
 pub works_text_push : (names : Table) (ws : List Work) (w : Work) → works_text names (ws ++ w ∷ []) ≡ work_text names w ++ works_text names ws
 works_text_push names [] w = sym (append-nil (work_text names w))
@@ -156,11 +157,26 @@ symbol_tail : (at : ℕ) (o : Option (List ℕ)) → rest_text (pairs (single at
 symbol_tail at None = refl
 symbol_tail at (Some s) = refl
 
+string_tail : (at : ℕ) (o : Option (List ℕ)) → rest_text (pairs (single at (string_atom o))) ≡ codes " . " ++ named_text (pairs (single at (string_atom o)))
+string_tail at None = refl
+string_tail at (Some s) = refl
+
 tail_same : (w v : Written) → w ≡ v → rest_text (pairs v) ≡ codes " . " ++ named_text (pairs v) → rest_text (pairs w) ≡ codes " . " ++ named_text (pairs w)
 tail_same w v e h = rw e h
 
 pub tail_symbol : (names : Table) (d : Datum) (s : ℕ) → d.kind ≡ kinds.Symbol s → rest_text (pairs (written names d)) ≡ codes " . " ++ named_text (pairs (written names d))
-tail_symbol names d s e = tail_same (written names d) (single d.at (symbol_atom (name_of names s))) (written_of names d (kinds.Symbol s) e ∙ written_symbol names d.at s) (symbol_tail d.at (name_of names s))
+tail_symbol names d s e = tail_same (written names d) (single d.at (symbol_atom (name_of names.symbols s))) (written_of names d (kinds.Symbol s) e ∙ written_symbol names d.at s) (symbol_tail d.at (name_of names.symbols s))
+
+pub tail_text : (names : Table) (d : Datum) (s : ℕ) → d.kind ≡ kinds.Text s → rest_text (pairs (written names d)) ≡ codes " . " ++ named_text (pairs (written names d))
+tail_text names d s e = tail_same (written names d) (single d.at (string_atom (name_of names.strings s))) (written_of names d (kinds.Text s) e ∙ written_text names d.at s) (string_tail d.at (name_of names.strings s))
+
+-- the text of a string's atom
+string_prints : (at : ℕ) (o : Option (List ℕ)) → named_text (pairs (single at (string_atom o))) ≡ string_atom_text o
+string_prints at None = refl
+string_prints at (Some s) = refl
+
+pub text_prints : (names : Table) (d : Datum) (s : ℕ) → d.kind ≡ kinds.Text s → named_text (pairs (written names d)) ≡ string_atom_text (name_of names.strings s)
+text_prints names d s e = ap (λ w. named_text (pairs w)) (written_of names d (kinds.Text s) e ∙ written_text names d.at s) ∙ string_prints d.at (name_of names.strings s)
 
 pub tail_number : (names : Table) (d : Datum) (n : ℤ) → d.kind ≡ kinds.Number n → rest_text (pairs (written names d)) ≡ codes " . " ++ named_text (pairs (written names d))
 tail_number names d n e = tail_same (written names d) (single d.at (number n)) (written_of names d (kinds.Number n) e ∙ written_number names d.at n) refl

@@ -5,13 +5,14 @@ use Rattle.kan_terms.specs.Table.{name_of}
 use Rattle.kan_grammar.specs.Data.Words.{number, truth}
 use Rattle.kan_grammar.specs.Data.Written.{Written, single, prefixed}
 use Rattle.sexpr.specs.Meaning.{prefix_of}
-use Rattle.sexpr.specs.Seen.{Table, symbol_atom, list_of, kind_of, written}
+use Rattle.sexpr.specs.Seen.{symbol_atom, string_atom, list_of, kind_of, written}
+use Rattle.kan_terms.specs.Table.{Table}
 use Rattle.sexpr.specs.declared.data.Datum.{Datum, fold_out-Datum}
 use Rattle.sexpr.specs.declared.data.DatumKind.{DatumKind, roll-DatumKind, fold-DatumKind, fold-roll-DatumKind, map-DatumKind}
 use Rattle.sexpr.specs.declared.data.DatumKind.TheOpen.{DatumKind-F}
 use Rattle.sexpr.specs.declared.data.Prefix.{Prefix}
 use Rattle.sexpr.specs.declared.data.DatumKind.TheVariants as kinds
-use Rattle.sexpr.specs.declared.data.DatumKind.TheVariants.{rolls-Symbol, rolls-Number, rolls-Truth, rolls-List, rolls-Prefixed}
+use Rattle.sexpr.specs.declared.data.DatumKind.TheVariants.{rolls-Symbol, rolls-Text, rolls-Number, rolls-Truth, rolls-List, rolls-Prefixed}
 
 kind_written : Table → DatumKind → ℕ → Written
 kind_written names k = fold-DatumKind (ℕ → Written) Written (kind_of names) (λ layer. layer.kind layer.at) k
@@ -28,8 +29,11 @@ layer_written : (names : Table) (at : ℕ) (l : DatumKind-F DatumKind Datum) →
 unfolding kind_written
 layer_written names at l = ap (λ (f : ℕ → Written). f at) (fold-roll-DatumKind (ℕ → Written) Written (kind_of names) (λ layer. layer.kind layer.at) l)
 
-pub written_symbol : (names : Table) (at s : ℕ) → written names (record { at = at; kind = kinds.Symbol s }) ≡ single at (symbol_atom (name_of names s))
+pub written_symbol : (names : Table) (at s : ℕ) → written names (record { at = at; kind = kinds.Symbol s }) ≡ single at (symbol_atom (name_of names.symbols s))
 written_symbol names at s = by_layer names at (kinds.Symbol s) (DatumKind-F.Symbol s) (rolls-Symbol s) ∙ layer_written names at (DatumKind-F.Symbol s)
+
+pub written_text : (names : Table) (at s : ℕ) → written names (record { at = at; kind = kinds.Text s }) ≡ single at (string_atom (name_of names.strings s))
+written_text names at s = by_layer names at (kinds.Text s) (DatumKind-F.Text s) (rolls-Text s) ∙ layer_written names at (DatumKind-F.Text s)
 
 pub written_number : (names : Table) (at : ℕ) (n : ℤ) → written names (record { at = at; kind = kinds.Number n }) ≡ single at (number n)
 written_number names at n = by_layer names at (kinds.Number n) (DatumKind-F.Number n) (rolls-Number n) ∙ layer_written names at (DatumKind-F.Number n)

@@ -4,13 +4,17 @@ use Rattle.std.specs.List.{fold}
 use Rattle.kan_grammar.specs.Data.Words.{Shape, Token}
 use Rattle.kan_grammar.specs.Data.Written.{Written}
 use Rattle.kan_grammar.specs.Data.Enclosing.{Place, top, in_list, after_dot, after_prefix, Enclosing, awaiting, ended}
-use Rattle.kan_grammar.specs.Data.Faults.{refusal, after}
+use Rattle.kan_grammar.specs.Data.Faults.{Fault, fault, refusal, after}
+use Rattle.kan_grammar.specs.Texts.TextNames.{GoesOn}
 use Rattle.sexpr.specs.Meaning.{shape_of, prefix_of}
-use Rattle.sexpr.specs.Seen.{Table, written, as_kept}
+use Rattle.sexpr.specs.Seen.{written, as_kept}
+use Rattle.kan_terms.specs.Table.{Table}
+use Rattle.sexpr.specs.declared.data.ReadError.{ReadError}
+use Rattle.sexpr.specs.declared.data.ReadError.TheVariants as errors
 use Rattle.sexpr.specs.declared.frame.Frame.{Frame}
 use Rattle.sexpr.specs.declared.frame.Frame.TheVariants as frames
 use Rattle.sexpr.specs.declared.frame.Ended.{Ended}
-use Rattle.sexpr.specs.declared.open.Open as stacks
+use Rattle.sexpr.specs.declared.enclosing.Enclosing as stacks
 
 -- after the dot of a list with these elements, of which there is one
 abbrev pub after_point : Place Written → ℕ → Shape → List Written → ℕ → Place Written
@@ -24,7 +28,7 @@ inside names p (frames.Dotted l) = after_point p l.at (shape_of l.shape) (map (w
 inside names p (frames.Prefix at q) = after_prefix p at (prefix_of q)
 
 -- the place inside all frames, of which the last is the innermost
-abbrev pub place : Table → stacks.Open → Place Written
+abbrev pub place : Table → stacks.Enclosing → Place Written
 place names o = fold (inside names) (top (map (written names) o.top)) o.frames.items
 
 -- a list with these elements, of which there is one, whose last datum is there
@@ -38,8 +42,8 @@ ended_in names p None = awaiting p
 ended_in names p (Some e) = ended_at p e.list.at (shape_of e.list.shape) (map (written names) e.list.items) e.list.point (written names e.last)
 
 -- what is open
-abbrev pub open_of : Table → stacks.Open → Enclosing Written
-open_of names o = ended_in names (place names o) o.ended
+abbrev pub enclosing_of : Table → stacks.Enclosing → Enclosing Written
+enclosing_of names o = ended_in names (place names o) o.ended
 
 -- how deep the next datum stands inside one frame more
 abbrev pub deepened : ℕ → Frame → ℕ
@@ -53,11 +57,24 @@ HasRoom None n = Unit {0}
 HasRoom (Some e) n = n < 2050
 
 -- the depth that is kept is that inside all frames
-pub record HasDepth (o : stacks.Open) : Type 0 where
+pub record HasDepth (o : stacks.Enclosing) : Type 0 where
   pub inside_all : o.depth ≡ fold deepened 0 o.frames.items
   pub bounded : o.depth ≤ 2050
   pub room : HasRoom o.ended o.depth
 
--- a token is taken: no question refuses it, and what is open is what comes after it
-abbrev pub Takes : Table → stacks.Open → stacks.Open → ℕ → Token → Type 0
-Takes names old new at t = (refusal (open_of names old) at t ≡ None) × (open_of names new ≡ after as_kept (open_of names old) at t)
+-- a token is taken under a table: no question refuses it, and what is open is what comes after it
+abbrev pub Takes : Table → stacks.Enclosing → stacks.Enclosing → ℕ → Token → Type 0
+Takes names old new at t = (refusal (enclosing_of names old) at t ≡ None) × (enclosing_of names new ≡ after as_kept (enclosing_of names old) at t)
+
+-- and under each table that goes on where this one ends
+abbrev pub TakesToken : Table → stacks.Enclosing → stacks.Enclosing → ℕ → Token → Type 0
+TakesToken names old new at t = (later : Table) → GoesOn names later → Takes later old new at t
+
+-- an error is the refusal that the questions give, or want of memory
+abbrev pub Refuses : ReadError → Option Fault → Type 0
+Refuses (errors.Fault at number) asked = asked ≡ Some (fault at number)
+Refuses errors.Memory asked = Unit {0}
+
+-- a token is refused
+abbrev pub RefusesToken : ReadError → stacks.Enclosing → ℕ → Token → Type 0
+RefusesToken e o at t = (names : Table) → Refuses e (refusal (enclosing_of names o) at t)

@@ -5,7 +5,8 @@ use Rattle.kan_grammar.specs.Data.Enclosing.{as_written}
 use Rattle.kan_grammar.specs.Data.Faults.{read_text}
 use Rattle.kan_grammar.specs.Data.Printed.{pairs}
 use Rattle.kan_grammar.specs.Data.Builds.{build_datum, map_reading}
-use Rattle.sexpr.specs.Seen.{Table, written, as_kept}
+use Rattle.sexpr.specs.Seen.{written, as_kept}
+use Rattle.kan_terms.specs.Table.{Table}
 use Rattle.sexpr.specs.Reads.{Reads}
 use Rattle.sexpr.specs.declared.data.Datum.{Datum}
 

@@ -1,7 +1,8 @@
 pub mod Meaning
 pub mod Pieces
+pub mod Strings
 pub mod Seen
 pub mod Reads
 pub mod Frames
-pub mod Works
+pub mod Printing
 pub mod Laws

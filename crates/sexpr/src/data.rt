@@ -37,6 +37,8 @@ pub struct Datum {
 pub enum DatumKind {
     /// A symbol, by its number in the table of names.
     Symbol(u32),
+    /// A string, by its number in the table of names.
+    Text(u32),
     /// A whole number.
     Number(i128),
     /// A truth value.

@@ -7,7 +7,7 @@ use crate::token::Shape;
 
 /// An open list after its elements.
 #[derive(Drop)]
-pub(crate) struct OpenList {
+pub(crate) struct ListFrame {
     pub(crate) at: u32,
     pub(crate) shape: Shape,
     pub(crate) items: Data,
@@ -15,7 +15,7 @@ pub(crate) struct OpenList {
 
 /// A list after its dot, which stands behind an element.
 #[derive(Drop)]
-pub(crate) struct DottedList {
+pub(crate) struct DottedFrame {
     pub(crate) at: u32,
     pub(crate) shape: Shape,
     pub(crate) items: Data,
@@ -26,15 +26,15 @@ pub(crate) struct DottedList {
 /// A list with the datum after its dot, where only its close may come.
 #[derive(Drop)]
 pub(crate) struct Ended {
-    pub(crate) list: DottedList,
+    pub(crate) list: DottedFrame,
     pub(crate) last: Datum,
 }
 
 /// What is open around the next datum.
 #[derive(Drop)]
 pub(crate) enum Frame {
-    List(OpenList),
-    Dotted(DottedList),
+    List(ListFrame),
+    Dotted(DottedFrame),
     /// A prefix without its datum: its offset, and which it is.
     Prefix(u32, Prefix),
 }

@@ -1,14 +1,16 @@
 //! The first piece of a text: a token, or what stands between tokens.
 
-ghost use Rattle.std.specs.Prelude.{◌≡◌, ◌<◌, suc, ◌∷◌, length};
+ghost use Rattle.std.specs.Prelude.{◌≡◌, ◌<◌, suc, false, ◌∷◌, length};
 ghost use Rattle.std.specs.Str.{IsCharBoundary};
-ghost use Rattle.kan_grammar.specs.Data.Tokens.{piece, more, comma_piece, hash_token};
+ghost use Rattle.kan_grammar.specs.Data.Tokens.{piece, more, comma_piece, hash_token, string_piece};
+ghost use Rattle.kan_grammar.specs.Data.Strings.{string_length};
 ghost use Rattle.sexpr.specs.Meaning.{token_of, piece_of};
 ghost use Rattle.sexpr.specs.Pieces.{first_piece};
 
 use crate::bytes::{Start, begun_by, comment_length, word_length};
 use crate::data::Prefix;
 use crate::token::{Atom, Token};
+use crate::strings::string_length;
 use crate::word::word_token;
 
 /// A piece at the front of a text.
@@ -41,14 +43,15 @@ fn piece_begun<'a>(text: &'a str, first: u8, rest: &[u8]) -> Piece<'a>
     match begun_by(first) {
         Start::Separator => blank(1),
         Start::Comment => blank(1 + comment_length(rest)),
-        Start::Open(shape) => spelled(Token::Open(shape), 1),
-        Start::Close(shape) => spelled(Token::Close(shape), 1),
+        Start::Opening(shape) => spelled(Token::Opening(shape), 1),
+        Start::Closing(shape) => spelled(Token::Closing(shape), 1),
         Start::Prefix(prefix) => spelled(Token::Prefix(prefix), 1),
         Start::Comma => comma_piece(rest),
         Start::Hash => {
             let length = word_length(rest);
             spelled(hash_token(&rest[..length]), 1 + length)
         }
+        Start::Quotation => string_piece(text, rest),
         Start::Word => {
             let length = 1 + word_length(rest);
             spelled(word_token(&text[..length]), length)
@@ -85,6 +88,18 @@ fn comma_piece<'a>(rest: &[u8]) -> Piece<'a>
     match rest.first() {
         Some(b'@') => spelled(Token::Bad, 2),
         _ => spelled(Token::Prefix(Prefix::Unquote), 1),
+    }
+}
+
+/// The piece of a quotation mark before these bytes. One that begins no string is a token by itself.
+fn string_piece<'a>(text: &'a str, rest: &[u8]) -> Piece<'a>
+    requires { text.now ≡ 34 ∷ rest.now }
+    ensures piece { piece_of result ≡ string_piece (string_length false rest.now) rest.now }
+    ensures size { result.length ≡ suc (more (string_piece (string_length false rest.now) rest.now)) }
+{
+    match string_length(rest) {
+        Some(length) => spelled(Token::Atom(Atom::Text(&text[1..1 + length])), 2 + length),
+        None => spelled(Token::BadString, 1),
     }
 }
 

@@ -6,12 +6,14 @@ mod data;
 mod frame;
 pub mod laws;
 mod lexer;
-mod open;
+mod enclosing;
 mod printer;
 mod reader;
+mod strings;
 mod token;
 mod word;
 
 pub use data::{Data, Datum, DatumKind, Prefix, ReadError};
 pub use printer::print;
 pub use reader::read;
+pub use strings::print_string;

@@ -5,10 +5,12 @@ ghost use Rattle.std.specs.Option.{option_copied};
 ghost use Rattle.kan_grammar.specs.Data.Printed.{datum_text, named_text, pairs, pairs_within, prefix_name};
 ghost use Rattle.sexpr.specs.Meaning.{prefix_of};
 ghost use Rattle.sexpr.specs.Seen.{written};
-ghost use Rattle.sexpr.specs.Works.{within, rest_text, cost_within, work_text, works_text, work_cost, works_cost};
+ghost use Rattle.kan_terms.specs.Table.{name_of};
+ghost use Rattle.sexpr.specs.Printing.{string_atom_text, within, rest_text, cost_within, work_text, works_text, work_cost, works_cost};
 ghost use Rattle.sexpr.specs.declared.printer.Work.TheVariants as work_variants;
 
 use crate::data::{Datum, DatumKind, Prefix};
+use crate::strings::print_string;
 use kan_terms::{Memory, Names};
 use sqlite_items::Boxed;
 use std::alloc::Global;
@@ -27,7 +29,8 @@ pub(crate) enum Work<'a> {
 }
 
 /// The text of a datum, as it is read as pairs: with round parentheses, one space between elements, and prefixes written out as
-/// lists. A symbol without a name prints as nothing.
+/// lists. A symbol without a name prints as nothing, and so
+/// does a string without a text.
 pub fn print(alloc: Global, datum: &Datum, names: &Names) -> Result<Vec<u8>, Memory>
     ensures { IfOk result (λ text. text.items ≡ datum_text (written names.now datum.now)) }
 {
@@ -75,6 +78,7 @@ fn print_datum<'a>(
 {
     match &datum.kind {
         DatumKind::Symbol(number) => text.push_str(names.name(*number).unwrap_or(""))?,
+        DatumKind::Text(number) => print_text(*number, names, text)?,
         DatumKind::Number(number) => write!(text, "{number}")?,
         DatumKind::Truth(true) => text.push_str("#t")?,
         DatumKind::Truth(false) => text.push_str("#f")?,
@@ -94,6 +98,17 @@ fn print_datum<'a>(
         }
     }
     Ok(())
+}
+
+/// Prints the string that has a number, and nothing where none has it.
+fn print_text(number: u32, names: &Names, text: &mut String) -> Result<(), Memory>
+    ensures { OnOk result
+        (string_bytes text.new ≡ string_bytes text.old ++ string_atom_text (name_of names.now.strings number)) }
+{
+    match names.string(number) {
+        Some(string) => print_string(text, string),
+        None => Ok(()),
+    }
 }
 
 /// Prints a list, as far as its first element.
@@ -168,6 +183,7 @@ fn print_tail<'a>(
             works.push(Work::Datum(inner.get()))?;
         }
         DatumKind::Symbol(_) => return print_last(datum, names, text, works),
+        DatumKind::Text(_) => return print_last(datum, names, text, works),
         DatumKind::Number(_) => return print_last(datum, names, text, works),
         DatumKind::Truth(_) => return print_last(datum, names, text, works),
     }

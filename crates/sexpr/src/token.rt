@@ -14,7 +14,7 @@ pub(crate) enum Shape {
 }
 
 impl Shape {
-    /// Whether a close of a shape closes what was opened with this one.
+    /// Whether a close of a shape closes what was enclosing with this one.
     pub(crate) fn is_closed_by(self, close: Shape) -> bool
         ensures { result ≡ is_shape (Some (shape_of self)) (shape_of close) }
     {
@@ -29,6 +29,8 @@ impl Shape {
 #[derive(Clone, Copy)]
 pub(crate) enum Atom<'a> {
     Symbol(&'a str),
+    /// A string, by what stands between its quotation marks.
+    Text(&'a str),
     Number(i128),
     Truth(bool),
     /// A number that no datum can hold.
@@ -40,11 +42,13 @@ pub(crate) enum Atom<'a> {
 /// A token.
 #[derive(Clone, Copy)]
 pub(crate) enum Token<'a> {
-    Open(Shape),
-    Close(Shape),
+    Opening(Shape),
+    Closing(Shape),
     Prefix(Prefix),
     Dot,
     Atom(Atom<'a>),
-    /// What no text may hold.
+    /// A quotation mark that begins no string.
+    BadString,
+    /// What else no text may hold.
     Bad,
 }

@@ -2,7 +2,7 @@
 use Rattle.std.proofs.Common.{◌≡◌, ◌++◌, string_bytes}
 use Rattle.kan_grammar.specs.Data.Printed.{datum_text}
 use Rattle.sexpr.specs.Seen.{written}
-use Rattle.sexpr.specs.Works.{works_text, works_cost}
+use Rattle.sexpr.specs.Printing.{works_text, works_cost}
 use Rattle.sexpr.proofs.printer.print.Given as goal
 
 abbrev pub invariant-loop-work : goal.invariant-loop-work

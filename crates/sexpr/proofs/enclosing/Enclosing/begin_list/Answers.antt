@@ -1,7 +1,7 @@
 -- A list is opened inside what is open.
 use Rattle.std.proofs.Common.{◌+◌, refl}
 use Rattle.sexpr.proofs.FrameLaws.{takes_opening}
-use Rattle.sexpr.proofs.open.Open.begin_list.Goals as goal
+use Rattle.sexpr.proofs.enclosing.Enclosing.begin_list.Goals as goal
 
 pub returns-clause-taken : goal.returns-clause-taken
 returns-clause-taken c = λ names. takes_opening names c.args.self.now

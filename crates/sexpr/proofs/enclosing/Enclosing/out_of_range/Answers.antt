@@ -2,7 +2,7 @@
 use Rattle.std.proofs.Common.{refl}
 use Rattle.kan_grammar.specs.Data.Words.{atom, out_of_range}
 use Rattle.sexpr.proofs.FrameLaws.{refused_last}
-use Rattle.sexpr.proofs.open.Open.out_of_range.Goals as goal
+use Rattle.sexpr.proofs.enclosing.Enclosing.out_of_range.Goals as goal
 
 pub returns-in-Ok : goal.returns-in-Ok
 returns-in-Ok c = λ names. refused_last names c.args.self.now c.args.at c.requires c.in-Ok.ensures.place c.in-Ok.ensures.depth (atom out_of_range) refl

@@ -1,7 +1,7 @@
 -- A prefix is taken inside what is open.
 use Rattle.std.proofs.Common.{◌+◌, refl}
 use Rattle.sexpr.proofs.FrameLaws.{takes_prefix}
-use Rattle.sexpr.proofs.open.Open.begin_prefixed.Goals as goal
+use Rattle.sexpr.proofs.enclosing.Enclosing.begin_prefixed.Goals as goal
 
 pub returns-clause-taken : goal.returns-clause-taken
 returns-clause-taken c = λ names. takes_prefix names c.args.self.now

@@ -1,18 +1,24 @@
 -- What is left to print of a datum.
-use Rattle.std.specs.Prelude.{ℕ, ◌+◌, List, [], ◌∷◌, ◌++◌, map, Option}
+use Rattle.std.specs.Prelude.{ℕ, ◌+◌, List, [], ◌∷◌, ◌++◌, map, Option, None, Some}
 use Rattle.std.specs.Borrow.{Bor}
 use Rattle.std.specs.Option.{option_map, option_copied}
-use Rattle.kan_model.specs.Answers.Text.{print_rest}
+use Rattle.kan_model.specs.Answers.Text.{in_quotes, print_rest}
 use Rattle.kan_grammar.specs.Data.Written.{Written, Within, single, list, prefixed, close, dotted, element}
-use Rattle.kan_grammar.specs.Data.Printed.{Named, named_text, pairs, pairs_within}
-use Rattle.sexpr.specs.Seen.{Table, inner_of, written}
+use Rattle.kan_grammar.specs.Data.Printed.{Named, label_text, named_text, pairs, pairs_within}
+use Rattle.sexpr.specs.Seen.{inner_of, written}
+use Rattle.kan_terms.specs.Table.{Table, no_names}
 use Rattle.sexpr.specs.declared.data.Datum.{Datum}
 use Rattle.sexpr.specs.declared.printer.Work.{Work}
 use Rattle.sexpr.specs.declared.printer.Work.TheVariants as works
 
+-- the text of a string's atom
+abbrev pub string_atom_text : Option (List ℕ) → List ℕ
+string_atom_text (Some text) = in_quotes text
+string_atom_text None = []
+
 -- the text of what follows an element
 abbrev pub rest_text : Named → List ℕ
-rest_text t = print_rest (λ name. name) [] t
+rest_text t = print_rest label_text no_names t
 
 -- what elements and a datum after a dot stand for
 abbrev pub within : Table → Bor (List Datum) → Option (Bor Datum) → Within

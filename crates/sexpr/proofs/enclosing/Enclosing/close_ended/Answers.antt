@@ -6,9 +6,9 @@ use Rattle.sexpr.specs.Frames.{place}
 use Rattle.kan_grammar.specs.Data.Enclosing.{put}
 use Rattle.sexpr.proofs.SeenLaws.{written_dotted}
 use Rattle.sexpr.proofs.FrameLaws.{on_ok}
-use Rattle.sexpr.proofs.open.Open.close_ended.Goals as goal
+use Rattle.sexpr.proofs.enclosing.Enclosing.close_ended.Goals as goal
 
-pub returns-clause-open : goal.returns-clause-open
-returns-clause-open c = on_ok c.put.result (λ p names. p names
+pub returns-clause-around : goal.returns-clause-around
+returns-clause-around c = on_ok c.put.result (λ p names. p names
     ∙ ap (put as_kept (place names c.args.self.now)) (written_dotted names c.args.ended.list.at c.args.ended.list.items c.in_ok-last.last
-    ∙ ap (λ d. list_of c.args.ended.list.at (map (written names) c.args.ended.list.items) (Some (written names d))) c.in_ok-last.ensures)) c.put.ensures.open
+    ∙ ap (λ d. list_of c.args.ended.list.at (map (written names) c.args.ended.list.items) (Some (written names d))) c.in_ok-last.ensures)) c.put.ensures.around

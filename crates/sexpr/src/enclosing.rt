@@ -7,12 +7,13 @@ ghost use Rattle.kan_grammar.specs.Data.Written.{is_allowed_atom, single};
 ghost use Rattle.kan_grammar.specs.Data.Enclosing.{top, in_list, awaiting, put};
 ghost use Rattle.kan_grammar.specs.Data.Faults.{refusal, begins, is_shape, fault, answer_at_end};
 ghost use Rattle.sexpr.specs.Meaning.{shape_of, prefix_of};
-ghost use Rattle.sexpr.specs.Seen.{Table, list_of, written, as_kept};
-ghost use Rattle.sexpr.specs.Reads.{Answers, Refuses, memory_wanted};
-ghost use Rattle.sexpr.specs.Frames.{HasDepth, Takes, deepened, inside, open_of, place};
+ghost use Rattle.sexpr.specs.Seen.{list_of, written, as_kept};
+ghost use Rattle.kan_terms.specs.Table.{Table};
+ghost use Rattle.sexpr.specs.Reads.{Answers, memory_wanted};
+ghost use Rattle.sexpr.specs.Frames.{HasDepth, Refuses, RefusesToken, Takes, deepened, inside, enclosing_of, place};
 
 use crate::data::{Data, Datum, DatumKind, Prefix, ReadError};
-use crate::frame::{DottedList, Ended, Frame, OpenList};
+use crate::frame::{DottedFrame, Ended, Frame, ListFrame};
 use crate::token::Shape;
 use sqlite_items::Boxed;
 use std::alloc::Global;
@@ -23,22 +24,22 @@ const DEEPEST: usize = 2048;
 /// What is open: the data at the top, the frames from the outermost to the innermost, and the list in them whose last datum is
 /// there.
 #[derive(Drop)]
-pub(crate) struct Open {
+pub(crate) struct Enclosing {
     top: Data,
     frames: Vec<Frame>,
     ended: Option<Ended>,
     /// How deep a datum inside all frames stands.
     depth: usize,
-    alloc: Global,
+    pub(crate) alloc: Global,
 }
 
-impl Open {
+impl Enclosing {
     /// Nothing is open.
-    pub(crate) fn new(alloc: Global) -> Open
-        ensures open { (names : Table) → open_of names result ≡ awaiting (top []) }
+    pub(crate) fn new(alloc: Global) -> Enclosing
+        ensures around { (names : Table) → enclosing_of names result ≡ awaiting (top []) }
         ensures depth { HasDepth result }
     {
-        Open {
+        Enclosing {
             top: Data::new(alloc),
             frames: Vec::new(alloc),
             ended: None,
@@ -53,7 +54,7 @@ impl Open {
         ensures place { OnOk result (self.now.ended ≡ None) }
         ensures depth { OnOk result (self.now.depth ≤ 2048) }
         ensures refused { IfErr result (λ e.
-            (names : Table) (t : Token) → begins t ≡ true → Refuses e (refusal (open_of names self.now) at t)) }
+            (names : Table) (t : Token) → begins t ≡ true → Refuses e (refusal (enclosing_of names self.now) at t)) }
     {
         if let Some(ended) = &self.ended {
             return Err(ReadError::Fault(ended.list.point, 5));
@@ -68,14 +69,13 @@ impl Open {
     pub(crate) fn begin_list(&mut self, at: u32, shape: Shape) -> Result<(), ReadError>
         requires { HasDepth self.old }
         ensures taken { OnOk result ((names : Table) → Takes names self.old self.new at (opening (shape_of shape))) }
-        ensures refused { IfErr result (λ e.
-            (names : Table) → Refuses e (refusal (open_of names self.old) at (opening (shape_of shape)))) }
+        ensures refused { IfErr result (λ e. RefusesToken e self.old at (opening (shape_of shape))) }
         ensures depth { OnOk result (HasDepth self.new) }
     {
         self.may_begin(at)?;
         let items = Data::new(self.alloc);
         self.frames
-            .push(Frame::List(OpenList { at, shape, items }))?;
+            .push(Frame::List(ListFrame { at, shape, items }))?;
         self.depth += 1;
         Ok(())
     }
@@ -84,8 +84,7 @@ impl Open {
     pub(crate) fn begin_prefixed(&mut self, at: u32, kind: Prefix) -> Result<(), ReadError>
         requires { HasDepth self.old }
         ensures taken { OnOk result ((names : Table) → Takes names self.old self.new at (prefix (prefix_of kind))) }
-        ensures refused { IfErr result (λ e.
-            (names : Table) → Refuses e (refusal (open_of names self.old) at (prefix (prefix_of kind)))) }
+        ensures refused { IfErr result (λ e. RefusesToken e self.old at (prefix (prefix_of kind))) }
         ensures depth { OnOk result (HasDepth self.new) }
     {
         self.may_begin(at)?;
@@ -100,7 +99,7 @@ impl Open {
         ensures taken { OnOk result ((names : Table) (a : Atom) → is_allowed_atom a ≡ true
             → written names (record { at = at; kind = kind }) ≡ single at a → Takes names self.old self.new at (atom a)) }
         ensures refused { IfErr result (λ e.
-            (names : Table) (a : Atom) → Refuses e (refusal (open_of names self.old) at (atom a))) }
+            (names : Table) (a : Atom) → Refuses e (refusal (enclosing_of names self.old) at (atom a))) }
         ensures depth { OnOk result (HasDepth self.new) }
     {
         self.may_begin(at)?;
@@ -110,7 +109,7 @@ impl Open {
     /// Refuses a number out of range, where a datum may begin at all.
     pub(crate) fn out_of_range(&self, at: u32) -> ReadError
         requires { HasDepth self.now }
-        ensures { (names : Table) → Refuses result (refusal (open_of names self.now) at (atom out_of_range)) }
+        ensures { (names : Table) → Refuses result (refusal (enclosing_of names self.now) at (atom out_of_range)) }
     {
         match self.may_begin(at) {
             Ok(()) => ReadError::Fault(at, 7),
@@ -121,7 +120,7 @@ impl Open {
     /// Refuses a reserved name, where a datum may begin at all.
     pub(crate) fn reserved(&self, at: u32) -> ReadError
         requires { HasDepth self.now }
-        ensures { (names : Table) → Refuses result (refusal (open_of names self.now) at (atom reserved)) }
+        ensures { (names : Table) → Refuses result (refusal (enclosing_of names self.now) at (atom reserved)) }
     {
         match self.may_begin(at) {
             Ok(()) => ReadError::Fault(at, 8),
@@ -133,7 +132,7 @@ impl Open {
     pub(crate) fn take_dot(&mut self, at: u32) -> Result<(), ReadError>
         requires { HasDepth self.old }
         ensures taken { OnOk result ((names : Table) → Takes names self.old self.new at dot) }
-        ensures refused { IfErr result (λ e. (names : Table) → Refuses e (refusal (open_of names self.old) at dot)) }
+        ensures refused { IfErr result (λ e. RefusesToken e self.old at dot) }
         ensures depth { OnOk result (HasDepth self.new) }
     {
         let misplaced = Err(ReadError::Fault(at, 5));
@@ -143,7 +142,7 @@ impl Open {
         let Some(Frame::List(list)) = self.frames.pop() else {
             return misplaced;
         };
-        let OpenList {
+        let ListFrame {
             at: start,
             shape,
             items,
@@ -151,7 +150,7 @@ impl Open {
         if items.is_empty() {
             return misplaced;
         }
-        let dotted = DottedList {
+        let dotted = DottedFrame {
             at: start,
             shape,
             items,
@@ -166,8 +165,7 @@ impl Open {
     pub(crate) fn take_close(&mut self, at: u32, shape: Shape) -> Result<(), ReadError>
         requires { HasDepth self.old }
         ensures taken { OnOk result ((names : Table) → Takes names self.old self.new at (closing (shape_of shape))) }
-        ensures refused { IfErr result (λ e.
-            (names : Table) → Refuses e (refusal (open_of names self.old) at (closing (shape_of shape)))) }
+        ensures refused { IfErr result (λ e. RefusesToken e self.old at (closing (shape_of shape))) }
         ensures depth { OnOk result (HasDepth self.new) }
     {
         if let Some(ended) = self.ended.take() {
@@ -186,12 +184,12 @@ impl Open {
     }
 
     /// Closes a list that was taken from the frames.
-    fn close_list(&mut self, at: u32, shape: Shape, list: OpenList) -> Result<(), ReadError>
+    fn close_list(&mut self, at: u32, shape: Shape, list: ListFrame) -> Result<(), ReadError>
         requires depth { self.old.depth ≡ fold deepened 0 (self.old.frames.items ++ Frame.List list ∷ []) }
         requires bounded { self.old.depth ≤ 2050 }
         requires place { self.old.ended ≡ None }
         ensures shape { OnOk result (is_shape (Some (shape_of list.shape)) (shape_of shape) ≡ true) }
-        ensures open { OnOk result ((names : Table) → open_of names self.new
+        ensures around { OnOk result ((names : Table) → enclosing_of names self.new
             ≡ put as_kept (place names self.old) (list_of list.at (map (written names) list.items) None)) }
         ensures refused { IfErr result (λ e.
             Refuses e (if is_shape (Some (shape_of list.shape)) (shape_of shape) then None else Some (fault at 3))) }
@@ -211,7 +209,7 @@ impl Open {
         requires room { self.old.depth < 2050 }
         requires place { self.old.ended ≡ None }
         ensures shape { OnOk result (is_shape (Some (shape_of ended.list.shape)) (shape_of shape) ≡ true) }
-        ensures open { OnOk result ((names : Table) → open_of names self.new
+        ensures around { OnOk result ((names : Table) → enclosing_of names self.new
             ≡ put as_kept (place names self.old)
             (list_of ended.list.at (map (written names) ended.list.items) (Some (written names ended.last)))) }
         ensures refused { IfErr result (λ e.
@@ -229,7 +227,7 @@ impl Open {
 
     /// The data at the end of a text, where nothing is open.
     pub(crate) fn finish(self) -> Result<Data, ReadError>
-        ensures { (names : Table) → Answers names (answer_at_end (open_of names self)) result }
+        ensures { (names : Table) → Answers names (answer_at_end (enclosing_of names self)) result }
     {
         let mut rest = self;
         if let Some(ended) = &rest.ended {
@@ -248,8 +246,8 @@ impl Open {
         requires depth { HasDepth self.old }
         requires room { self.old.depth < 2050 }
         requires place { self.old.ended ≡ None }
-        ensures open { OnOk result ((names : Table) →
-            open_of names self.new ≡ put as_kept (place names self.old) (written names datum)) }
+        ensures around { OnOk result ((names : Table) →
+            enclosing_of names self.new ≡ put as_kept (place names self.old) (written names datum)) }
         ensures refused { IfErr result (λ e. e ≡ memory_wanted) }
         ensures depth { OnOk result (HasDepth self.new) }
     {
@@ -276,11 +274,11 @@ impl Open {
     }
 
     /// Puts a datum behind the elements of a list that was taken from the frames.
-    fn reopen(&mut self, list: OpenList, datum: Datum) -> Result<(), ReadError>
+    fn reopen(&mut self, list: ListFrame, datum: Datum) -> Result<(), ReadError>
         requires depth { self.old.depth ≡ fold deepened 0 (self.old.frames.items ++ Frame.List list ∷ []) }
         requires room { self.old.depth < 2050 }
         requires place { self.old.ended ≡ None }
-        ensures open { OnOk result ((names : Table) → open_of names self.new
+        ensures around { OnOk result ((names : Table) → enclosing_of names self.new
             ≡ awaiting (in_list (place names self.old) list.at (shape_of list.shape)
             (map (written names) list.items ++ written names datum ∷ []))) }
         ensures refused { IfErr result (λ e. e ≡ memory_wanted) }
@@ -294,10 +292,10 @@ impl Open {
     }
 
     /// Puts the datum after the dot of a list that was taken from the frames.
-    fn end(&mut self, list: DottedList, last: Datum)
+    fn end(&mut self, list: DottedFrame, last: Datum)
         requires depth { self.old.depth ≡ fold deepened 0 (self.old.frames.items ++ Frame.Dotted list ∷ []) }
         requires room { self.old.depth < 2050 }
-        ensures open { (names : Table) → open_of names self.new
+        ensures around { (names : Table) → enclosing_of names self.new
             ≡ put as_kept (inside names (place names self.old) (Frame.Dotted list)) (written names last) }
         ensures depth { HasDepth self.new }
     {
