@@ -29,7 +29,8 @@ pub fn may_bind(names: &Names, before: &[u32], symbol: u32) -> bool
 
 /// Adds the name that a part of a binder is, where it is one.
 pub fn add_name(flat: &FlatData, place: u32, bound: &mut Vec<u32>) -> Result<(), Memory>
-    ensures added { OnOk result (bound.new.items ≡ bound.old.items ++ names_of (site_at (sites flat.now) place)) }
+    ensures added { OnOk result
+        (bound.new.items ≡ bound.old.items ++ names_of (site_at (sites flat.now) place)) }
     ensures few { OnOk result (length bound.new.items ≤ length bound.old.items + 1) }
 {
     if let Part::Name(symbol) = flat.read(place).part {
@@ -40,7 +41,8 @@ pub fn add_name(flat: &FlatData, place: u32, bound: &mut Vec<u32>) -> Result<(),
 
 /// The names in a list.
 pub fn bound_names(alloc: Global, flat: &FlatData, mut place: u32) -> Result<Vec<u32>, Memory>
-    ensures names { IfOk result (λ bound. bound.items ≡ bound_names (site_at (sites flat.now) place)) }
+    ensures names { IfOk result
+        (λ bound. bound.items ≡ bound_names (site_at (sites flat.now) place)) }
     ensures few { IfOk result (λ bound. length bound.items ≤ place) }
 {
     let mut bound = Vec::new(alloc);

@@ -24,7 +24,8 @@ pub fn head_name(flat: &FlatData, head: u32) -> Option<(u32, u32)>
     }
 }
 
-/// The parameters of a relation: the names behind the first one of its head, none where that is no proper list.
+/// The parameters of a relation: the names behind the first one of its head, none where that is no
+/// proper list.
 pub fn head_params(alloc: Global, flat: &FlatData, head: u32) -> Result<Vec<u32>, Memory>
     ensures names { IfOk result (λ bound. (names : Table) →
         bound.items ≡ (head_of names (site_at (sites flat.now) head)).value) }

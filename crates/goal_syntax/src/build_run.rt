@@ -31,10 +31,13 @@ pub(crate) fn build_one(
     draft: &mut Draft,
 ) -> Result<u32, Memory>
     requires room { HasRoom (tables draft.old) }
-    ensures made { IfOk result (λ at. HasGoal (tables draft.new) at (list_goal context.now (within [] (symbol ∷ [])) goals)) }
+    ensures made { IfOk result
+        (λ at. HasGoal (tables draft.new) at
+        (list_goal context.now (within [] (symbol ∷ [])) goals)) }
     ensures grows { OnOk result (Grows (tables draft.old) (tables draft.new)) }
     ensures room { OnOk result (HasRoom (tables draft.new)) }
-    ensures closed { OnOk result (KeepsClosed (data_of context.now) (tables draft.old) (tables draft.new)
+    ensures closed { OnOk result
+        (KeepsClosed (data_of context.now) (tables draft.old) (tables draft.new)
         (λ rows. calls_named rows (list_goal context.now (within [] (symbol ∷ [])) goals))) }
     ensures equational { OnOk result (AddsEquational (tables draft.old) (tables draft.new)
         (is_equational (list_goal context.now (within [] (symbol ∷ [])) goals))) }
@@ -52,9 +55,15 @@ fn build_equation(bound: &[u32], draft: &mut Draft) -> Result<u32, Memory>
     ensures made { IfOk result (λ at. HasGoal (tables draft.new) at (asked_equation bound.now)) }
     ensures grows { OnOk result (Grows (tables draft.old) (tables draft.new)) }
     ensures room { OnOk result (HasRoom (tables draft.new)) }
-    ensures low { OnOk result (length bound.now ≤ 2048 → list_all is_low (templates draft.old) ≡ true → list_all is_low (templates draft.new) ≡ true) }
-    ensures called { OnOk result ((rows : List RelationEntry) → are_there rows (tables draft.new).goals ≡ are_there rows (tables draft.old).goals) }
-    ensures equational { OnOk result (are_equational_entries (tables draft.new).goals ≡ are_equational_entries (tables draft.old).goals) }
+    ensures low { OnOk result
+        (length bound.now ≤ 2048 → list_all is_low (templates draft.old)
+        ≡ true → list_all is_low (templates draft.new) ≡ true) }
+    ensures called { OnOk result
+        ((rows : List RelationEntry) → are_there rows (tables draft.new).goals
+        ≡ are_there rows (tables draft.old).goals) }
+    ensures equational { OnOk result
+        (are_equational_entries (tables draft.new).goals
+        ≡ are_equational_entries (tables draft.old).goals) }
 {
     let list = build_slots(bound, draft)?;
     let asked = add_term(draft, TermNode::Slot(0))?;
@@ -76,7 +85,8 @@ fn build_behind(
         HasGoal (tables draft.new) at (goal_behind context.now g scope.items goals)) }
     ensures grows { OnOk result (Grows (tables draft.old) (tables draft.new)) }
     ensures room { OnOk result (HasRoom (tables draft.new)) }
-    ensures closed { OnOk result (KeepsClosed (data_of context.now) (tables draft.old) (tables draft.new)
+    ensures closed { OnOk result
+        (KeepsClosed (data_of context.now) (tables draft.old) (tables draft.new)
         (λ rows. calls_named rows (list_goal context.now scope.items goals))) }
     ensures equational { OnOk result (AddsEquational (tables draft.old) (tables draft.new)
         (is_equational (list_goal context.now scope.items goals))) }
@@ -90,17 +100,14 @@ fn build_behind(
 }
 
 // Builds the fresh goal of a run over a list of names, whose variable is the list of these.
-fn build_fresh(
-    context: &Context,
-    binder: u32,
-    goals: u32,
-    draft: &mut Draft,
-) -> Result<u32, Memory>
+fn build_fresh(context: &Context, binder: u32, goals: u32, draft: &mut Draft) -> Result<u32, Memory>
     requires room { HasRoom (tables draft.old) }
-    ensures made { IfOk result (λ at. HasGoal (tables draft.new) at (fresh_goal context.now binder goals)) }
+    ensures made { IfOk result
+        (λ at. HasGoal (tables draft.new) at (fresh_goal context.now binder goals)) }
     ensures grows { OnOk result (Grows (tables draft.old) (tables draft.new)) }
     ensures room { OnOk result (HasRoom (tables draft.new)) }
-    ensures closed { OnOk result (KeepsClosed (data_of context.now) (tables draft.old) (tables draft.new)
+    ensures closed { OnOk result
+        (KeepsClosed (data_of context.now) (tables draft.old) (tables draft.new)
         (λ rows. calls_named rows (fresh_goal context.now binder goals))) }
     ensures equational { OnOk result (AddsEquational (tables draft.old) (tables draft.new)
         (is_equational (fresh_goal context.now binder goals))) }
@@ -146,10 +153,12 @@ pub(crate) fn build_list(
     draft: &mut Draft,
 ) -> Result<u32, Memory>
     requires room { HasRoom (tables draft.old) }
-    ensures made { IfOk result (λ at. HasGoal (tables draft.new) at (run_goal context.now binder goals)) }
+    ensures made { IfOk result
+        (λ at. HasGoal (tables draft.new) at (run_goal context.now binder goals)) }
     ensures grows { OnOk result (Grows (tables draft.old) (tables draft.new)) }
     ensures room { OnOk result (HasRoom (tables draft.new)) }
-    ensures closed { OnOk result (KeepsClosed (data_of context.now) (tables draft.old) (tables draft.new)
+    ensures closed { OnOk result
+        (KeepsClosed (data_of context.now) (tables draft.old) (tables draft.new)
         (λ rows. calls_named rows (run_goal context.now binder goals))) }
     ensures equational { OnOk result (AddsEquational (tables draft.old) (tables draft.new)
         (is_equational (run_goal context.now binder goals))) }

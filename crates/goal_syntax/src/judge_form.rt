@@ -14,7 +14,10 @@ ghost use Rattle.goal_forms.specs.RelationTables.{relations as relations_of};
 use crate::fault::{Fault, report};
 use crate::judge_binder::{judge_binder, judge_names};
 use crate::judge_goal::judge_goals;
-use goal_forms::{Context, FlatData, Form, Part, Relations, Word, binder_names, enter, head_name, head_params, is_proper, limit, may_bind, pair_parts, unnamed, word_of_symbol};
+use goal_forms::{
+    Context, FlatData, Form, Part, Relations, Word, binder_names, enter, head_name, head_params,
+    is_proper, limit, may_bind, pair_parts, unnamed, word_of_symbol,
+};
 use kan_terms::Memory;
 use std::alloc::Global;
 
@@ -28,10 +31,17 @@ fn is_new(relations: &Relations, before: u32, symbol: u32) -> bool
     }
 }
 
-// Notes the fault of a relation's name that is one of the language or has a relation among the first ones.
-fn judge_again(context: &Context, before: u32, head: u32, faults: &mut Vec<Fault>) -> Result<(), Memory>
+// Notes the fault of a relation's name that is one of the language or has a relation among the
+// first ones.
+fn judge_again(
+    context: &Context,
+    before: u32,
+    head: u32,
+    faults: &mut Vec<Fault>,
+) -> Result<(), Memory>
     ensures { OnOk result (AddsFaults faults.old.items faults.new.items
-        (again_faults context.now.names.now (take before (defined_in context.now)) (name_of_head (datum_at context.now head)))) }
+        (again_faults context.now.names.now (take before (defined_in context.now))
+        (name_of_head (datum_at context.now head)))) }
 {
     let Some((at, symbol)) = head_name(context.flat, head) else {
         return Ok(());
@@ -84,8 +94,14 @@ fn judge_limit(flat: &FlatData, place: Option<u32>, faults: &mut Vec<Fault>) -> 
 }
 
 // The one name of a run; its fault is noted.
-fn bind_one(context: &Context, at: u32, symbol: u32, faults: &mut Vec<Fault>) -> Result<Vec<u32>, Memory>
-    ensures bound { IfOk result (λ bound. bound.items ≡ (one_name context.now.names.now at symbol).value) }
+fn bind_one(
+    context: &Context,
+    at: u32,
+    symbol: u32,
+    faults: &mut Vec<Fault>,
+) -> Result<Vec<u32>, Memory>
+    ensures bound { IfOk result
+        (λ bound. bound.items ≡ (one_name context.now.names.now at symbol).value) }
     ensures faults { OnOk result (AddsFaults faults.old.items faults.new.items
         ((one_name context.now.names.now at symbol).faults)) }
 {
@@ -106,7 +122,8 @@ fn judge_body(
     faults: &mut Vec<Fault>,
 ) -> Result<(), Memory>
     ensures { OnOk result (AddsFaults faults.old.items faults.new.items
-        (goals_faults (defined_in context.now) (within scope.items bound.now) (goals_at context.now goals))) }
+        (goals_faults (defined_in context.now) (within scope.items bound.now)
+        (goals_at context.now goals))) }
 {
     enter(bound, &mut scope)?;
     judge_goals(context, goals, scope, faults)?;
@@ -121,7 +138,8 @@ pub(crate) fn judge_form(
     faults: &mut Vec<Fault>,
 ) -> Result<(), Memory>
     ensures { OnOk result (AddsFaults faults.old.items faults.new.items
-        (form_faults context.now.names.now (defined_in context.now) (take before (defined_in context.now)) (form_of context.now form))) }
+        (form_faults context.now.names.now (defined_in context.now)
+        (take before (defined_in context.now)) (form_of context.now form))) }
 {
     match form {
         Form::Relation(head, goals) => {

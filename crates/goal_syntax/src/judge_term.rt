@@ -31,9 +31,15 @@ fn judge_step(scope: &[Option<u32>], step: Step, faults: &mut Vec<Fault>) -> Res
 }
 
 // Puts the tasks of a step on the stack, the first one on top.
-fn wait_for(flat: &FlatData, names: &Names, step: Step, waiting: &mut Vec<Task>) -> Result<(), Memory>
+fn wait_for(
+    flat: &FlatData,
+    names: &Names,
+    step: Step,
+    waiting: &mut Vec<Task>,
+) -> Result<(), Memory>
     ensures uses { OnOk result (waiting_uses (sites flat.now) names.now waiting.new.items
-        ≡ later_uses (sites flat.now) names.now step ++ waiting_uses (sites flat.now) names.now waiting.old.items) }
+        ≡ later_uses (sites flat.now) names.now step
+        ++ waiting_uses (sites flat.now) names.now waiting.old.items) }
     ensures size { OnOk result (waiting_size (sites flat.now) waiting.new.items
         ≡ step_size (sites flat.now) step + waiting_size (sites flat.now) waiting.old.items) }
 {
