@@ -18,6 +18,7 @@ use goal_forms::{
     Context, FlatData, Form, Part, Relations, Word, binder_names, enter, head_name, head_params,
     is_proper, limit, may_bind, pair_parts, unnamed, word_of_symbol,
 };
+use kan_refusals::Refusal;
 use kan_terms::Memory;
 use std::alloc::Global;
 
@@ -48,7 +49,7 @@ fn judge_again(
     };
     let is_other = matches!(word_of_symbol(context.names, symbol), Word::Other);
     if !(is_other && is_new(context.relations, before, symbol)) {
-        report(faults, at, 14)?;
+        report(faults, at, Refusal::DefinedTwice)?;
     }
     Ok(())
 }
@@ -63,7 +64,7 @@ fn judge_head(context: &Context, head: u32, faults: &mut Vec<Fault>) -> Result<(
             judge_name(context.flat, name, faults)?;
             judge_names(context.alloc, context.flat, context.names, params, faults)
         }
-        _ => report(faults, context.flat.read(head).at, 10),
+        _ => report(faults, context.flat.read(head).at, Refusal::BadShape),
     }
 }
 
@@ -75,7 +76,7 @@ fn judge_name(flat: &FlatData, name: u32, faults: &mut Vec<Fault>) -> Result<(),
     let node = flat.read(name);
     match node.part {
         Part::Name(_) => Ok(()),
-        _ => report(faults, node.at, 10),
+        _ => report(faults, node.at, Refusal::BadShape),
     }
 }
 
@@ -89,7 +90,7 @@ fn judge_limit(flat: &FlatData, place: Option<u32>, faults: &mut Vec<Fault>) -> 
     };
     match limit(flat, place) {
         Some(_) => Ok(()),
-        None => report(faults, flat.read(place).at, 10),
+        None => report(faults, flat.read(place).at, Refusal::BadShape),
     }
 }
 
@@ -107,7 +108,7 @@ fn bind_one(
 {
     let mut bound = Vec::new(context.alloc);
     if !may_bind(context.names, &bound, symbol) {
-        report(faults, at, 10)?;
+        report(faults, at, Refusal::BadShape)?;
     }
     bound.push(symbol)?;
     Ok(bound)
@@ -159,7 +160,7 @@ pub(crate) fn judge_form(
             let bound = binder_names(context.alloc, context.flat, binder)?;
             judge_body(context, &bound, goals, unnamed(context.alloc)?, faults)
         }
-        Form::Misshapen(at) => report(faults, at, 10),
-        Form::Unknown(at) => report(faults, at, 9),
+        Form::Misshapen(at) => report(faults, at, Refusal::BadShape),
+        Form::Unknown(at) => report(faults, at, Refusal::UnknownForm),
     }
 }

@@ -21,6 +21,7 @@ use crate::judge_term::judge_term;
 use goal_forms::{
     Context, FlatData, Goal, Task, binder_names, enter, is_proper, pair_parts, parse_goal,
 };
+use kan_refusals::Refusal;
 use kan_terms::{Memory, Names};
 use std::alloc::Global;
 
@@ -73,8 +74,8 @@ fn judge_head(
         (call_faults (arity (defined_in context.now) symbol) at count)) }
 {
     match context.relations.params(symbol) {
-        None => report(faults, at, 12),
-        Some(params) if count != params => report(faults, at, 13),
+        None => report(faults, at, Refusal::UnknownRelation),
+        Some(params) if count != params => report(faults, at, Refusal::WrongCount),
         Some(_) => Ok(()),
     }
 }
@@ -138,7 +139,7 @@ fn judge_own(
             judge_head(context, at, symbol, count_terms(context.flat, args), faults)?;
             judge_terms(context, scope, args, faults)
         }
-        Goal::Misshapen(at) => report(faults, at, 10),
+        Goal::Misshapen(at) => report(faults, at, Refusal::BadShape),
         _ => Ok(()),
     }
 }
@@ -260,7 +261,7 @@ fn wait_for_clauses(
     if is_proper(context.flat, clause) {
         waiting.push(Waiting::Goals(clause))?;
     } else {
-        report(faults, context.flat.read(clause).at, 10)?;
+        report(faults, context.flat.read(clause).at, Refusal::BadShape)?;
     }
     Ok(())
 }

@@ -10,6 +10,7 @@ ghost use Rattle.goal_syntax.specs.Judging.TermsLeft.{own_uses, later_uses, wait
 
 use crate::fault::{Fault, report};
 use goal_forms::{FlatData, Step, Task, parse_task, slot_of};
+use kan_refusals::Refusal;
 use kan_terms::{Memory, Names};
 use std::alloc::Global;
 
@@ -21,11 +22,11 @@ fn judge_step(scope: &[Option<u32>], step: Step, faults: &mut Vec<Fault>) -> Res
     match step {
         Step::Variable(at, symbol) => {
             if slot_of(scope, symbol).is_none() {
-                report(faults, at, 11)?;
+                report(faults, at, Refusal::UnboundName)?;
             }
             Ok(())
         }
-        Step::Misshapen(at) => report(faults, at, 10),
+        Step::Misshapen(at) => report(faults, at, Refusal::BadShape),
         _ => Ok(()),
     }
 }

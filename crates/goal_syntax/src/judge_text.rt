@@ -15,7 +15,7 @@ use kan_terms::Memory;
 fn is_before(fault: Fault, other: Fault) -> bool
     ensures { result ≡ is_before (fault_of fault) (fault_of other) }
 {
-    fault.at < other.at || fault.at == other.at && fault.number <= other.number
+    fault.at < other.at || fault.at == other.at && fault.refusal.number() <= other.refusal.number()
 }
 
 // The first of a fault and maybe another.
