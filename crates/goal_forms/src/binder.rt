@@ -1,6 +1,6 @@
 //! Binders and tags.
 
-ghost use Rattle.std.specs.Prelude.{◌≡◌, ◌++◌, IfOk, OnOk, Some};
+ghost use Rattle.std.specs.Prelude.{◌≡◌, ◌≤◌, ◌<◌, ◌^◌, ◌+◌, ◌++◌, length, IfOk, OnOk, Some};
 ghost use Rattle.kan_terms.specs.Table.{Table};
 ghost use Rattle.kan_grammar.specs.Texts.Binders.{is_among, may_bind, names_of, bound_names, binder, quoted_symbol};
 ghost use Rattle.kan_grammar.specs.Texts.Resolved.{within};
@@ -29,7 +29,9 @@ pub fn may_bind(names: &Names, before: &[u32], symbol: u32) -> bool
 
 /// Adds the name that a part of a binder is, where it is one.
 pub fn add_name(flat: &FlatData, place: u32, bound: &mut Vec<u32>) -> Result<(), Memory>
-    ensures { OnOk result (bound.new.items ≡ bound.old.items ++ names_of (site_at (sites flat.now) place)) }
+    ensures added { OnOk result
+        (bound.new.items ≡ bound.old.items ++ names_of (site_at (sites flat.now) place)) }
+    ensures few { OnOk result (length bound.new.items ≤ length bound.old.items + 1) }
 {
     if let Part::Name(symbol) = flat.read(place).part {
         bound.push(symbol)?;
@@ -39,7 +41,9 @@ pub fn add_name(flat: &FlatData, place: u32, bound: &mut Vec<u32>) -> Result<(),
 
 /// The names in a list.
 pub fn bound_names(alloc: Global, flat: &FlatData, mut place: u32) -> Result<Vec<u32>, Memory>
-    ensures { IfOk result (λ bound. bound.items ≡ bound_names (site_at (sites flat.now) place)) }
+    ensures names { IfOk result
+        (λ bound. bound.items ≡ bound_names (site_at (sites flat.now) place)) }
+    ensures few { IfOk result (λ bound. length bound.items ≤ place) }
 {
     let mut bound = Vec::new(alloc);
     while let Some((first, rest)) = pair_parts(flat, place) {
@@ -51,7 +55,9 @@ pub fn bound_names(alloc: Global, flat: &FlatData, mut place: u32) -> Result<Vec
 
 /// The names of a binder: those in it where it is a proper list, else none.
 pub fn binder_names(alloc: Global, flat: &FlatData, place: u32) -> Result<Vec<u32>, Memory>
-    ensures { IfOk result (λ bound. (names : Table) → bound.items ≡ (binder names (site_at (sites flat.now) place)).value) }
+    ensures names { IfOk result (λ bound. (names : Table) →
+        bound.items ≡ (binder names (site_at (sites flat.now) place)).value) }
+    ensures few { IfOk result (λ bound. length bound.items < 2 ^ 32) }
 {
     if is_proper(flat, place) {
         bound_names(alloc, flat, place)

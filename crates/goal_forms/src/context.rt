@@ -6,7 +6,8 @@ use kan_grammar::Dialect;
 use kan_terms::Names;
 use std::alloc::Global;
 
-/// What the forms of a text are read in: their data, the table of names, and the relations that are defined.
+/// What the forms of a text are read in: their data, the table of names, and the relations that are
+/// defined.
 #[derive(Drop)]
 pub struct Context<'a> {
     /// What memory is taken from.

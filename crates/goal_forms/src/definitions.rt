@@ -19,7 +19,10 @@ fn define_all(
     forms: &[u32],
     rows: &mut Vec<Defined>,
 ) -> Result<(), Memory>
-    ensures { OnOk result (related rows.new.items ≡ related rows.old.items ++ definitions names.now (map (site_at (sites flat.now)) forms.now)) }
+    ensures { OnOk result
+        (related rows.new.items
+        ≡ related rows.old.items
+        ++ definitions names.now (map (site_at (sites flat.now)) forms.now)) }
 {
     for place in forms {
         if let Some(relation) = defined_by(flat, names, *place) {
@@ -49,8 +52,11 @@ pub fn define(
 ) -> Result<(Relations, u32), Memory>
     requires { length library.now + length text.now < 2 ^ 32 }
     ensures relations { IfOk result (λ made. relations made.0
-        ≡ definitions names.now (map (site_at (sites flat.now)) library.now) ++ definitions names.now (map (site_at (sites flat.now)) text.now)) }
-    ensures before { IfOk result (λ made. made.1 ≡ length (definitions names.now (map (site_at (sites flat.now)) library.now))) }
+        ≡ definitions names.now (map (site_at (sites flat.now)) library.now)
+        ++ definitions names.now (map (site_at (sites flat.now)) text.now)) }
+    ensures before { IfOk result
+        (λ made. made.1 ≡ length
+        (definitions names.now (map (site_at (sites flat.now)) library.now))) }
     ensures few { IfOk result (λ made. length (relations made.0) < 2 ^ 32) }
 {
     let mut rows = Vec::new(alloc);

@@ -67,7 +67,8 @@ impl FlatData {
     /// Adds a part, and gives its place. A full table has no memory left.
     pub fn push(&mut self, node: FlatPart) -> Result<u32, Memory>
         requires { IsTrue (is_grown (length (sites self.old)) node) }
-        ensures added { OnOk result (sites self.new ≡ sites self.old ++ node_site (sites self.old) node ∷ []) }
+        ensures added { OnOk result
+            (sites self.new ≡ sites self.old ++ node_site (sites self.old) node ∷ []) }
         ensures place { IfOk result (λ place. place ≡ length (sites self.old)) }
         ensures unchanged { OnErr result (sites self.new ≡ sites self.old) }
     {

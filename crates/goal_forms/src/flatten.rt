@@ -17,7 +17,7 @@ ghost use Rattle.goal_forms.specs.declared.flatten.Work.TheVariants as works_of;
 ghost use Rattle.std.specs.Option.{option_copied};
 ghost use Rattle.goal_forms.specs.Places.{are_below, kept, joined, prefixed_last};
 
-use crate::flat_data::{FlatPart, FlatData, Part};
+use crate::flat_data::{FlatData, FlatPart, Part};
 use crate::prefixes::Prefixes;
 use kan_terms::{Memory, Names};
 use sexpr::{Datum, DatumKind, Prefix};
@@ -40,8 +40,10 @@ pub enum Work<'a> {
 // Adds a part to the table, and its place to those that were made.
 fn put(at: u32, part: Part, table: &mut FlatData, places: &mut Vec<u32>) -> Result<(), Memory>
     requires there { is_there (length (sites table.old)) part ≡ true }
-    ensures table { OnOk result (sites table.new ≡ sites table.old ++ part_site (sites table.old) at part ∷ []) }
-    ensures places { OnOk result (places.new.items ≡ places.old.items ++ length (sites table.old) ∷ []) }
+    ensures table { OnOk result
+        (sites table.new ≡ sites table.old ++ part_site (sites table.old) at part ∷ []) }
+    ensures places { OnOk result
+        (places.new.items ≡ places.old.items ++ length (sites table.old) ∷ []) }
 {
     let place = table.push(FlatPart { at, part })?;
     places.push(place)?;
@@ -50,7 +52,8 @@ fn put(at: u32, part: Part, table: &mut FlatData, places: &mut Vec<u32>) -> Resu
 
 // The part that a symbol is; one without a name is nothing.
 fn symbol_part(names: &Names, symbol: u32) -> Part
-    ensures part { (ds : List Sited) → (at : ℕ) → part_site ds at result ≡ atom_with_site names.now at (symbol_atom (name_of names.now.symbols symbol)) }
+    ensures part { (ds : List Sited) → (at : ℕ) → part_site ds at result
+        ≡ atom_with_site names.now at (symbol_atom (name_of names.now.symbols symbol)) }
     ensures there { (n : ℕ) → is_there n result ≡ true }
 {
     match names.name(symbol) {
@@ -61,7 +64,8 @@ fn symbol_part(names: &Names, symbol: u32) -> Part
 
 // The part that a string is; one without a text is nothing.
 fn text_part(names: &Names, text: u32) -> Part
-    ensures part { (ds : List Sited) → (at : ℕ) → part_site ds at result ≡ atom_with_site names.now at (string_atom (name_of names.now.strings text)) }
+    ensures part { (ds : List Sited) → (at : ℕ) → part_site ds at result
+        ≡ atom_with_site names.now at (string_atom (name_of names.now.strings text)) }
     ensures there { (n : ℕ) → is_there n result ≡ true }
 {
     match names.string(text) {
@@ -73,9 +77,13 @@ fn text_part(names: &Names, text: u32) -> Part
 // Makes the pair of the two parts that were made last.
 fn join(at: u32, table: &mut FlatData, places: &mut Vec<u32>) -> Result<(), Memory>
     requires { are_below (length (sites table.old)) places.old.items ≡ true }
-    ensures made { OnOk result (kept (sites table.new) places.new.items ≡ joined at (kept (sites table.old) places.old.items)) }
+    ensures made { OnOk result
+        (kept (sites table.new) places.new.items
+        ≡ joined at (kept (sites table.old) places.old.items)) }
     ensures below { OnOk result (are_below (length (sites table.new)) places.new.items ≡ true) }
-    ensures low { OnOk result (list_all is_low_datum (joined at (kept (sites table.old) places.old.items)) ≡ true → AreLow (sites table.old) → AreLow (sites table.new)) }
+    ensures low { OnOk result
+        (list_all is_low_datum (joined at (kept (sites table.old) places.old.items))
+        ≡ true → AreLow (sites table.old) → AreLow (sites table.new)) }
 {
     let Some(rest) = places.pop() else {
         return Ok(());
@@ -90,9 +98,13 @@ fn join(at: u32, table: &mut FlatData, places: &mut Vec<u32>) -> Result<(), Memo
 // Makes the list of a symbol and the part that was made last.
 fn prefix(at: u32, symbol: u32, table: &mut FlatData, places: &mut Vec<u32>) -> Result<(), Memory>
     requires { are_below (length (sites table.old)) places.old.items ≡ true }
-    ensures made { OnOk result (kept (sites table.new) places.new.items ≡ prefixed_last at symbol (kept (sites table.old) places.old.items)) }
+    ensures made { OnOk result
+        (kept (sites table.new) places.new.items
+        ≡ prefixed_last at symbol (kept (sites table.old) places.old.items)) }
     ensures below { OnOk result (are_below (length (sites table.new)) places.new.items ≡ true) }
-    ensures low { OnOk result (list_all is_low_datum (prefixed_last at symbol (kept (sites table.old) places.old.items)) ≡ true → AreLow (sites table.old) → AreLow (sites table.new)) }
+    ensures low { OnOk result
+        (list_all is_low_datum (prefixed_last at symbol (kept (sites table.old) places.old.items))
+        ≡ true → AreLow (sites table.old) → AreLow (sites table.new)) }
 {
     let Some(datum) = places.pop() else {
         return Ok(());
@@ -109,9 +121,13 @@ fn prefix(at: u32, symbol: u32, table: &mut FlatData, places: &mut Vec<u32>) -> 
 fn make(at: u32, part: Part, table: &mut FlatData, places: &mut Vec<u32>) -> Result<(), Memory>
     requires there { is_there (length (sites table.old)) part ≡ true }
     requires below { are_below (length (sites table.old)) places.old.items ≡ true }
-    ensures made { OnOk result (kept (sites table.new) places.new.items ≡ part_site (sites table.old) at part ∷ kept (sites table.old) places.old.items) }
+    ensures made { OnOk result
+        (kept (sites table.new) places.new.items
+        ≡ part_site (sites table.old) at part ∷ kept (sites table.old) places.old.items) }
     ensures below { OnOk result (are_below (length (sites table.new)) places.new.items ≡ true) }
-    ensures low { OnOk result (is_low_datum (part_site (sites table.old) at part) ≡ true → AreLow (sites table.old) → AreLow (sites table.new)) }
+    ensures low { OnOk result
+        (is_low_datum (part_site (sites table.old) at part)
+        ≡ true → AreLow (sites table.old) → AreLow (sites table.new)) }
 {
     put(at, part, table, places)?;
     Ok(())
@@ -129,7 +145,8 @@ fn lent(last: &Option<Boxed<Datum>>) -> Option<&Datum>
 
 // The number of the symbol that a prefix stands for.
 fn prefix_symbol(prefixes: &Prefixes, prefix: Prefix) -> u32
-    ensures { (names : Table) → AreNumbered names prefixes.now → symbol_number names (prefix_name (prefix_of prefix)) ≡ result }
+    ensures { (names : Table) → AreNumbered names prefixes.now →
+        symbol_number names (prefix_name (prefix_of prefix)) ≡ result }
 {
     match prefix {
         Prefix::Quote => prefixes.quote,
@@ -149,11 +166,18 @@ fn turn_datum<'a>(
 ) -> Result<(), Memory>
     requires numbered { AreNumbered names.now prefixes.now }
     requires below { are_below (length (sites table.old)) places.old.items ≡ true }
-    ensures made { OnOk result (finish names.now (reverse works.new.items) (kept (sites table.new) places.new.items)
-        ≡ finish names.now (works_of.Datum datum.entry ∷ reverse works.old.items) (kept (sites table.old) places.old.items)) }
+    ensures made { OnOk result
+        (finish names.now (reverse works.new.items) (kept (sites table.new) places.new.items)
+        ≡ finish names.now (works_of.Datum datum.entry ∷ reverse works.old.items)
+        (kept (sites table.old) places.old.items)) }
     ensures below { OnOk result (are_below (length (sites table.new)) places.new.items ≡ true) }
-    ensures low { OnOk result (WorksLow names.now (works_of.Datum datum.entry ∷ reverse works.old.items) (sites table.old) places.old.items → WorksLow names.now (reverse works.new.items) (sites table.new) places.new.items) }
-    ensures falls { OnOk result (works_size names.now works.new.items < work_size names.now (works_of.Datum datum.entry) + works_size names.now works.old.items) }
+    ensures low { OnOk result
+        (WorksLow names.now (works_of.Datum datum.entry ∷ reverse works.old.items)
+        (sites table.old) places.old.items →
+        WorksLow names.now (reverse works.new.items) (sites table.new) places.new.items) }
+    ensures falls { OnOk result
+        (works_size names.now works.new.items
+        < work_size names.now (works_of.Datum datum.entry) + works_size names.now works.old.items) }
 {
     match &datum.kind {
         DatumKind::Symbol(symbol) => make(datum.at, symbol_part(names, *symbol), table, places)?,
@@ -184,11 +208,19 @@ fn turn_rest<'a>(
     works: &mut Vec<Work<'a>>,
 ) -> Result<(), Memory>
     requires { are_below (length (sites table.old)) places.old.items ≡ true }
-    ensures made { OnOk result (finish names.now (reverse works.new.items) (kept (sites table.new) places.new.items)
-        ≡ finish names.now (works_of.Rest items.entry last.entry at ∷ reverse works.old.items) (kept (sites table.old) places.old.items)) }
+    ensures made { OnOk result
+        (finish names.now (reverse works.new.items) (kept (sites table.new) places.new.items)
+        ≡ finish names.now (works_of.Rest items.entry last.entry at ∷ reverse works.old.items)
+        (kept (sites table.old) places.old.items)) }
     ensures below { OnOk result (are_below (length (sites table.new)) places.new.items ≡ true) }
-    ensures low { OnOk result (WorksLow names.now (works_of.Rest items.entry last.entry at ∷ reverse works.old.items) (sites table.old) places.old.items → WorksLow names.now (reverse works.new.items) (sites table.new) places.new.items) }
-    ensures falls { OnOk result (works_size names.now works.new.items < work_size names.now (works_of.Rest items.entry last.entry at) + works_size names.now works.old.items) }
+    ensures low { OnOk result
+        (WorksLow names.now (works_of.Rest items.entry last.entry at ∷ reverse works.old.items)
+        (sites table.old) places.old.items →
+        WorksLow names.now (reverse works.new.items) (sites table.new) places.new.items) }
+    ensures falls { OnOk result
+        (works_size names.now works.new.items
+        < work_size names.now
+        (works_of.Rest items.entry last.entry at) + works_size names.now works.old.items) }
 {
     if let Some((first, rest)) = items.split_first() {
         works.push(Work::Pair(at))?;
@@ -214,11 +246,18 @@ fn turn_work<'a>(
 ) -> Result<(), Memory>
     requires numbered { AreNumbered names.now prefixes.now }
     requires below { are_below (length (sites table.old)) places.old.items ≡ true }
-    ensures made { OnOk result (finish names.now (reverse works.new.items) (kept (sites table.new) places.new.items)
-        ≡ finish names.now (work.entry ∷ reverse works.old.items) (kept (sites table.old) places.old.items)) }
+    ensures made { OnOk result
+        (finish names.now (reverse works.new.items) (kept (sites table.new) places.new.items)
+        ≡ finish names.now (work.entry ∷ reverse works.old.items)
+        (kept (sites table.old) places.old.items)) }
     ensures below { OnOk result (are_below (length (sites table.new)) places.new.items ≡ true) }
-    ensures low { OnOk result (WorksLow names.now (work.entry ∷ reverse works.old.items) (sites table.old) places.old.items → WorksLow names.now (reverse works.new.items) (sites table.new) places.new.items) }
-    ensures falls { OnOk result (works_size names.now works.new.items < work_size names.now work.entry + works_size names.now works.old.items) }
+    ensures low { OnOk result
+        (WorksLow names.now (work.entry ∷ reverse works.old.items)
+        (sites table.old) places.old.items →
+        WorksLow names.now (reverse works.new.items) (sites table.new) places.new.items) }
+    ensures falls { OnOk result
+        (works_size names.now works.new.items
+        < work_size names.now work.entry + works_size names.now works.old.items) }
 {
     match work {
         Work::Datum(datum) => turn_datum(datum, names, prefixes, table, places, works)?,
@@ -241,9 +280,13 @@ fn turn_one(
     requires numbered { AreNumbered names.now prefixes.now }
     requires below { are_below (length (sites table.old)) places.old.items ≡ true }
     ensures made { OnOk result (kept (sites table.new) places.new.items
-        ≡ with_sites names.now (written names.now datum.now) ∷ kept (sites table.old) places.old.items) }
+        ≡ with_sites names.now (written names.now datum.now)
+        ∷ kept (sites table.old) places.old.items) }
     ensures below { OnOk result (are_below (length (sites table.new)) places.new.items ≡ true) }
-    ensures low { OnOk result (is_low_datum (with_sites names.now (written names.now datum.now)) ≡ true → list_all is_low_datum (kept (sites table.old) places.old.items) ≡ true → AreLow (sites table.old) → AreLow (sites table.new)) }
+    ensures low { OnOk result
+        (is_low_datum (with_sites names.now (written names.now datum.now))
+        ≡ true → list_all is_low_datum (kept (sites table.old) places.old.items)
+        ≡ true → AreLow (sites table.old) → AreLow (sites table.new)) }
 {
     let mut works = Vec::new(alloc);
     works.push(Work::Datum(datum))?;
@@ -267,7 +310,10 @@ fn turn(
     ensures made { OnOk result (kept (sites table.new) places.new.items
         ≡ reverse (map (meaning names.now) forms.now) ++ kept (sites table.old) places.old.items) }
     ensures below { OnOk result (are_below (length (sites table.new)) places.new.items ≡ true) }
-    ensures low { OnOk result (AreLow (map (meaning names.now) forms.now) → list_all is_low_datum (kept (sites table.old) places.old.items) ≡ true → AreLow (sites table.old) → AreLow (sites table.new)) }
+    ensures low { OnOk result
+        (AreLow (map (meaning names.now) forms.now) →
+        list_all is_low_datum (kept (sites table.old) places.old.items)
+        ≡ true → AreLow (sites table.old) → AreLow (sites table.new)) }
 {
     for datum in forms {
         turn_one(alloc, datum, names, prefixes, table, places)?;
@@ -275,7 +321,8 @@ fn turn(
     Ok(())
 }
 
-/// Turns the data of a library and those of a text, and gives their places, those of the library first.
+/// Turns the data of a library and those of a text, and gives their places, those of the library
+/// first.
 pub fn turn_both(
     alloc: Global,
     library: &[Datum],
@@ -285,8 +332,12 @@ pub fn turn_both(
     table: &mut FlatData,
 ) -> Result<Vec<u32>, Memory>
     requires { AreNumbered names.now prefixes.now }
-    ensures made { IfOk result (λ places. map (site_at (sites table.new)) places.items ≡ map (meaning names.now) library.now ++ map (meaning names.now) text.now) }
-    ensures low { OnOk result (AreLow (map (meaning names.now) library.now) → AreLow (map (meaning names.now) text.now) → AreLow (sites table.old) → AreLow (sites table.new)) }
+    ensures made { IfOk result
+        (λ places. map (site_at (sites table.new)) places.items
+        ≡ map (meaning names.now) library.now ++ map (meaning names.now) text.now) }
+    ensures low { OnOk result
+        (AreLow (map (meaning names.now) library.now) → AreLow (map (meaning names.now) text.now) →
+        AreLow (sites table.old) → AreLow (sites table.new)) }
 {
     let mut places = Vec::new(alloc);
     turn(alloc, library, names, prefixes, table, &mut places)?;

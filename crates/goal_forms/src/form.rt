@@ -30,7 +30,8 @@ pub enum Form {
 
 /// What the top form at a place is.
 pub fn parse_form(flat: &FlatData, names: &Names, place: u32) -> Form
-    ensures { step_top (sites flat.now) names.now result ≡ form names.now (site_at (sites flat.now) place) }
+    ensures { step_top (sites flat.now) names.now result
+        ≡ form names.now (site_at (sites flat.now) place) }
 {
     let node = flat.read(place);
     match node.part {
@@ -46,7 +47,8 @@ pub fn parse_form(flat: &FlatData, names: &Names, place: u32) -> Form
 
 // The relation with these parts.
 fn parse_relation(flat: &FlatData, names: &Names, at: u32, parts: u32) -> Form
-    ensures { step_top (sites flat.now) names.now result ≡ relation_form names.now at (site_at (sites flat.now) parts) }
+    ensures { step_top (sites flat.now) names.now result
+        ≡ relation_form names.now at (site_at (sites flat.now) parts) }
 {
     match pair_parts(flat, parts) {
         Some((head, goals)) if is_proper(flat, goals) => Form::Relation(head, goals),
@@ -56,7 +58,8 @@ fn parse_relation(flat: &FlatData, names: &Names, at: u32, parts: u32) -> Form
 
 // The run with these parts, of which the first is its limit.
 fn parse_limited(flat: &FlatData, names: &Names, at: u32, parts: u32) -> Form
-    ensures { step_top (sites flat.now) names.now result ≡ limited_form names.now at (site_at (sites flat.now) parts) }
+    ensures { step_top (sites flat.now) names.now result
+        ≡ limited_form names.now at (site_at (sites flat.now) parts) }
 {
     match pair_parts(flat, parts) {
         Some((limit, parts)) => parse_run(flat, names, at, Some(limit), parts),
@@ -66,7 +69,8 @@ fn parse_limited(flat: &FlatData, names: &Names, at: u32, parts: u32) -> Form
 
 // The run with these parts behind its limit.
 fn parse_run(flat: &FlatData, names: &Names, at: u32, limit: Option<u32>, parts: u32) -> Form
-    ensures { step_top (sites flat.now) names.now result ≡ run_form names.now at (limit_at (sites flat.now) limit) (site_at (sites flat.now) parts) }
+    ensures { step_top (sites flat.now) names.now result
+        ≡ run_form names.now at (limit_at (sites flat.now) limit) (site_at (sites flat.now) parts) }
 {
     match pair_parts(flat, parts) {
         Some((binder, goals)) if is_proper(flat, goals) => parse_binder(
@@ -79,7 +83,8 @@ fn parse_run(flat: &FlatData, names: &Names, at: u32, limit: Option<u32>, parts:
 // The run with this limit, this binder and these goals.
 fn parse_binder(flat: &FlatData, names: &Names, limit: Option<u32>, binder: u32, goals: u32) -> Form
     ensures { step_top (sites flat.now) names.now result
-        ≡ run_with names.now (limit_at (sites flat.now) limit) (site_at (sites flat.now) binder) (site_at (sites flat.now) goals) }
+        ≡ run_with names.now (limit_at (sites flat.now) limit) (site_at (sites flat.now) binder)
+        (site_at (sites flat.now) goals) }
 {
     let node = flat.read(binder);
     match node.part {
@@ -102,7 +107,8 @@ pub fn defined_by(flat: &FlatData, names: &Names, place: u32) -> Option<Defined>
 
 // The relation that a head defines, where it defines one.
 fn definitions_of_head(flat: &FlatData, names: &Names, head: u32) -> Option<Defined>
-    ensures { related_maybe result ≡ definitions_of_head names.now (elements (site_at (sites flat.now) head)) }
+    ensures { related_maybe result
+        ≡ definitions_of_head names.now (elements (site_at (sites flat.now) head)) }
 {
     let (first, rest) = pair_parts(flat, head)?;
     let params = count(flat, rest)?;

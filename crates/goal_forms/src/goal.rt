@@ -59,7 +59,8 @@ fn fits(word: Word, parts: Option<u32>) -> bool
 
 // The goal that a symbol is.
 fn parse_atom(at: u32, word: Word) -> Goal
-    ensures form { (ds : List Sited) → (names : Table) → step_goal ds names result ≡ atom_goal (word_of word) at }
+    ensures form { (ds : List Sited) → (names : Table) → step_goal ds names result
+        ≡ atom_goal (word_of word) at }
     ensures size { (ds : List Sited) → step_goal_size ds result ≡ 0 }
 {
     match word {
@@ -71,8 +72,10 @@ fn parse_atom(at: u32, word: Word) -> Goal
 
 // The goal of a fresh with these parts.
 fn parse_fresh(flat: &FlatData, names: &Names, at: u32, parts: u32) -> Goal
-    ensures form { step_goal (sites flat.now) names.now result ≡ fresh_form names.now at (site_at (sites flat.now) parts) }
-    ensures size { step_goal_size (sites flat.now) result ≤ site_size (site_at (sites flat.now) parts) }
+    ensures form { step_goal (sites flat.now) names.now result
+        ≡ fresh_form names.now at (site_at (sites flat.now) parts) }
+    ensures size { step_goal_size (sites flat.now) result
+        ≤ site_size (site_at (sites flat.now) parts) }
 {
     match pair_parts(flat, parts) {
         Some((binder, goals)) => Goal::Fresh(binder, goals),
@@ -82,9 +85,12 @@ fn parse_fresh(flat: &FlatData, names: &Names, at: u32, parts: u32) -> Goal
 
 // The goal that a head, which is this name of the language, makes of its parts.
 fn parse_word(flat: &FlatData, names: &Names, at: u32, head: u32, symbol: u32, parts: u32) -> Goal
-    requires { is_count (parts_of (word names.now symbol)) (count (site_at (sites flat.now) parts)) ≡ true }
-    ensures form { step_goal (sites flat.now) names.now result ≡ goal_form names.now (pair at (name head symbol) (site_at (sites flat.now) parts)) }
-    ensures size { step_goal_size (sites flat.now) result ≤ site_size (site_at (sites flat.now) parts) }
+    requires { is_count (parts_of (word names.now symbol)) (count (site_at (sites flat.now) parts))
+        ≡ true }
+    ensures form { step_goal (sites flat.now) names.now result
+        ≡ goal_form names.now (pair at (name head symbol) (site_at (sites flat.now) parts)) }
+    ensures size { step_goal_size (sites flat.now) result
+        ≤ site_size (site_at (sites flat.now) parts) }
 {
     match word_of_symbol(names, symbol) {
         Word::Same => Goal::Same(first(flat, parts), first(flat, rest(flat, parts))),
@@ -104,8 +110,10 @@ fn parse_word(flat: &FlatData, names: &Names, at: u32, head: u32, symbol: u32, p
 
 // The goal of a list with a symbol for its head.
 fn parse_form(flat: &FlatData, names: &Names, at: u32, head: u32, symbol: u32, parts: u32) -> Goal
-    ensures form { step_goal (sites flat.now) names.now result ≡ goal_form names.now (pair at (name head symbol) (site_at (sites flat.now) parts)) }
-    ensures size { step_goal_size (sites flat.now) result ≤ site_size (site_at (sites flat.now) parts) }
+    ensures form { step_goal (sites flat.now) names.now result
+        ≡ goal_form names.now (pair at (name head symbol) (site_at (sites flat.now) parts)) }
+    ensures size { step_goal_size (sites flat.now) result
+        ≤ site_size (site_at (sites flat.now) parts) }
 {
     if fits(word_of_symbol(names, symbol), count(flat, parts)) {
         parse_word(flat, names, at, head, symbol, parts)
@@ -116,8 +124,10 @@ fn parse_form(flat: &FlatData, names: &Names, at: u32, head: u32, symbol: u32, p
 
 /// What the goal at a place is.
 pub fn parse_goal(flat: &FlatData, names: &Names, place: u32) -> Goal
-    ensures form { step_goal (sites flat.now) names.now result ≡ goal_form names.now (site_at (sites flat.now) place) }
-    ensures size { step_goal_size (sites flat.now) result < site_size (site_at (sites flat.now) place) }
+    ensures form { step_goal (sites flat.now) names.now result
+        ≡ goal_form names.now (site_at (sites flat.now) place) }
+    ensures size { step_goal_size (sites flat.now) result
+        < site_size (site_at (sites flat.now) place) }
 {
     let node = flat.read(place);
     match node.part {
@@ -129,8 +139,11 @@ pub fn parse_goal(flat: &FlatData, names: &Names, place: u32) -> Goal
 
 // The goal of a list by its head and its parts.
 fn parse_list(flat: &FlatData, names: &Names, at: u32, head: u32, parts: u32) -> Goal
-    ensures form { step_goal (sites flat.now) names.now result ≡ goal_form names.now (pair at (site_at (sites flat.now) head) (site_at (sites flat.now) parts)) }
-    ensures size { step_goal_size (sites flat.now) result ≤ site_size (site_at (sites flat.now) parts) }
+    ensures form { step_goal (sites flat.now) names.now result
+        ≡ goal_form names.now
+        (pair at (site_at (sites flat.now) head) (site_at (sites flat.now) parts)) }
+    ensures size { step_goal_size (sites flat.now) result
+        ≤ site_size (site_at (sites flat.now) parts) }
 {
     let node = flat.read(head);
     match node.part {

@@ -1,6 +1,6 @@
 //! The heads of relations.
 
-ghost use Rattle.std.specs.Prelude.{◌≡◌, IfOk, option_map};
+ghost use Rattle.std.specs.Prelude.{◌≡◌, ◌<◌, ◌^◌, length, IfOk, option_map};
 ghost use Rattle.kan_terms.specs.Table.{Table};
 ghost use Rattle.kan_grammar.specs.Texts.TopForms.{head as head_of, head_name as name_of_head};
 ghost use Rattle.goal_forms.specs.FormSteps.{named};
@@ -24,9 +24,12 @@ pub fn head_name(flat: &FlatData, head: u32) -> Option<(u32, u32)>
     }
 }
 
-/// The parameters of a relation: the names behind the first one of its head, none where that is no proper list.
+/// The parameters of a relation: the names behind the first one of its head, none where that is no
+/// proper list.
 pub fn head_params(alloc: Global, flat: &FlatData, head: u32) -> Result<Vec<u32>, Memory>
-    ensures { IfOk result (λ bound. (names : Table) → bound.items ≡ (head_of names (site_at (sites flat.now) head)).value) }
+    ensures names { IfOk result (λ bound. (names : Table) →
+        bound.items ≡ (head_of names (site_at (sites flat.now) head)).value) }
+    ensures few { IfOk result (λ bound. length bound.items < 2 ^ 32) }
 {
     match pair_parts(flat, head) {
         Some((_, params)) if is_proper(flat, params) => bound_names(alloc, flat, params),

@@ -1,4 +1,5 @@
-//! The forms of texts: data flattened into a table of parts, and terms, goals and top forms parsed from it one step at a time.
+//! The forms of texts: data flattened into a table of parts, and terms, goals and top forms parsed
+//! from it one step at a time.
 #![tactic(auto)]
 
 mod binder;
@@ -20,7 +21,7 @@ mod word;
 pub use binder::{add_name, binder_names, bound_names, enter, may_bind, quoted_symbol};
 pub use context::Context;
 pub use definitions::{count_defined, define};
-pub use flat_data::{FlatPart, FlatData, Part};
+pub use flat_data::{FlatData, FlatPart, Part};
 pub use flatten::turn_both;
 pub use form::{Form, defined_by, parse_form};
 pub use goal::{Goal, parse_goal};

@@ -21,7 +21,8 @@ pub struct Defined {
 pub struct Relations {
     rows: Vec<Defined>,
     numbers: HashMap<u32, u32>,
-    ghost exact: { (symbol : ℕ) → get nat_eq numbers symbol ≡ relation_number (related rows.items) symbol },
+    ghost exact: { (symbol : ℕ) → get nat_eq numbers symbol
+        ≡ relation_number (related rows.items) symbol },
     ghost few: { length rows.items < 2 ^ 32 },
 }
 

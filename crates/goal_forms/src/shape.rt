@@ -13,7 +13,8 @@ use kan_terms::Names;
 
 /// The places of a pair's two parts.
 pub fn pair_parts(flat: &FlatData, place: u32) -> Option<(u32, u32)>
-    ensures parts { option_map (pair_at (sites flat.now)) result ≡ parts (site_at (sites flat.now) place) }
+    ensures parts { option_map (pair_at (sites flat.now)) result
+        ≡ parts (site_at (sites flat.now) place) }
     ensures before { AreBefore result place }
 {
     match flat.read(place).part {

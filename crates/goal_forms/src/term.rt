@@ -44,7 +44,8 @@ pub enum Step {
 
 /// What a task's term begins with.
 pub fn parse_task(flat: &FlatData, names: &Names, task: Task) -> Step
-    ensures form { step_form (sites flat.now) names.now result ≡ task_form (sites flat.now) names.now task }
+    ensures form { step_form (sites flat.now) names.now result
+        ≡ task_form (sites flat.now) names.now task }
     ensures smaller { step_size (sites flat.now) result < task_size (sites flat.now) task }
 {
     match task {
@@ -57,8 +58,10 @@ pub fn parse_task(flat: &FlatData, names: &Names, task: Task) -> Step
 
 // What a term begins with.
 fn parse_term(flat: &FlatData, names: &Names, place: u32) -> Step
-    ensures form { step_form (sites flat.now) names.now result ≡ term_form names.now (site_at (sites flat.now) place) }
-    ensures smaller { step_size (sites flat.now) result < site_size (site_at (sites flat.now) place) }
+    ensures form { step_form (sites flat.now) names.now result
+        ≡ term_form names.now (site_at (sites flat.now) place) }
+    ensures smaller { step_size (sites flat.now) result
+        < site_size (site_at (sites flat.now) place) }
 {
     let node = flat.read(place);
     match node.part {
@@ -81,7 +84,8 @@ fn parse_term(flat: &FlatData, names: &Names, place: u32) -> Step
 
 // What is quoted begins with this, where these are the parts behind quote.
 fn parse_quoted(flat: &FlatData, names: &Names, at: u32, parts: u32) -> Step
-    ensures form { step_form (sites flat.now) names.now result ≡ quote_form at (site_at (sites flat.now) parts) }
+    ensures form { step_form (sites flat.now) names.now result
+        ≡ quote_form at (site_at (sites flat.now) parts) }
     ensures fits { step_size (sites flat.now) result ≤ site_size (site_at (sites flat.now) parts) }
 {
     match only_part(flat, parts) {
@@ -92,7 +96,8 @@ fn parse_quoted(flat: &FlatData, names: &Names, at: u32, parts: u32) -> Step
 
 // The same of a template.
 fn parse_quasiquoted(flat: &FlatData, names: &Names, at: u32, parts: u32) -> Step
-    ensures form { step_form (sites flat.now) names.now result ≡ quasiquote_form names.now at (site_at (sites flat.now) parts) }
+    ensures form { step_form (sites flat.now) names.now result
+        ≡ quasiquote_form names.now at (site_at (sites flat.now) parts) }
     ensures fits { step_size (sites flat.now) result ≤ site_size (site_at (sites flat.now) parts) }
 {
     match only_part(flat, parts) {
@@ -103,7 +108,8 @@ fn parse_quasiquoted(flat: &FlatData, names: &Names, at: u32, parts: u32) -> Ste
 
 // The same of a term in a template.
 fn parse_unquoted(flat: &FlatData, names: &Names, at: u32, parts: u32) -> Step
-    ensures form { step_form (sites flat.now) names.now result ≡ unquote_form names.now at (site_at (sites flat.now) parts) }
+    ensures form { step_form (sites flat.now) names.now result
+        ≡ unquote_form names.now at (site_at (sites flat.now) parts) }
     ensures fits { step_size (sites flat.now) result ≤ site_size (site_at (sites flat.now) parts) }
 {
     match only_part(flat, parts) {
@@ -114,7 +120,8 @@ fn parse_unquoted(flat: &FlatData, names: &Names, at: u32, parts: u32) -> Step
 
 // The same of a pair of two terms.
 fn parse_cons(flat: &FlatData, names: &Names, at: u32, parts: u32) -> Step
-    ensures form { step_form (sites flat.now) names.now result ≡ cons_form names.now at (site_at (sites flat.now) parts) }
+    ensures form { step_form (sites flat.now) names.now result
+        ≡ cons_form names.now at (site_at (sites flat.now) parts) }
     ensures fits { step_size (sites flat.now) result ≤ site_size (site_at (sites flat.now) parts) }
 {
     match two_parts(flat, parts) {
@@ -125,7 +132,8 @@ fn parse_cons(flat: &FlatData, names: &Names, at: u32, parts: u32) -> Step
 
 // The same of a list of terms.
 fn parse_list(flat: &FlatData, names: &Names, at: u32, parts: u32) -> Step
-    ensures form { step_form (sites flat.now) names.now result ≡ listed names.now at (site_at (sites flat.now) parts) }
+    ensures form { step_form (sites flat.now) names.now result
+        ≡ listed names.now at (site_at (sites flat.now) parts) }
     ensures fits { step_size (sites flat.now) result ≤ site_size (site_at (sites flat.now) parts) }
 {
     if is_proper(flat, parts) {
@@ -137,8 +145,10 @@ fn parse_list(flat: &FlatData, names: &Names, at: u32, parts: u32) -> Step
 
 // What the terms of a list begin with, from a pair of it on.
 fn parse_terms(flat: &FlatData, names: &Names, place: u32) -> Step
-    ensures form { step_form (sites flat.now) names.now result ≡ list_form names.now (site_at (sites flat.now) place) }
-    ensures smaller { step_size (sites flat.now) result < site_size (site_at (sites flat.now) place) }
+    ensures form { step_form (sites flat.now) names.now result
+        ≡ list_form names.now (site_at (sites flat.now) place) }
+    ensures smaller { step_size (sites flat.now) result
+        < site_size (site_at (sites flat.now) place) }
 {
     match pair_parts(flat, place) {
         Some((first, rest)) => Step::Pair(Task::Term(first), Task::Terms(rest)),
@@ -148,8 +158,10 @@ fn parse_terms(flat: &FlatData, names: &Names, place: u32) -> Step
 
 // What a template begins with.
 fn parse_template(flat: &FlatData, names: &Names, place: u32) -> Step
-    ensures form { step_form (sites flat.now) names.now result ≡ template_form names.now (site_at (sites flat.now) place) }
-    ensures smaller { step_size (sites flat.now) result < site_size (site_at (sites flat.now) place) }
+    ensures form { step_form (sites flat.now) names.now result
+        ≡ template_form names.now (site_at (sites flat.now) place) }
+    ensures smaller { step_size (sites flat.now) result
+        < site_size (site_at (sites flat.now) place) }
 {
     let node = flat.read(place);
     match node.part {
@@ -168,8 +180,10 @@ fn parse_template(flat: &FlatData, names: &Names, place: u32) -> Step
 
 // What a constant begins with.
 fn parse_constant(flat: &FlatData, names: &Names, place: u32) -> Step
-    ensures form { step_form (sites flat.now) names.now result ≡ constant (site_at (sites flat.now) place) }
-    ensures smaller { step_size (sites flat.now) result < site_size (site_at (sites flat.now) place) }
+    ensures form { step_form (sites flat.now) names.now result
+        ≡ constant (site_at (sites flat.now) place) }
+    ensures smaller { step_size (sites flat.now) result
+        < site_size (site_at (sites flat.now) place) }
 {
     match flat.read(place).part {
         Part::Name(symbol) => Step::Symbol(symbol),

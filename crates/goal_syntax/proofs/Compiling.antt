@@ -3,3 +3,4 @@ pub mod CompilingLaws
 pub mod EachLaws
 pub mod ClosingLaws
 pub mod OfTextLaws
+pub mod LibraryLaws

@@ -29,7 +29,8 @@ use kan_terms::Memory;
 fn add_relation(draft: &mut Draft, relation: Relation) -> Result<(), Memory>
     requires there { relation.body < length (tables draft.old).goals }
     requires room { HasRoom (tables draft.old) }
-    ensures added { OnOk result (tables draft.new ≡ with_relation (tables draft.old) (relation_entry relation)) }
+    ensures added { OnOk result
+        (tables draft.new ≡ with_relation (tables draft.old) (relation_entry relation)) }
     ensures room { OnOk result (HasRoom (tables draft.new)) }
 {
     let at = draft.relation(relation)?;
@@ -51,12 +52,19 @@ fn relation_name(flat: &FlatData, head: u32) -> u32
 }
 
 // Builds the body of a relation with these parameters.
-fn build_body(context: &Context, params: &[u32], goals: u32, draft: &mut Draft) -> Result<u32, Memory>
+fn build_body(
+    context: &Context,
+    params: &[u32],
+    goals: u32,
+    draft: &mut Draft,
+) -> Result<u32, Memory>
     requires room { HasRoom (tables draft.old) }
-    ensures made { IfOk result (λ at. HasGoal (tables draft.new) at (list_goal context.now (within [] params.now) goals)) }
+    ensures made { IfOk result
+        (λ at. HasGoal (tables draft.new) at (list_goal context.now (within [] params.now) goals)) }
     ensures grows { OnOk result (Grows (tables draft.old) (tables draft.new)) }
     ensures room { OnOk result (HasRoom (tables draft.new)) }
-    ensures closed { OnOk result (KeepsClosed (data_of context.now) (tables draft.old) (tables draft.new)
+    ensures closed { OnOk result
+        (KeepsClosed (data_of context.now) (tables draft.old) (tables draft.new)
         (λ rows. calls_named rows (list_goal context.now (within [] params.now) goals))) }
     ensures equational { OnOk result (AddsEquational (tables draft.old) (tables draft.new)
         (is_equational (list_goal context.now (within [] params.now) goals))) }
@@ -77,17 +85,18 @@ pub(crate) fn build_relation(
     requires room { HasRoom (tables draft.old) }
     ensures means { OnOk result (AddsRelations (tables draft.old) (tables draft.new)
         (relation_at context.now head goals ∷ [])) }
-    ensures names { OnOk result (AddsNames (tables draft.old) (tables draft.new) (name_symbol (head_name (datum_at context.now head)) ∷ [])) }
+    ensures names { OnOk result
+        (AddsNames (tables draft.old) (tables draft.new)
+        (name_symbol (head_name (datum_at context.now head)) ∷ [])) }
     ensures room { OnOk result (HasRoom (tables draft.new)) }
-    ensures closed { OnOk result (KeepsClosed (data_of context.now) (tables draft.old) (tables draft.new)
+    ensures closed { OnOk result
+        (KeepsClosed (data_of context.now) (tables draft.old) (tables draft.new)
         (bodies_named (relation_at context.now head goals ∷ []))) }
     ensures equational { OnOk result (AddsEquational (tables draft.old) (tables draft.new)
         (is_equational_body (relation_at context.now head goals))) }
 {
     let bound = head_params(context.alloc, context.flat, head)?;
-    let Ok(params) = u32::try_from(bound.len()) else {
-        return Err(Memory);
-    };
+    let params = bound.len() as u32;
     let body = build_body(context, &bound, goals, draft)?;
     let name = relation_name(context.flat, head);
     add_relation(draft, Relation { name, params, body })?;
@@ -102,8 +111,15 @@ fn limit_of(flat: &FlatData, place: Option<u32>) -> Option<u64>
 }
 
 // Adds a run that asks for a goal.
-fn ask(context: &Context, goal: u32, limit: Option<u32>, queries: &mut Queries) -> Result<(), Memory>
-    ensures { OnOk result (queries.new ≡ queries.old ++ query_asked goal (limit_at (data_of context.now) limit).value ∷ []) }
+fn ask(
+    context: &Context,
+    goal: u32,
+    limit: Option<u32>,
+    queries: &mut Queries,
+) -> Result<(), Memory>
+    ensures { OnOk result
+        (queries.new ≡ queries.old ++ query_asked goal (limit_at (data_of context.now) limit).value
+        ∷ []) }
 {
     let limit = limit_of(context.flat, limit);
     match queries.push(Query { goal, limit }) {
@@ -120,12 +136,15 @@ pub(crate) fn build_form(
     queries: &mut Queries,
 ) -> Result<(), Memory>
     requires room { HasRoom (tables draft.old) }
-    ensures means { OnOk result (AddsForms (tables draft.old) (tables draft.new) queries.old queries.new
+    ensures means { OnOk result
+        (AddsForms (tables draft.old) (tables draft.new) queries.old queries.new
         (relations_parsed context.now form)
         (queries_parsed context.now form)) }
-    ensures names { OnOk result (AddsNames (tables draft.old) (tables draft.new) (names_parsed context.now form)) }
+    ensures names { OnOk result
+        (AddsNames (tables draft.old) (tables draft.new) (names_parsed context.now form)) }
     ensures room { OnOk result (HasRoom (tables draft.new)) }
-    ensures closed { OnOk result (KeepsClosed (data_of context.now) (tables draft.old) (tables draft.new)
+    ensures closed { OnOk result
+        (KeepsClosed (data_of context.now) (tables draft.old) (tables draft.new)
         (all_named (relations_parsed context.now form) (queries_parsed context.now form))) }
     ensures equational { OnOk result (AddsEquational (tables draft.old) (tables draft.new)
         (are_equational (relations_parsed context.now form) (queries_parsed context.now form))) }

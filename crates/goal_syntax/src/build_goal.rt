@@ -52,8 +52,10 @@ fn build_own(
     requires room { HasRoom (tables draft.old) }
     requires below { are_below (length (tables draft.old).goals) places.old.items ≡ true }
     ensures made { OnOk result (built (tables draft.new) places.new.items
-        ≡ with_maybe (goal_alone context.now scope.now goal) (built (tables draft.old) places.old.items)) }
-    ensures below { OnOk result (are_below (length (tables draft.new).goals) places.new.items ≡ true) }
+        ≡ with_maybe (goal_alone context.now scope.now goal)
+        (built (tables draft.old) places.old.items)) }
+    ensures below { OnOk result
+        (are_below (length (tables draft.new).goals) places.new.items ≡ true) }
     ensures grows { OnOk result (Grows (tables draft.old) (tables draft.new)) }
     ensures room { OnOk result (HasRoom (tables draft.new)) }
     ensures low { OnOk result (KeepsLowIn context.now draft.old draft.new) }
@@ -72,14 +74,14 @@ fn enter_fresh(
     scope: &mut Vec<Option<u32>>,
     works: &mut Vec<Work>,
 ) -> Result<(), Memory>
-    ensures scope { OnOk result (scope.new.items ≡ within scope.old.items (binder_at context.now binder).value) }
+    ensures scope { OnOk result
+        (scope.new.items ≡ within scope.old.items (binder_at context.now binder).value) }
     ensures works { OnOk result (works.new.items ≡ works.old.items
-        ++ Work.Suspend ∷ Work.Fresh (length (binder_at context.now binder).value) ∷ Work.Leave (length scope.old.items) ∷ Work.Row Row.All goals ∷ []) }
+        ++ Work.Suspend ∷ Work.Fresh (length (binder_at context.now binder).value)
+        ∷ Work.Leave (length scope.old.items) ∷ Work.Row Row.All goals ∷ []) }
 {
     let bound = binder_names(context.alloc, context.flat, binder)?;
-    let Ok(count) = u32::try_from(bound.len()) else {
-        return Err(Memory);
-    };
+    let count = bound.len() as u32;
     works.push(Work::Suspend)?;
     works.push(Work::Fresh(count))?;
     works.push(Work::Leave(scope.len()))?;
@@ -95,8 +97,12 @@ fn wait_for(
     scope: &mut Vec<Option<u32>>,
     works: &mut Vec<Work>,
 ) -> Result<(), Memory>
-    ensures scope { OnOk result (scope.new.items ≡ inner_names context.now.names.now (data_of context.now) scope.old.items goal) }
-    ensures works { OnOk result (works.new.items ≡ works.old.items ++ inner_works context.now.names.now (data_of context.now) scope.old.items goal) }
+    ensures scope { OnOk result
+        (scope.new.items ≡ inner_names context.now.names.now
+        (data_of context.now) scope.old.items goal) }
+    ensures works { OnOk result
+        (works.new.items ≡ works.old.items
+        ++ inner_works context.now.names.now (data_of context.now) scope.old.items goal) }
 {
     match goal {
         Goal::Fresh(binder, goals) => enter_fresh(context, binder, goals, scope, works)?,
@@ -123,10 +129,16 @@ fn build_goal(
     requires room { HasRoom (tables draft.old) }
     requires below { are_below (length (tables draft.old).goals) places.old.items ≡ true }
     ensures made { OnOk result (
-        made_after context.now scope.new.items (reverse works.new.items) (built (tables draft.new) places.new.items)
-        ≡ made_after context.now scope.old.items (Work.Goal place ∷ reverse works.old.items) (built (tables draft.old) places.old.items)) }
-    ensures falls { OnOk result (works_size (data_of context.now) works.new.items < work_size (data_of context.now) (Work.Goal place) + works_size (data_of context.now) works.old.items) }
-    ensures below { OnOk result (are_below (length (tables draft.new).goals) places.new.items ≡ true) }
+        made_after context.now scope.new.items (reverse works.new.items)
+        (built (tables draft.new) places.new.items)
+        ≡ made_after context.now scope.old.items (Work.Goal place ∷ reverse works.old.items)
+        (built (tables draft.old) places.old.items)) }
+    ensures falls { OnOk result
+        (works_size (data_of context.now) works.new.items
+        < work_size (data_of context.now) (Work.Goal place) + works_size
+        (data_of context.now) works.old.items) }
+    ensures below { OnOk result
+        (are_below (length (tables draft.new).goals) places.new.items ≡ true) }
     ensures grows { OnOk result (Grows (tables draft.old) (tables draft.new)) }
     ensures room { OnOk result (HasRoom (tables draft.new)) }
     ensures low { OnOk result (KeepsLowIn context.now draft.old draft.new) }
@@ -137,9 +149,17 @@ fn build_goal(
     Ok(())
 }
 
-// Puts the elements of a row behind its first one on the stack, where there are any, and that they are joined to it.
-fn wait_for_others(context: &Context, row: Row, rest: u32, works: &mut Vec<Work>) -> Result<(), Memory>
-    ensures { OnOk result (works.new.items ≡ works.old.items ++ other_works row rest (parts (datum_at context.now rest))) }
+// Puts the elements of a row behind its first one on the stack, where there are any, and that they
+// are joined to it.
+fn wait_for_others(
+    context: &Context,
+    row: Row,
+    rest: u32,
+    works: &mut Vec<Work>,
+) -> Result<(), Memory>
+    ensures { OnOk result
+        (works.new.items ≡ works.old.items
+        ++ other_works row rest (parts (datum_at context.now rest))) }
 {
     if pair_parts(context.flat, rest).is_some() {
         works.push(Work::Join(row))?;
@@ -171,10 +191,16 @@ fn build_row(
     requires room { HasRoom (tables draft.old) }
     requires below { are_below (length (tables draft.old).goals) places.old.items ≡ true }
     ensures made { OnOk result ((ns : Names) →
-        made_after context.now ns (reverse works.new.items) (built (tables draft.new) places.new.items)
-        ≡ made_after context.now ns (Work.Row row place ∷ reverse works.old.items) (built (tables draft.old) places.old.items)) }
-    ensures falls { OnOk result (works_size (data_of context.now) works.new.items < work_size (data_of context.now) (Work.Row row place) + works_size (data_of context.now) works.old.items) }
-    ensures below { OnOk result (are_below (length (tables draft.new).goals) places.new.items ≡ true) }
+        made_after context.now ns (reverse works.new.items)
+        (built (tables draft.new) places.new.items)
+        ≡ made_after context.now ns (Work.Row row place ∷ reverse works.old.items)
+        (built (tables draft.old) places.old.items)) }
+    ensures falls { OnOk result
+        (works_size (data_of context.now) works.new.items
+        < work_size (data_of context.now) (Work.Row row place) + works_size
+        (data_of context.now) works.old.items) }
+    ensures below { OnOk result
+        (are_below (length (tables draft.new).goals) places.new.items ≡ true) }
     ensures grows { OnOk result (Grows (tables draft.old) (tables draft.new)) }
     ensures room { OnOk result (HasRoom (tables draft.new)) }
     ensures terms { OnOk result ((tables draft.new).terms ≡ (tables draft.old).terms) }
@@ -199,10 +225,16 @@ fn build_clause(
     requires room { HasRoom (tables draft.old) }
     requires below { are_below (length (tables draft.old).goals) places.old.items ≡ true }
     ensures made { OnOk result ((ns : Names) →
-        made_after context.now ns (reverse works.new.items) (built (tables draft.new) places.new.items)
-        ≡ made_after context.now ns (Work.Clause clause ∷ reverse works.old.items) (built (tables draft.old) places.old.items)) }
-    ensures falls { OnOk result (works_size (data_of context.now) works.new.items < work_size (data_of context.now) (Work.Clause clause) + works_size (data_of context.now) works.old.items) }
-    ensures below { OnOk result (are_below (length (tables draft.new).goals) places.new.items ≡ true) }
+        made_after context.now ns (reverse works.new.items)
+        (built (tables draft.new) places.new.items)
+        ≡ made_after context.now ns (Work.Clause clause ∷ reverse works.old.items)
+        (built (tables draft.old) places.old.items)) }
+    ensures falls { OnOk result
+        (works_size (data_of context.now) works.new.items
+        < work_size (data_of context.now) (Work.Clause clause) + works_size
+        (data_of context.now) works.old.items) }
+    ensures below { OnOk result
+        (are_below (length (tables draft.new).goals) places.new.items ≡ true) }
     ensures grows { OnOk result (Grows (tables draft.old) (tables draft.new)) }
     ensures room { OnOk result (HasRoom (tables draft.new)) }
     ensures terms { OnOk result ((tables draft.new).terms ≡ (tables draft.old).terms) }
@@ -227,10 +259,15 @@ fn build_next(
     requires room { HasRoom (tables draft.old) }
     requires below { are_below (length (tables draft.old).goals) places.old.items ≡ true }
     ensures made { OnOk result (
-        made_after context.now scope.new.items (reverse works.new.items) (built (tables draft.new) places.new.items)
-        ≡ made_after context.now scope.old.items (work ∷ reverse works.old.items) (built (tables draft.old) places.old.items)) }
-    ensures falls { OnOk result (works_size (data_of context.now) works.new.items < work_size (data_of context.now) work + works_size (data_of context.now) works.old.items) }
-    ensures below { OnOk result (are_below (length (tables draft.new).goals) places.new.items ≡ true) }
+        made_after context.now scope.new.items (reverse works.new.items)
+        (built (tables draft.new) places.new.items)
+        ≡ made_after context.now scope.old.items (work ∷ reverse works.old.items)
+        (built (tables draft.old) places.old.items)) }
+    ensures falls { OnOk result
+        (works_size (data_of context.now) works.new.items
+        < work_size (data_of context.now) work + works_size (data_of context.now) works.old.items) }
+    ensures below { OnOk result
+        (are_below (length (tables draft.new).goals) places.new.items ≡ true) }
     ensures grows { OnOk result (Grows (tables draft.old) (tables draft.new)) }
     ensures room { OnOk result (HasRoom (tables draft.new)) }
     ensures low { OnOk result (KeepsLowIn context.now draft.old draft.new) }
@@ -247,7 +284,8 @@ fn build_next(
     Ok(())
 }
 
-/// Builds the goals of a list, which hold together, where these names are in scope, and gives the place of their goal.
+/// Builds the goals of a list, which hold together, where these names are in scope, and gives the
+/// place of their goal.
 pub(crate) fn build_goals(
     context: &Context,
     place: u32,
@@ -255,13 +293,16 @@ pub(crate) fn build_goals(
     draft: &mut Draft,
 ) -> Result<u32, Memory>
     requires room { HasRoom (tables draft.old) }
-    ensures made { IfOk result (λ at. HasGoal (tables draft.new) at (list_goal context.now scope.items place)) }
+    ensures made { IfOk result
+        (λ at. HasGoal (tables draft.new) at (list_goal context.now scope.items place)) }
     ensures grows { OnOk result (Grows (tables draft.old) (tables draft.new)) }
     ensures room { OnOk result (HasRoom (tables draft.new)) }
     ensures low { OnOk result (KeepsLowIn context.now draft.old draft.new) }
     ensures equational { OnOk result (AddsEquational (tables draft.old) (tables draft.new)
         (is_equational (list_goal context.now scope.items place))) }
-    ensures called { OnOk result ((rows : List RelationEntry) → are_there rows (tables draft.new).goals ≡ (are_there rows (tables draft.old).goals
+    ensures called { OnOk result
+        ((rows : List RelationEntry) → are_there rows (tables draft.new).goals
+        ≡ (are_there rows (tables draft.old).goals
         && calls_named rows (list_goal context.now scope.items place))) }
 {
     let mut places = Vec::new(context.alloc);
@@ -271,7 +312,7 @@ pub(crate) fn build_goals(
         build_next(context, work, &mut scope, draft, &mut places, &mut works)?;
     }
     let Some(goal) = places.pop() else {
-        return Err(Memory);
+        unreachable!()
     };
     Ok(goal)
 }

@@ -24,8 +24,12 @@ fn build_two(
     draft: &mut Draft,
 ) -> Result<(u32, u32), Memory>
     requires room { HasRoom (tables draft.old) }
-    ensures left { IfOk result (λ made. HasTemplate (tables draft.new) made.0 (template_in scope.now (term_at context.now left))) }
-    ensures right { IfOk result (λ made. HasTemplate (tables draft.new) made.1 (template_in scope.now (term_at context.now right))) }
+    ensures left { IfOk result
+        (λ made. HasTemplate (tables draft.new) made.0
+        (template_in scope.now (term_at context.now left))) }
+    ensures right { IfOk result
+        (λ made. HasTemplate (tables draft.new) made.1
+        (template_in scope.now (term_at context.now right))) }
     ensures grows { OnOk result (Grows (tables draft.old) (tables draft.new)) }
     ensures room { OnOk result (HasRoom (tables draft.new)) }
     ensures low { OnOk result (KeepsLowIn context.now draft.old draft.new) }
@@ -51,7 +55,8 @@ pub(crate) fn build_node(
     draft: &mut Draft,
 ) -> Result<Option<GoalNode>, Memory>
     requires room { HasRoom (tables draft.old) }
-    ensures made { IfOk result (λ node. StandsFor (tables draft.new) node (goal_alone context.now scope.now goal)) }
+    ensures made { IfOk result
+        (λ node. StandsFor (tables draft.new) node (goal_alone context.now scope.now goal)) }
     ensures grows { OnOk result (Grows (tables draft.old) (tables draft.new)) }
     ensures room { OnOk result (HasRoom (tables draft.new)) }
     ensures low { OnOk result (KeepsLowIn context.now draft.old draft.new) }

@@ -1,7 +1,7 @@
 //! Building the goals of runs.
 
 ghost use Rattle.goal_syntax.specs.Building.InContext.{list_goal, goal_behind, run_goal, fresh_goal};
-ghost use Rattle.std.specs.Prelude.{true, ◌≤◌, ◌≡◌, ◌&&◌, ◌<◌, ◌∷◌, [], List, length, IfOk, OnOk};
+ghost use Rattle.std.specs.Prelude.{true, ◌≤◌, ◌≡◌, ◌&&◌, ◌<◌, ◌^◌, ◌∷◌, [], List, length, IfOk, OnOk};
 ghost use Rattle.kan_model.specs.Programs.Goals as model;
 ghost use Rattle.kan_grammar.specs.Texts.GoalForms.{goal_forms};
 ghost use Rattle.kan_grammar.specs.Texts.Resolved.{suspended_in, within};
@@ -31,10 +31,13 @@ pub(crate) fn build_one(
     draft: &mut Draft,
 ) -> Result<u32, Memory>
     requires room { HasRoom (tables draft.old) }
-    ensures made { IfOk result (λ at. HasGoal (tables draft.new) at (list_goal context.now (within [] (symbol ∷ [])) goals)) }
+    ensures made { IfOk result
+        (λ at. HasGoal (tables draft.new) at
+        (list_goal context.now (within [] (symbol ∷ [])) goals)) }
     ensures grows { OnOk result (Grows (tables draft.old) (tables draft.new)) }
     ensures room { OnOk result (HasRoom (tables draft.new)) }
-    ensures closed { OnOk result (KeepsClosed (data_of context.now) (tables draft.old) (tables draft.new)
+    ensures closed { OnOk result
+        (KeepsClosed (data_of context.now) (tables draft.old) (tables draft.new)
         (λ rows. calls_named rows (list_goal context.now (within [] (symbol ∷ [])) goals))) }
     ensures equational { OnOk result (AddsEquational (tables draft.old) (tables draft.new)
         (is_equational (list_goal context.now (within [] (symbol ∷ [])) goals))) }
@@ -47,13 +50,20 @@ pub(crate) fn build_one(
 
 // Builds the goal that slot 0 is the list of as many slots behind it as there are names.
 fn build_equation(bound: &[u32], draft: &mut Draft) -> Result<u32, Memory>
+    requires few { length bound.now < 2 ^ 32 }
     requires room { HasRoom (tables draft.old) }
     ensures made { IfOk result (λ at. HasGoal (tables draft.new) at (asked_equation bound.now)) }
     ensures grows { OnOk result (Grows (tables draft.old) (tables draft.new)) }
     ensures room { OnOk result (HasRoom (tables draft.new)) }
-    ensures low { OnOk result (length bound.now ≤ 2048 → list_all is_low (templates draft.old) ≡ true → list_all is_low (templates draft.new) ≡ true) }
-    ensures called { OnOk result ((rows : List RelationEntry) → are_there rows (tables draft.new).goals ≡ are_there rows (tables draft.old).goals) }
-    ensures equational { OnOk result (are_equational_entries (tables draft.new).goals ≡ are_equational_entries (tables draft.old).goals) }
+    ensures low { OnOk result
+        (length bound.now ≤ 2048 → list_all is_low (templates draft.old)
+        ≡ true → list_all is_low (templates draft.new) ≡ true) }
+    ensures called { OnOk result
+        ((rows : List RelationEntry) → are_there rows (tables draft.new).goals
+        ≡ are_there rows (tables draft.old).goals) }
+    ensures equational { OnOk result
+        (are_equational_entries (tables draft.new).goals
+        ≡ are_equational_entries (tables draft.old).goals) }
 {
     let list = build_slots(bound, draft)?;
     let asked = add_term(draft, TermNode::Slot(0))?;
@@ -75,7 +85,8 @@ fn build_behind(
         HasGoal (tables draft.new) at (goal_behind context.now g scope.items goals)) }
     ensures grows { OnOk result (Grows (tables draft.old) (tables draft.new)) }
     ensures room { OnOk result (HasRoom (tables draft.new)) }
-    ensures closed { OnOk result (KeepsClosed (data_of context.now) (tables draft.old) (tables draft.new)
+    ensures closed { OnOk result
+        (KeepsClosed (data_of context.now) (tables draft.old) (tables draft.new)
         (λ rows. calls_named rows (list_goal context.now scope.items goals))) }
     ensures equational { OnOk result (AddsEquational (tables draft.old) (tables draft.new)
         (is_equational (list_goal context.now scope.items goals))) }
@@ -89,25 +100,20 @@ fn build_behind(
 }
 
 // Builds the fresh goal of a run over a list of names, whose variable is the list of these.
-fn build_fresh(
-    context: &Context,
-    binder: u32,
-    goals: u32,
-    draft: &mut Draft,
-) -> Result<u32, Memory>
+fn build_fresh(context: &Context, binder: u32, goals: u32, draft: &mut Draft) -> Result<u32, Memory>
     requires room { HasRoom (tables draft.old) }
-    ensures made { IfOk result (λ at. HasGoal (tables draft.new) at (fresh_goal context.now binder goals)) }
+    ensures made { IfOk result
+        (λ at. HasGoal (tables draft.new) at (fresh_goal context.now binder goals)) }
     ensures grows { OnOk result (Grows (tables draft.old) (tables draft.new)) }
     ensures room { OnOk result (HasRoom (tables draft.new)) }
-    ensures closed { OnOk result (KeepsClosed (data_of context.now) (tables draft.old) (tables draft.new)
+    ensures closed { OnOk result
+        (KeepsClosed (data_of context.now) (tables draft.old) (tables draft.new)
         (λ rows. calls_named rows (fresh_goal context.now binder goals))) }
     ensures equational { OnOk result (AddsEquational (tables draft.old) (tables draft.new)
         (is_equational (fresh_goal context.now binder goals))) }
 {
     let bound = binder_names(context.alloc, context.flat, binder)?;
-    let Ok(count) = u32::try_from(bound.len()) else {
-        return Err(Memory);
-    };
+    let count = bound.len() as u32;
     let mut scope = unnamed(context.alloc)?;
     enter(&bound, &mut scope)?;
     let first = build_equation(&bound, draft)?;
@@ -147,10 +153,12 @@ pub(crate) fn build_list(
     draft: &mut Draft,
 ) -> Result<u32, Memory>
     requires room { HasRoom (tables draft.old) }
-    ensures made { IfOk result (λ at. HasGoal (tables draft.new) at (run_goal context.now binder goals)) }
+    ensures made { IfOk result
+        (λ at. HasGoal (tables draft.new) at (run_goal context.now binder goals)) }
     ensures grows { OnOk result (Grows (tables draft.old) (tables draft.new)) }
     ensures room { OnOk result (HasRoom (tables draft.new)) }
-    ensures closed { OnOk result (KeepsClosed (data_of context.now) (tables draft.old) (tables draft.new)
+    ensures closed { OnOk result
+        (KeepsClosed (data_of context.now) (tables draft.old) (tables draft.new)
         (λ rows. calls_named rows (run_goal context.now binder goals))) }
     ensures equational { OnOk result (AddsEquational (tables draft.old) (tables draft.new)
         (is_equational (run_goal context.now binder goals))) }

@@ -1,7 +1,7 @@
 //! Building templates of terms.
 
 ghost use Rattle.goal_syntax.specs.Building.InContext.{task_template, term_templates, KeepsLowIn};
-ghost use Rattle.std.specs.Prelude.{◌≡◌, ◌∷◌, ◌+◌, ◌<◌, ◌≤◌, map, length, reverse, unwrap_or, true, IfOk, OnOk};
+ghost use Rattle.std.specs.Prelude.{◌≡◌, ◌∷◌, ◌+◌, ◌<◌, ◌^◌, ◌≤◌, map, length, reverse, unwrap_or, true, IfOk, OnOk};
 ghost use Rattle.kan_grammar.specs.Texts.ProgramText.{slot_list};
 ghost use Rattle.kan_grammar.specs.Texts.Resolved.{template_in, slot_of};
 ghost use Rattle.kan_model.specs.Programs.Tables.{is_term_grown, template_at, template_of};
@@ -35,10 +35,17 @@ fn put(node: TermNode, draft: &mut Draft, places: &mut Vec<u32>) -> Result<(), M
     requires there { is_term_grown (length (tables draft.old).terms) (term_entry node) ≡ true }
     requires room { HasRoom (tables draft.old) }
     requires below { are_below (length (tables draft.old).terms) places.old.items ≡ true }
-    ensures made { OnOk result (built (templates draft.new) places.new.items ≡ template_of (templates draft.old) (term_entry node) ∷ built (templates draft.old) places.old.items) }
-    ensures below { OnOk result (are_below (length (tables draft.new).terms) places.new.items ≡ true) }
+    ensures made { OnOk result
+        (built (templates draft.new) places.new.items
+        ≡ template_of (templates draft.old) (term_entry node)
+        ∷ built (templates draft.old) places.old.items) }
+    ensures below { OnOk result
+        (are_below (length (tables draft.new).terms) places.new.items ≡ true) }
     ensures adds { OnOk result (AddsTerms (tables draft.old) (tables draft.new)) }
-    ensures low { OnOk result (is_low (template_of (templates draft.old) (term_entry node)) ≡ true → list_all is_low (templates draft.old) ≡ true → list_all is_low (templates draft.new) ≡ true) }
+    ensures low { OnOk result
+        (is_low (template_of (templates draft.old) (term_entry node))
+        ≡ true → list_all is_low (templates draft.old)
+        ≡ true → list_all is_low (templates draft.new) ≡ true) }
 {
     let place = add_term(draft, node)?;
     places.push(place)?;
@@ -49,10 +56,16 @@ fn put(node: TermNode, draft: &mut Draft, places: &mut Vec<u32>) -> Result<(), M
 fn join(draft: &mut Draft, places: &mut Vec<u32>) -> Result<(), Memory>
     requires room { HasRoom (tables draft.old) }
     requires below { are_below (length (tables draft.old).terms) places.old.items ≡ true }
-    ensures made { OnOk result (built (templates draft.new) places.new.items ≡ paired (built (templates draft.old) places.old.items)) }
-    ensures below { OnOk result (are_below (length (tables draft.new).terms) places.new.items ≡ true) }
+    ensures made { OnOk result
+        (built (templates draft.new) places.new.items
+        ≡ paired (built (templates draft.old) places.old.items)) }
+    ensures below { OnOk result
+        (are_below (length (tables draft.new).terms) places.new.items ≡ true) }
     ensures adds { OnOk result (AddsTerms (tables draft.old) (tables draft.new)) }
-    ensures low { OnOk result (list_all is_low (paired (built (templates draft.old) places.old.items)) ≡ true → list_all is_low (templates draft.old) ≡ true → list_all is_low (templates draft.new) ≡ true) }
+    ensures low { OnOk result
+        (list_all is_low (paired (built (templates draft.old) places.old.items))
+        ≡ true → list_all is_low (templates draft.old)
+        ≡ true → list_all is_low (templates draft.new) ≡ true) }
 {
     let Some(rest) = places.pop() else {
         return Ok(());
@@ -64,7 +77,8 @@ fn join(draft: &mut Draft, places: &mut Vec<u32>) -> Result<(), Memory>
     Ok(())
 }
 
-// The slot of a variable, 0 where its name is not in scope. A number too large for a template has no memory.
+// The slot of a variable, 0 where its name is not in scope. A number too large for a template has
+// no memory.
 fn slot_number(scope: &[Option<u32>], symbol: u32) -> Result<u32, Memory>
     ensures { IfOk result (λ slot. slot ≡ unwrap_or (slot_of scope.now symbol) 0) }
 {
@@ -83,18 +97,25 @@ fn build_step(
 ) -> Result<(), Memory>
     requires room { HasRoom (tables draft.old) }
     requires below { are_below (length (tables draft.old).terms) places.old.items ≡ true }
-    ensures made { OnOk result (finish (data_of context.now) context.now.names.now scope.now (reverse works.new.items) (built (templates draft.new) places.new.items)
+    ensures made { OnOk result
+        (finish (data_of context.now) context.now.names.now scope.now (reverse works.new.items)
+        (built (templates draft.new) places.new.items)
         ≡ finish (data_of context.now) context.now.names.now scope.now (reverse works.old.items)
-        (template_in scope.now (step_form (data_of context.now) context.now.names.now step) ∷ built (templates draft.old) places.old.items)) }
-    ensures below { OnOk result (are_below (length (tables draft.new).terms) places.new.items ≡ true) }
+        (template_in scope.now (step_form (data_of context.now) context.now.names.now step)
+        ∷ built (templates draft.old) places.old.items)) }
+    ensures below { OnOk result
+        (are_below (length (tables draft.new).terms) places.new.items ≡ true) }
     ensures adds { OnOk result (AddsTerms (tables draft.old) (tables draft.new)) }
     ensures low { OnOk result (
         all_low (data_of context.now) context.now.names.now scope.now (reverse works.old.items)
-        (template_in scope.now (step_form (data_of context.now) context.now.names.now step) ∷ built (templates draft.old) places.old.items) ≡ true →
+        (template_in scope.now (step_form (data_of context.now) context.now.names.now step)
+        ∷ built (templates draft.old) places.old.items) ≡ true →
         list_all is_low (templates draft.old) ≡ true →
-        WorksLow (data_of context.now) context.now.names.now scope.now (reverse works.new.items) (templates draft.new) places.new.items) }
+        WorksLow (data_of context.now) context.now.names.now scope.now (reverse works.new.items)
+        (templates draft.new) places.new.items) }
     ensures falls { OnOk result (works_size (data_of context.now) works.new.items
-        ≤ 1 + step_size (data_of context.now) step + step_size (data_of context.now) step + works_size (data_of context.now) works.old.items) }
+        ≤ 1 + step_size (data_of context.now) step + step_size
+        (data_of context.now) step + works_size (data_of context.now) works.old.items) }
 {
     match step {
         Step::Variable(_, symbol) => {
@@ -126,12 +147,19 @@ fn build_work(
 ) -> Result<(), Memory>
     requires room { HasRoom (tables draft.old) }
     requires below { are_below (length (tables draft.old).terms) places.old.items ≡ true }
-    ensures made { OnOk result (finish (data_of context.now) context.now.names.now scope.now (reverse works.new.items) (built (templates draft.new) places.new.items)
-        ≡ finish (data_of context.now) context.now.names.now scope.now (work ∷ reverse works.old.items) (built (templates draft.old) places.old.items)) }
-    ensures below { OnOk result (are_below (length (tables draft.new).terms) places.new.items ≡ true) }
+    ensures made { OnOk result
+        (finish (data_of context.now) context.now.names.now scope.now (reverse works.new.items)
+        (built (templates draft.new) places.new.items)
+        ≡ finish (data_of context.now) context.now.names.now scope.now
+        (work ∷ reverse works.old.items) (built (templates draft.old) places.old.items)) }
+    ensures below { OnOk result
+        (are_below (length (tables draft.new).terms) places.new.items ≡ true) }
     ensures adds { OnOk result (AddsTerms (tables draft.old) (tables draft.new)) }
-    ensures low { OnOk result (WorksLow (data_of context.now) context.now.names.now scope.now (work ∷ reverse works.old.items) (templates draft.old) places.old.items →
-        WorksLow (data_of context.now) context.now.names.now scope.now (reverse works.new.items) (templates draft.new) places.new.items) }
+    ensures low { OnOk result
+        (WorksLow (data_of context.now) context.now.names.now scope.now
+        (work ∷ reverse works.old.items) (templates draft.old) places.old.items →
+        WorksLow (data_of context.now) context.now.names.now scope.now (reverse works.new.items)
+        (templates draft.new) places.new.items) }
     ensures falls { OnOk result (works_size (data_of context.now) works.new.items
         < work_size (data_of context.now) work + works_size (data_of context.now) works.old.items) }
 {
@@ -153,7 +181,8 @@ pub(crate) fn build_term(
     draft: &mut Draft,
 ) -> Result<u32, Memory>
     requires room { HasRoom (tables draft.old) }
-    ensures made { IfOk result (λ at. HasTemplate (tables draft.new) at (task_template context.now scope.now task)) }
+    ensures made { IfOk result
+        (λ at. HasTemplate (tables draft.new) at (task_template context.now scope.now task)) }
     ensures grows { OnOk result (Grows (tables draft.old) (tables draft.new)) }
     ensures room { OnOk result (HasRoom (tables draft.new)) }
     ensures same { OnOk result ((tables draft.new).goals ≡ (tables draft.old).goals) }
@@ -165,7 +194,10 @@ pub(crate) fn build_term(
     while let Some(work) = works.pop() {
         build_work(context, scope, work, draft, &mut places, &mut works)?;
     }
-    places.pop().ok_or(Memory)
+    let Some(place) = places.pop() else {
+        unreachable!()
+    };
+    Ok(place)
 }
 
 // Builds the templates of the terms in a list, and gives their places.
@@ -176,7 +208,9 @@ fn build_terms(
     draft: &mut Draft,
 ) -> Result<Vec<u32>, Memory>
     requires room { HasRoom (tables draft.old) }
-    ensures made { IfOk result (λ places. HasTemplates (tables draft.new) places.items (term_templates context.now scope.now place)) }
+    ensures made { IfOk result
+        (λ places. HasTemplates (tables draft.new) places.items
+        (term_templates context.now scope.now place)) }
     ensures adds { OnOk result (AddsTerms (tables draft.old) (tables draft.new)) }
     ensures low { OnOk result (KeepsLowIn context.now draft.old draft.new) }
 {
@@ -207,7 +241,9 @@ fn put_behind(terms: &[u32], draft: &mut Draft) -> Result<(), Memory>
 fn put_arguments(terms: &[u32], draft: &mut Draft) -> Result<u32, Memory>
     requires room { HasRoom (tables draft.old) }
     requires below { are_below (length (tables draft.old).terms) terms.now ≡ true }
-    ensures put { IfOk result (λ at. HasArguments (tables draft.new) at (length terms.now) (map (template_at (templates draft.old)) terms.now)) }
+    ensures put { IfOk result
+        (λ at. HasArguments (tables draft.new) at (length terms.now)
+        (map (template_at (templates draft.old)) terms.now)) }
     ensures adds { OnOk result (AddsTerms (tables draft.old) (tables draft.new)) }
     ensures terms { OnOk result ((tables draft.new).terms ≡ (tables draft.old).terms) }
 {
@@ -219,7 +255,8 @@ fn put_arguments(terms: &[u32], draft: &mut Draft) -> Result<u32, Memory>
     Ok(at)
 }
 
-/// Builds the templates of the terms in a list and puts them into the table of arguments, one behind the other: gives the
+/// Builds the templates of the terms in a list and puts them into the table of arguments, one
+/// behind the other: gives the
 /// place of the first one, and how many there are.
 pub(crate) fn build_arguments(
     context: &Context,
@@ -228,7 +265,9 @@ pub(crate) fn build_arguments(
     draft: &mut Draft,
 ) -> Result<(u32, u32), Memory>
     requires room { HasRoom (tables draft.old) }
-    ensures made { IfOk result (λ made. HasArguments (tables draft.new) made.0 made.1 (term_templates context.now scope.now place)) }
+    ensures made { IfOk result
+        (λ made. HasArguments (tables draft.new) made.0 made.1
+        (term_templates context.now scope.now place)) }
     ensures grows { OnOk result (Grows (tables draft.old) (tables draft.new)) }
     ensures room { OnOk result (HasRoom (tables draft.new)) }
     ensures same { OnOk result ((tables draft.new).goals ≡ (tables draft.old).goals) }
@@ -241,14 +280,17 @@ pub(crate) fn build_arguments(
 
 /// Builds the list of as many slots as there are names, from slot 1 on, and gives its place.
 pub(crate) fn build_slots(bound: &[u32], draft: &mut Draft) -> Result<u32, Memory>
+    requires few { length bound.now < 2 ^ 32 }
     requires room { HasRoom (tables draft.old) }
     ensures made { IfOk result (λ at. HasTemplate (tables draft.new) at (slot_list 1 bound.now)) }
     ensures grows { OnOk result (Grows (tables draft.old) (tables draft.new)) }
     ensures room { OnOk result (HasRoom (tables draft.new)) }
     ensures same { OnOk result ((tables draft.new).goals ≡ (tables draft.old).goals) }
-    ensures low { OnOk result (length bound.now ≤ 2048 → list_all is_low (templates draft.old) ≡ true → list_all is_low (templates draft.new) ≡ true) }
+    ensures low { OnOk result
+        (length bound.now ≤ 2048 → list_all is_low (templates draft.old)
+        ≡ true → list_all is_low (templates draft.new) ≡ true) }
 {
-    let mut slot = u32::try_from(bound.len()).map_err(|_| Memory)?;
+    let mut slot = bound.len() as u32;
     let mut list = add_term(draft, TermNode::Nil)?;
     while slot > 0 {
         let first = add_term(draft, TermNode::Slot(slot))?;

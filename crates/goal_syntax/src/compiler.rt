@@ -29,10 +29,12 @@ ghost use Rattle.goal_forms.specs.RelationTables.{relations};
 ghost use Rattle.goal_forms.specs.Flattening.{AreNumbered, meaning};
 
 use crate::build_form::{build_form, build_relation};
-use crate::refusal::SyntaxError;
 use crate::judge_text::first_of_forms;
 use crate::named::are_named;
-use goal_forms::{Context, FlatData, Form, Prefixes, define, number_prefixes, parse_form, turn_both};
+use crate::refusal::SyntaxError;
+use goal_forms::{
+    Context, FlatData, Form, Prefixes, define, number_prefixes, parse_form, turn_both,
+};
 use kan_grammar::Dialect;
 use kan_model::{Draft, Program, Query};
 use kan_terms::{ListOf, Memory, Names};
@@ -59,9 +61,11 @@ fn build_library_form(context: &Context, place: u32, draft: &mut Draft) -> Resul
     requires room { HasRoom (tables draft.old) }
     ensures means { OnOk result (AddsRelations (tables draft.old) (tables draft.new)
         (form_relations context.now place)) }
-    ensures names { OnOk result (AddsNames (tables draft.old) (tables draft.new) (form_names context.now place)) }
+    ensures names { OnOk result
+        (AddsNames (tables draft.old) (tables draft.new) (form_names context.now place)) }
     ensures room { OnOk result (HasRoom (tables draft.new)) }
-    ensures closed { OnOk result (KeepsClosed (data_of context.now) (tables draft.old) (tables draft.new)
+    ensures closed { OnOk result
+        (KeepsClosed (data_of context.now) (tables draft.old) (tables draft.new)
         (bodies_named (form_relations context.now place))) }
     ensures equational { OnOk result (AddsEquational (tables draft.old) (tables draft.new)
         (list_all is_equational_body (form_relations context.now place))) }
@@ -77,9 +81,11 @@ fn build_library(context: &Context, forms: &[u32], draft: &mut Draft) -> Result<
     requires room { HasRoom (tables draft.old) }
     ensures means { OnOk result (AddsRelations (tables draft.old) (tables draft.new)
         (forms_relations context.now forms.now)) }
-    ensures names { OnOk result (AddsNames (tables draft.old) (tables draft.new) (forms_names context.now forms.now)) }
+    ensures names { OnOk result
+        (AddsNames (tables draft.old) (tables draft.new) (forms_names context.now forms.now)) }
     ensures room { OnOk result (HasRoom (tables draft.new)) }
-    ensures closed { OnOk result (KeepsClosed (data_of context.now) (tables draft.old) (tables draft.new)
+    ensures closed { OnOk result
+        (KeepsClosed (data_of context.now) (tables draft.old) (tables draft.new)
         (bodies_named (forms_relations context.now forms.now))) }
     ensures equational { OnOk result (AddsEquational (tables draft.old) (tables draft.new)
         (list_all is_equational_body (forms_relations context.now forms.now))) }
@@ -98,18 +104,27 @@ fn build_text(
     queries: &mut Queries,
 ) -> Result<(), Memory>
     requires room { HasRoom (tables draft.old) }
-    ensures means { OnOk result (AddsForms (tables draft.old) (tables draft.new) queries.old queries.new
+    ensures means { OnOk result
+        (AddsForms (tables draft.old) (tables draft.new) queries.old queries.new
         (forms_relations context.now forms.now)
         (forms_queries context.now forms.now)) }
-    ensures names { OnOk result (AddsNames (tables draft.old) (tables draft.new) (forms_names context.now forms.now)) }
+    ensures names { OnOk result
+        (AddsNames (tables draft.old) (tables draft.new) (forms_names context.now forms.now)) }
     ensures room { OnOk result (HasRoom (tables draft.new)) }
-    ensures closed { OnOk result (KeepsClosed (data_of context.now) (tables draft.old) (tables draft.new)
+    ensures closed { OnOk result
+        (KeepsClosed (data_of context.now) (tables draft.old) (tables draft.new)
         (all_named (forms_relations context.now forms.now) (forms_queries context.now forms.now))) }
     ensures equational { OnOk result (AddsEquational (tables draft.old) (tables draft.new)
-        (are_equational (forms_relations context.now forms.now) (forms_queries context.now forms.now))) }
+        (are_equational (forms_relations context.now forms.now)
+        (forms_queries context.now forms.now))) }
 {
     for place in forms {
-        build_form(context, parse_form(context.flat, context.names, *place), draft, queries)?;
+        build_form(
+            context,
+            parse_form(context.flat, context.names, *place),
+            draft,
+            queries,
+        )?;
     }
     Ok(())
 }
@@ -129,19 +144,22 @@ fn are_narrow(program: &Program) -> bool
     true
 }
 
-// Closes a draft with the goals of runs, in which nothing is open. Where a goal is too wide or a symbol has no name, there is
+// Closes a draft with the goals of runs, in which nothing is open. Where a goal is too wide or a
+// symbol has no name, there is
 // no memory for it; no text comes to that.
 fn close(draft: Draft, queries: Queries, names: &Names) -> Result<Compiled, Memory>
     requires room { HasRoom (tables draft) }
     requires closed { are_closed (tables draft) (map goal_place queries) ≡ true }
     ensures tables { IfOk result (λ made. programs.tables made.program ≡ tables draft) }
     ensures queries { IfOk result (λ made. made.queries ≡ queries) }
-    ensures closed { IfOk result (λ made. are_closed (tables draft) (map goal_place queries) ≡ true) }
+    ensures closed { IfOk result
+        (λ made. are_closed (tables draft) (map goal_place queries) ≡ true) }
     ensures small { IfOk result (λ made. is_small (programs.meaning made.program) ≡ true) }
-    ensures named { IfOk result (λ made. are_named names.now (programs.tables made.program) ≡ true) }
+    ensures named { IfOk result
+        (λ made. are_named names.now (programs.tables made.program) ≡ true) }
 {
     let Ok(program) = draft.close(queries.items()) else {
-        return Err(Memory);
+        unreachable!()
     };
     if !are_narrow(&program) || !are_named(names, &program) {
         return Err(Memory);
@@ -153,12 +171,20 @@ fn close(draft: Draft, queries: Queries, names: &Names) -> Result<Compiled, Memo
 fn build_program(context: &Context, library: &[u32], forms: &[u32]) -> Result<Compiled, Memory>
     requires low { AreLow (data_of context.now) }
     requires alone { faults_of context.now.names.now [] (data_at context.now library.now) ≡ [] }
-    requires accepted { faults_of context.now.names.now (data_at context.now library.now) (data_at context.now forms.now) ≡ [] }
-    requires relations { defined_in context.now ≡ definitions context.now.names.now (data_at context.now library.now) ++ definitions context.now.names.now (data_at context.now forms.now) }
-    ensures meant { IfOk result (λ made. IsMeant (text_meaning context.now.dialect context.now.names.now (data_at context.now library.now) (data_at context.now forms.now)) made.program made.queries) }
-    ensures named { IfOk result (λ made. are_named context.now.names.now (programs.tables made.program) ≡ true) }
+    requires accepted { faults_of context.now.names.now (data_at context.now library.now)
+        (data_at context.now forms.now) ≡ [] }
+    requires relations { defined_in context.now
+        ≡ definitions context.now.names.now (data_at context.now library.now)
+        ++ definitions context.now.names.now (data_at context.now forms.now) }
+    ensures meant { IfOk result
+        (λ made. IsMeant (text_meaning context.now.dialect context.now.names.now
+        (data_at context.now library.now)
+        (data_at context.now forms.now)) made.program made.queries) }
+    ensures named { IfOk result
+        (λ made. are_named context.now.names.now (programs.tables made.program) ≡ true) }
     ensures names { IfOk result (λ made. entry_names (programs.tables made.program)
-        ≡ relation_names context.now.names.now (data_at context.now library.now ++ data_at context.now forms.now)) }
+        ≡ relation_names context.now.names.now
+        (data_at context.now library.now ++ data_at context.now forms.now)) }
 {
     let mut draft = Draft::new(context.alloc);
     let mut queries = ListOf::new(context.alloc);
@@ -180,7 +206,8 @@ fn compile_forms(
     requires few { length library.now + length forms.now < 2 ^ 32 }
     requires low { AreLow (sites flat.now) }
     requires alone { faults_of names.now [] (map (site_at (sites flat.now)) library.now) ≡ [] }
-    ensures { CompilesForms dialect names.now (map (site_at (sites flat.now)) library.now) (map (site_at (sites flat.now)) forms.now) result }
+    ensures { CompilesForms dialect names.now (map (site_at (sites flat.now)) library.now)
+        (map (site_at (sites flat.now)) forms.now) result }
 {
     let (relations, before) = define(alloc, flat, names, library, forms)?;
     let context = Context {
@@ -191,7 +218,7 @@ fn compile_forms(
         dialect,
     };
     if let Some(fault) = first_of_forms(&context, before, forms)? {
-        return Err(SyntaxError::Fault(fault.at, fault.number));
+        return Err(SyntaxError::Fault(fault.at, fault.refusal.number()));
     }
     let compiled = build_program(&context, library, forms)?;
     Ok(compiled)
@@ -211,7 +238,9 @@ fn compile_data(
     requires low_library { AreLow (map (meaning names.now) library.now) }
     requires low_text { AreLow (map (meaning names.now) text.now) }
     requires alone { IsAccepted names.now [] (map (written names.now) library.now) }
-    ensures { CompilesForms dialect names.now (map (with_sites names.now) (map (written names.now) library.now)) (map (with_sites names.now) (map (written names.now) text.now)) result }
+    ensures { CompilesForms dialect names.now
+        (map (with_sites names.now) (map (written names.now) library.now))
+        (map (with_sites names.now) (map (written names.now) text.now)) result }
 {
     let mut table = FlatData::new(alloc);
     let places = turn_both(alloc, library, text, names, prefixes, &mut table)?;
@@ -219,8 +248,10 @@ fn compile_data(
     compile_forms(alloc, &table, names, first, later, dialect)
 }
 
-/// Compiles a text behind a library, whose data these are, to its program and its runs. A text with faults is refused by
-/// the one at the least offset, and of two at one offset by the one with the smaller number. The data are those of texts, and
+/// Compiles a text behind a library, whose data these are, to its program and its runs. A text with
+/// faults is refused by
+/// the one at the least offset, and of two at one offset by the one with the smaller number. The
+/// data are those of texts, and
 /// the library is accepted by itself, so nothing is open in what is built of an accepted text.
 pub fn compile(
     alloc: Global,

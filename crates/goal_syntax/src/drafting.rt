@@ -21,11 +21,16 @@ pub(crate) const MOST_ENTRIES: u32 = 0xff_ffff;
 pub(crate) fn add_term(draft: &mut Draft, node: TermNode) -> Result<u32, Memory>
     requires there { is_term_grown (length (tables draft.old).terms) (term_entry node) ≡ true }
     requires room { HasRoom (tables draft.old) }
-    ensures made { IfOk result (λ at. HasTemplate (tables draft.new) at (template_of (templates draft.old) (term_entry node))) }
+    ensures made { IfOk result
+        (λ at. HasTemplate (tables draft.new) at
+        (template_of (templates draft.old) (term_entry node))) }
     ensures grows { OnOk result (Grows (tables draft.old) (tables draft.new)) }
     ensures room { OnOk result (HasRoom (tables draft.new)) }
     ensures same { OnOk result ((tables draft.new).goals ≡ (tables draft.old).goals) }
-    ensures low { OnOk result (is_low (template_of (templates draft.old) (term_entry node)) ≡ true → list_all is_low (templates draft.old) ≡ true → list_all is_low (templates draft.new) ≡ true) }
+    ensures low { OnOk result
+        (is_low (template_of (templates draft.old) (term_entry node))
+        ≡ true → list_all is_low (templates draft.old)
+        ≡ true → list_all is_low (templates draft.new) ≡ true) }
 {
     let at = draft.term(node)?;
     if at < MOST_ENTRIES {
@@ -35,7 +40,8 @@ pub(crate) fn add_term(draft: &mut Draft, node: TermNode) -> Result<u32, Memory>
     }
 }
 
-/// Puts a template, by its place, behind the arguments that are there. A full table has no memory left.
+/// Puts a template, by its place, behind the arguments that are there. A full table has no memory
+/// left.
 pub(crate) fn add_argument(draft: &mut Draft, term: u32) -> Result<u32, Memory>
     requires there { term < length (tables draft.old).terms }
     requires room { HasRoom (tables draft.old) }
@@ -54,14 +60,23 @@ pub(crate) fn add_argument(draft: &mut Draft, term: u32) -> Result<u32, Memory>
 
 /// Adds a goal, and gives its place. A full table has no memory left.
 pub(crate) fn add_goal(draft: &mut Draft, node: GoalNode) -> Result<u32, Memory>
-    requires there { is_goal_grown (tables draft.old) (length (tables draft.old).goals) (goal_entry node) ≡ true }
+    requires there { is_goal_grown (tables draft.old) (length (tables draft.old).goals)
+        (goal_entry node) ≡ true }
     requires room { HasRoom (tables draft.old) }
-    ensures made { IfOk result (λ at. HasGoal (tables draft.new) at (goal_of (templates draft.old) (tables draft.old).arguments (goals draft.old) (goal_entry node))) }
+    ensures made { IfOk result
+        (λ at. HasGoal (tables draft.new) at
+        (goal_of (templates draft.old) (tables draft.old).arguments (goals draft.old)
+        (goal_entry node))) }
     ensures grows { OnOk result (Grows (tables draft.old) (tables draft.new)) }
     ensures room { OnOk result (HasRoom (tables draft.new)) }
-    ensures equational { OnOk result (are_equational_entries (tables draft.new).goals ≡ (are_equational_entries (tables draft.old).goals && is_equational_entry (goal_entry node))) }
+    ensures equational { OnOk result
+        (are_equational_entries (tables draft.new).goals
+        ≡ (are_equational_entries (tables draft.old).goals
+        && is_equational_entry (goal_entry node))) }
     ensures terms { OnOk result ((tables draft.new).terms ≡ (tables draft.old).terms) }
-    ensures called { OnOk result ((rows : List RelationEntry) → are_there rows (tables draft.new).goals ≡ (are_there rows (tables draft.old).goals && call_there rows (goal_entry node))) }
+    ensures called { OnOk result
+        ((rows : List RelationEntry) → are_there rows (tables draft.new).goals
+        ≡ (are_there rows (tables draft.old).goals && call_there rows (goal_entry node))) }
 {
     let at = draft.goal(node)?;
     if at < MOST_ENTRIES {

@@ -51,11 +51,16 @@ impl Row {
 
 /// Adds a goal, and its place to those that were made.
 pub(crate) fn make(node: GoalNode, draft: &mut Draft, places: &mut Vec<u32>) -> Result<(), Memory>
-    requires there { is_goal_grown (tables draft.old) (length (tables draft.old).goals) (goal_entry node) ≡ true }
+    requires there { is_goal_grown (tables draft.old) (length (tables draft.old).goals)
+        (goal_entry node) ≡ true }
     requires room { HasRoom (tables draft.old) }
     requires below { are_below (length (tables draft.old).goals) places.old.items ≡ true }
-    ensures made { OnOk result (built (tables draft.new) places.new.items ≡ with_entry (tables draft.old) (goal_entry node) (built (tables draft.old) places.old.items)) }
-    ensures below { OnOk result (are_below (length (tables draft.new).goals) places.new.items ≡ true) }
+    ensures made { OnOk result
+        (built (tables draft.new) places.new.items
+        ≡ with_entry (tables draft.old) (goal_entry node)
+        (built (tables draft.old) places.old.items)) }
+    ensures below { OnOk result
+        (are_below (length (tables draft.new).goals) places.new.items ≡ true) }
     ensures grows { OnOk result (Grows (tables draft.old) (tables draft.new)) }
     ensures room { OnOk result (HasRoom (tables draft.new)) }
     ensures terms { OnOk result ((tables draft.new).terms ≡ (tables draft.old).terms) }
@@ -69,8 +74,11 @@ pub(crate) fn make(node: GoalNode, draft: &mut Draft, places: &mut Vec<u32>) -> 
 pub(crate) fn join_two(row: Row, draft: &mut Draft, places: &mut Vec<u32>) -> Result<(), Memory>
     requires room { HasRoom (tables draft.old) }
     requires below { are_below (length (tables draft.old).goals) places.old.items ≡ true }
-    ensures made { OnOk result (built (tables draft.new) places.new.items ≡ joined row (built (tables draft.old) places.old.items)) }
-    ensures below { OnOk result (are_below (length (tables draft.new).goals) places.new.items ≡ true) }
+    ensures made { OnOk result
+        (built (tables draft.new) places.new.items
+        ≡ joined row (built (tables draft.old) places.old.items)) }
+    ensures below { OnOk result
+        (are_below (length (tables draft.new).goals) places.new.items ≡ true) }
     ensures grows { OnOk result (Grows (tables draft.old) (tables draft.new)) }
     ensures room { OnOk result (HasRoom (tables draft.new)) }
     ensures terms { OnOk result ((tables draft.new).terms ≡ (tables draft.old).terms) }
@@ -89,8 +97,11 @@ pub(crate) fn join_two(row: Row, draft: &mut Draft, places: &mut Vec<u32>) -> Re
 pub(crate) fn add_slots(count: u32, draft: &mut Draft, places: &mut Vec<u32>) -> Result<(), Memory>
     requires room { HasRoom (tables draft.old) }
     requires below { are_below (length (tables draft.old).goals) places.old.items ≡ true }
-    ensures made { OnOk result (built (tables draft.new) places.new.items ≡ freshened count (built (tables draft.old) places.old.items)) }
-    ensures below { OnOk result (are_below (length (tables draft.new).goals) places.new.items ≡ true) }
+    ensures made { OnOk result
+        (built (tables draft.new) places.new.items
+        ≡ freshened count (built (tables draft.old) places.old.items)) }
+    ensures below { OnOk result
+        (are_below (length (tables draft.new).goals) places.new.items ≡ true) }
     ensures grows { OnOk result (Grows (tables draft.old) (tables draft.new)) }
     ensures room { OnOk result (HasRoom (tables draft.new)) }
     ensures terms { OnOk result ((tables draft.new).terms ≡ (tables draft.old).terms) }
@@ -106,8 +117,11 @@ pub(crate) fn add_slots(count: u32, draft: &mut Draft, places: &mut Vec<u32>) ->
 fn add_later(draft: &mut Draft, places: &mut Vec<u32>) -> Result<(), Memory>
     requires room { HasRoom (tables draft.old) }
     requires below { are_below (length (tables draft.old).goals) places.old.items ≡ true }
-    ensures made { OnOk result (built (tables draft.new) places.new.items ≡ suspended Dialect.All (built (tables draft.old) places.old.items)) }
-    ensures below { OnOk result (are_below (length (tables draft.new).goals) places.new.items ≡ true) }
+    ensures made { OnOk result
+        (built (tables draft.new) places.new.items
+        ≡ suspended Dialect.All (built (tables draft.old) places.old.items)) }
+    ensures below { OnOk result
+        (are_below (length (tables draft.new).goals) places.new.items ≡ true) }
     ensures grows { OnOk result (Grows (tables draft.old) (tables draft.new)) }
     ensures room { OnOk result (HasRoom (tables draft.new)) }
     ensures terms { OnOk result ((tables draft.new).terms ≡ (tables draft.old).terms) }
@@ -127,8 +141,11 @@ pub(crate) fn suspend(
 ) -> Result<(), Memory>
     requires room { HasRoom (tables draft.old) }
     requires below { are_below (length (tables draft.old).goals) places.old.items ≡ true }
-    ensures made { OnOk result (built (tables draft.new) places.new.items ≡ suspended dialect (built (tables draft.old) places.old.items)) }
-    ensures below { OnOk result (are_below (length (tables draft.new).goals) places.new.items ≡ true) }
+    ensures made { OnOk result
+        (built (tables draft.new) places.new.items
+        ≡ suspended dialect (built (tables draft.old) places.old.items)) }
+    ensures below { OnOk result
+        (are_below (length (tables draft.new).goals) places.new.items ≡ true) }
     ensures grows { OnOk result (Grows (tables draft.old) (tables draft.new)) }
     ensures room { OnOk result (HasRoom (tables draft.new)) }
     ensures terms { OnOk result ((tables draft.new).terms ≡ (tables draft.old).terms) }

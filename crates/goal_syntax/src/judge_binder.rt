@@ -7,6 +7,7 @@ ghost use Rattle.goal_syntax.specs.Judging.FaultLists.{AddsFaults};
 
 use crate::fault::{Fault, report};
 use goal_forms::{FlatData, Part, add_name, is_proper, may_bind, pair_parts, quoted_symbol};
+use kan_refusals::Refusal;
 use kan_terms::{Memory, Names};
 use std::alloc::Global;
 
@@ -24,7 +25,7 @@ fn judge_part(
     let node = flat.read(place);
     match node.part {
         Part::Name(symbol) if may_bind(names, before, symbol) => Ok(()),
-        _ => report(faults, node.at, 10),
+        _ => report(faults, node.at, Refusal::BadShape),
     }
 }
 
@@ -62,7 +63,7 @@ pub(crate) fn judge_binder(
     if is_proper(flat, place) {
         return judge_names(alloc, flat, names, place, faults);
     }
-    report(faults, flat.read(place).at, 10)
+    report(faults, flat.read(place).at, Refusal::BadShape)
 }
 
 /// Notes the fault of a tag, which is to be a quoted symbol.
@@ -76,7 +77,7 @@ pub fn judge_tag(
         ((tag names.now (site_at (sites flat.now) place)).faults)) }
 {
     if quoted_symbol(flat, names, place).is_none() {
-        report(faults, flat.read(place).at, 15)?;
+        report(faults, flat.read(place).at, Refusal::BadTag)?;
     }
     Ok(())
 }

@@ -14,7 +14,11 @@ ghost use Rattle.goal_forms.specs.RelationTables.{relations as relations_of};
 use crate::fault::{Fault, report};
 use crate::judge_binder::{judge_binder, judge_names};
 use crate::judge_goal::judge_goals;
-use goal_forms::{Context, FlatData, Form, Part, Relations, Word, binder_names, enter, head_name, head_params, is_proper, limit, may_bind, pair_parts, unnamed, word_of_symbol};
+use goal_forms::{
+    Context, FlatData, Form, Part, Relations, Word, binder_names, enter, head_name, head_params,
+    is_proper, limit, may_bind, pair_parts, unnamed, word_of_symbol,
+};
+use kan_refusals::Refusal;
 use kan_terms::Memory;
 use std::alloc::Global;
 
@@ -28,17 +32,24 @@ fn is_new(relations: &Relations, before: u32, symbol: u32) -> bool
     }
 }
 
-// Notes the fault of a relation's name that is one of the language or has a relation among the first ones.
-fn judge_again(context: &Context, before: u32, head: u32, faults: &mut Vec<Fault>) -> Result<(), Memory>
+// Notes the fault of a relation's name that is one of the language or has a relation among the
+// first ones.
+fn judge_again(
+    context: &Context,
+    before: u32,
+    head: u32,
+    faults: &mut Vec<Fault>,
+) -> Result<(), Memory>
     ensures { OnOk result (AddsFaults faults.old.items faults.new.items
-        (again_faults context.now.names.now (take before (defined_in context.now)) (name_of_head (datum_at context.now head)))) }
+        (again_faults context.now.names.now (take before (defined_in context.now))
+        (name_of_head (datum_at context.now head)))) }
 {
     let Some((at, symbol)) = head_name(context.flat, head) else {
         return Ok(());
     };
     let is_other = matches!(word_of_symbol(context.names, symbol), Word::Other);
     if !(is_other && is_new(context.relations, before, symbol)) {
-        report(faults, at, 14)?;
+        report(faults, at, Refusal::DefinedTwice)?;
     }
     Ok(())
 }
@@ -53,7 +64,7 @@ fn judge_head(context: &Context, head: u32, faults: &mut Vec<Fault>) -> Result<(
             judge_name(context.flat, name, faults)?;
             judge_names(context.alloc, context.flat, context.names, params, faults)
         }
-        _ => report(faults, context.flat.read(head).at, 10),
+        _ => report(faults, context.flat.read(head).at, Refusal::BadShape),
     }
 }
 
@@ -65,7 +76,7 @@ fn judge_name(flat: &FlatData, name: u32, faults: &mut Vec<Fault>) -> Result<(),
     let node = flat.read(name);
     match node.part {
         Part::Name(_) => Ok(()),
-        _ => report(faults, node.at, 10),
+        _ => report(faults, node.at, Refusal::BadShape),
     }
 }
 
@@ -79,19 +90,25 @@ fn judge_limit(flat: &FlatData, place: Option<u32>, faults: &mut Vec<Fault>) -> 
     };
     match limit(flat, place) {
         Some(_) => Ok(()),
-        None => report(faults, flat.read(place).at, 10),
+        None => report(faults, flat.read(place).at, Refusal::BadShape),
     }
 }
 
 // The one name of a run; its fault is noted.
-fn bind_one(context: &Context, at: u32, symbol: u32, faults: &mut Vec<Fault>) -> Result<Vec<u32>, Memory>
-    ensures bound { IfOk result (λ bound. bound.items ≡ (one_name context.now.names.now at symbol).value) }
+fn bind_one(
+    context: &Context,
+    at: u32,
+    symbol: u32,
+    faults: &mut Vec<Fault>,
+) -> Result<Vec<u32>, Memory>
+    ensures bound { IfOk result
+        (λ bound. bound.items ≡ (one_name context.now.names.now at symbol).value) }
     ensures faults { OnOk result (AddsFaults faults.old.items faults.new.items
         ((one_name context.now.names.now at symbol).faults)) }
 {
     let mut bound = Vec::new(context.alloc);
     if !may_bind(context.names, &bound, symbol) {
-        report(faults, at, 10)?;
+        report(faults, at, Refusal::BadShape)?;
     }
     bound.push(symbol)?;
     Ok(bound)
@@ -106,7 +123,8 @@ fn judge_body(
     faults: &mut Vec<Fault>,
 ) -> Result<(), Memory>
     ensures { OnOk result (AddsFaults faults.old.items faults.new.items
-        (goals_faults (defined_in context.now) (within scope.items bound.now) (goals_at context.now goals))) }
+        (goals_faults (defined_in context.now) (within scope.items bound.now)
+        (goals_at context.now goals))) }
 {
     enter(bound, &mut scope)?;
     judge_goals(context, goals, scope, faults)?;
@@ -121,7 +139,8 @@ pub(crate) fn judge_form(
     faults: &mut Vec<Fault>,
 ) -> Result<(), Memory>
     ensures { OnOk result (AddsFaults faults.old.items faults.new.items
-        (form_faults context.now.names.now (defined_in context.now) (take before (defined_in context.now)) (form_of context.now form))) }
+        (form_faults context.now.names.now (defined_in context.now)
+        (take before (defined_in context.now)) (form_of context.now form))) }
 {
     match form {
         Form::Relation(head, goals) => {
@@ -141,7 +160,7 @@ pub(crate) fn judge_form(
             let bound = binder_names(context.alloc, context.flat, binder)?;
             judge_body(context, &bound, goals, unnamed(context.alloc)?, faults)
         }
-        Form::Misshapen(at) => report(faults, at, 10),
-        Form::Unknown(at) => report(faults, at, 9),
+        Form::Misshapen(at) => report(faults, at, Refusal::BadShape),
+        Form::Unknown(at) => report(faults, at, Refusal::UnknownForm),
     }
 }

@@ -15,16 +15,20 @@ ghost use Rattle.goal_forms.specs.Parts.{sites, site_at};
 ghost use Rattle.goal_forms.specs.RelationTables.{relations};
 ghost use Rattle.goal_forms.specs.TermSteps.{site_size};
 
-use crate::judge_binder::{judge_binder, judge_tag};
 use crate::fault::{Fault, report};
+use crate::judge_binder::{judge_binder, judge_tag};
 use crate::judge_term::judge_term;
-use goal_forms::{Context, FlatData, Goal, Task, binder_names, enter, is_proper, pair_parts, parse_goal};
+use goal_forms::{
+    Context, FlatData, Goal, Task, binder_names, enter, is_proper, pair_parts, parse_goal,
+};
+use kan_refusals::Refusal;
 use kan_terms::{Memory, Names};
 use std::alloc::Global;
 
 // How many terms a list has.
 fn count_terms(flat: &FlatData, mut place: u32) -> u32
-    ensures { (names : Table) → result ≡ length (term_forms names (site_at (sites flat.now) place)) }
+    ensures { (names : Table) → result
+        ≡ length (term_forms names (site_at (sites flat.now) place)) }
 {
     let mut counted = 0;
     while let Some((_, rest)) = pair_parts(flat, place) {
@@ -70,8 +74,8 @@ fn judge_head(
         (call_faults (arity (defined_in context.now) symbol) at count)) }
 {
     match context.relations.params(symbol) {
-        None => report(faults, at, 12),
-        Some(params) if count != params => report(faults, at, 13),
+        None => report(faults, at, Refusal::UnknownRelation),
+        Some(params) if count != params => report(faults, at, Refusal::WrongCount),
         Some(_) => Ok(()),
     }
 }
@@ -124,7 +128,9 @@ fn judge_own(
             judge_one(context, scope, left, faults)?;
             judge_one(context, scope, right, faults)
         }
-        Goal::Symbol(term) | Goal::Number(term) | Goal::Text(term) => judge_one(context, scope, term, faults),
+        Goal::Symbol(term) | Goal::Number(term) | Goal::Text(term) => judge_one(
+            context, scope, term, faults,
+        ),
         Goal::Absent(tag, term) => {
             judge_tag(context.flat, context.names, tag, faults)?;
             judge_one(context, scope, term, faults)
@@ -133,12 +139,13 @@ fn judge_own(
             judge_head(context, at, symbol, count_terms(context.flat, args), faults)?;
             judge_terms(context, scope, args, faults)
         }
-        Goal::Misshapen(at) => report(faults, at, 10),
+        Goal::Misshapen(at) => report(faults, at, Refusal::BadShape),
         _ => Ok(()),
     }
 }
 
-// Notes the faults of a binder, puts its names into scope, and the goals in which it binds on the stack.
+// Notes the faults of a binder, puts its names into scope, and the goals in which it binds on the
+// stack.
 fn enter_fresh(
     context: &Context,
     binder: u32,
@@ -149,8 +156,11 @@ fn enter_fresh(
 ) -> Result<(), Memory>
     ensures faults { OnOk result (AddsFaults faults.old.items faults.new.items
         ((binder_at context.now binder).faults)) }
-    ensures scope { OnOk result (scope.new.items ≡ within scope.old.items (binder_at context.now binder).value) }
-    ensures waiting { OnOk result (waiting.new.items ≡ waiting.old.items ++ Waiting.Leave (length scope.old.items) ∷ Waiting.Goals goals ∷ []) }
+    ensures scope { OnOk result
+        (scope.new.items ≡ within scope.old.items (binder_at context.now binder).value) }
+    ensures waiting { OnOk result
+        (waiting.new.items ≡ waiting.old.items ++ Waiting.Leave (length scope.old.items)
+        ∷ Waiting.Goals goals ∷ []) }
 {
     waiting.push(Waiting::Leave(scope.len()))?;
     judge_binder(context.alloc, context.flat, context.names, binder, faults)?;
@@ -170,8 +180,11 @@ fn wait_for(
 ) -> Result<(), Memory>
     ensures faults { OnOk result (AddsFaults faults.old.items faults.new.items
         (fresh_faults context.now.names.now (data_of context.now) goal)) }
-    ensures scope { OnOk result (scope.new.items ≡ inner_names context.now.names.now (data_of context.now) scope.old.items goal) }
-    ensures waiting { OnOk result (waiting.new.items ≡ waiting.old.items ++ inner_waiting scope.old.items goal) }
+    ensures scope { OnOk result
+        (scope.new.items ≡ inner_names context.now.names.now
+        (data_of context.now) scope.old.items goal) }
+    ensures waiting { OnOk result
+        (waiting.new.items ≡ waiting.old.items ++ inner_waiting scope.old.items goal) }
 {
     match goal {
         Goal::Fresh(binder, goals) => enter_fresh(context, binder, goals, scope, waiting, faults),
@@ -198,9 +211,11 @@ fn judge_goal(
     ensures faults { OnOk result (fault_list faults.new.items
         ++ faults_left context.now scope.new.items (reverse waiting.new.items)
         ≡ fault_list faults.old.items
-        ++ faults_left context.now scope.old.items (Waiting.Goal place ∷ reverse waiting.old.items)) }
+        ++ faults_left context.now scope.old.items
+        (Waiting.Goal place ∷ reverse waiting.old.items)) }
     ensures parts { OnOk result (stack_parts (data_of context.now) waiting.new.items
-        < site_size (datum_at context.now place) + stack_parts (data_of context.now) waiting.old.items) }
+        < site_size (datum_at context.now place) + stack_parts
+        (data_of context.now) waiting.old.items) }
 {
     let goal = parse_goal(context.flat, context.names, place);
     judge_own(context, scope, goal, faults)?;
@@ -214,7 +229,8 @@ fn wait_for_goals(context: &Context, place: u32, waiting: &mut Vec<Waiting>) -> 
         faults_left context.now slots (reverse waiting.new.items)
         ≡ faults_left context.now slots (Waiting.Goals place ∷ reverse waiting.old.items)) }
     ensures parts { OnOk result (stack_parts (data_of context.now) waiting.new.items
-        < site_size (datum_at context.now place) + stack_parts (data_of context.now) waiting.old.items) }
+        < site_size (datum_at context.now place) + stack_parts
+        (data_of context.now) waiting.old.items) }
 {
     if let Some((first, rest)) = pair_parts(context.flat, place) {
         waiting.push(Waiting::Goals(rest))?;
@@ -235,7 +251,8 @@ fn wait_for_clauses(
         ≡ fault_list faults.old.items
         ++ faults_left context.now slots (Waiting.Clauses place ∷ reverse waiting.old.items)) }
     ensures parts { OnOk result (stack_parts (data_of context.now) waiting.new.items
-        < site_size (datum_at context.now place) + stack_parts (data_of context.now) waiting.old.items) }
+        < site_size (datum_at context.now place) + stack_parts
+        (data_of context.now) waiting.old.items) }
 {
     let Some((clause, rest)) = pair_parts(context.flat, place) else {
         return Ok(());
@@ -244,12 +261,13 @@ fn wait_for_clauses(
     if is_proper(context.flat, clause) {
         waiting.push(Waiting::Goals(clause))?;
     } else {
-        report(faults, context.flat.read(clause).at, 10)?;
+        report(faults, context.flat.read(clause).at, Refusal::BadShape)?;
     }
     Ok(())
 }
 
-// Notes the faults of what comes next, but for those of what stands in it, which is put on the stack.
+// Notes the faults of what comes next, but for those of what stands in it, which is put on the
+// stack.
 fn judge_next(
     context: &Context,
     next: Waiting,
@@ -262,7 +280,8 @@ fn judge_next(
         ≡ fault_list faults.old.items
         ++ faults_left context.now scope.old.items (next ∷ reverse waiting.old.items)) }
     ensures parts { OnOk result (stack_parts (data_of context.now) waiting.new.items
-        < waiting_parts (data_of context.now) next + stack_parts (data_of context.now) waiting.old.items) }
+        < waiting_parts (data_of context.now) next + stack_parts
+        (data_of context.now) waiting.old.items) }
 {
     match next {
         Waiting::Goal(place) => judge_goal(context, place, scope, waiting, faults)?,

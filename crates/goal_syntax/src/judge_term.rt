@@ -10,6 +10,7 @@ ghost use Rattle.goal_syntax.specs.Judging.TermsLeft.{own_uses, later_uses, wait
 
 use crate::fault::{Fault, report};
 use goal_forms::{FlatData, Step, Task, parse_task, slot_of};
+use kan_refusals::Refusal;
 use kan_terms::{Memory, Names};
 use std::alloc::Global;
 
@@ -21,19 +22,25 @@ fn judge_step(scope: &[Option<u32>], step: Step, faults: &mut Vec<Fault>) -> Res
     match step {
         Step::Variable(at, symbol) => {
             if slot_of(scope, symbol).is_none() {
-                report(faults, at, 11)?;
+                report(faults, at, Refusal::UnboundName)?;
             }
             Ok(())
         }
-        Step::Misshapen(at) => report(faults, at, 10),
+        Step::Misshapen(at) => report(faults, at, Refusal::BadShape),
         _ => Ok(()),
     }
 }
 
 // Puts the tasks of a step on the stack, the first one on top.
-fn wait_for(flat: &FlatData, names: &Names, step: Step, waiting: &mut Vec<Task>) -> Result<(), Memory>
+fn wait_for(
+    flat: &FlatData,
+    names: &Names,
+    step: Step,
+    waiting: &mut Vec<Task>,
+) -> Result<(), Memory>
     ensures uses { OnOk result (waiting_uses (sites flat.now) names.now waiting.new.items
-        ≡ later_uses (sites flat.now) names.now step ++ waiting_uses (sites flat.now) names.now waiting.old.items) }
+        ≡ later_uses (sites flat.now) names.now step
+        ++ waiting_uses (sites flat.now) names.now waiting.old.items) }
     ensures size { OnOk result (waiting_size (sites flat.now) waiting.new.items
         ≡ step_size (sites flat.now) step + waiting_size (sites flat.now) waiting.old.items) }
 {

@@ -15,7 +15,7 @@ use kan_terms::Memory;
 fn is_before(fault: Fault, other: Fault) -> bool
     ensures { result ≡ is_before (fault_of fault) (fault_of other) }
 {
-    fault.at < other.at || fault.at == other.at && fault.number <= other.number
+    fault.at < other.at || fault.at == other.at && fault.refusal.number() <= other.refusal.number()
 }
 
 // The first of a fault and maybe another.
@@ -51,16 +51,23 @@ pub(crate) fn judge_forms(
     requires later { defined_in context.now ≡ take before (defined_in context.now)
         ++ definitions context.now.names.now (data_at context.now forms.now) }
     ensures { OnOk result (AddsFaults faults.old.items faults.new.items
-        (forms_faults context.now.names.now (defined_in context.now) (take before (defined_in context.now)) (data_at context.now forms.now))) }
+        (forms_faults context.now.names.now (defined_in context.now)
+        (take before (defined_in context.now)) (data_at context.now forms.now))) }
 {
     for place in forms {
-        judge_form(context, before, parse_form(context.flat, context.names, *place), faults)?;
+        judge_form(
+            context,
+            before,
+            parse_form(context.flat, context.names, *place),
+            faults,
+        )?;
         before += count_defined(context.flat, context.names, *place);
     }
     Ok(())
 }
 
-/// The fault that comes first of top forms before which this many relations are defined, where they have one.
+/// The fault that comes first of top forms before which this many relations are defined, where they
+/// have one.
 pub(crate) fn first_of_forms(
     context: &Context,
     before: u32,
@@ -71,7 +78,8 @@ pub(crate) fn first_of_forms(
     requires later { defined_in context.now ≡ take before (defined_in context.now)
         ++ definitions context.now.names.now (data_at context.now forms.now) }
     ensures { IfOk result (λ fault. option_map fault_of fault
-        ≡ least (forms_faults context.now.names.now (defined_in context.now) (take before (defined_in context.now)) (data_at context.now forms.now))) }
+        ≡ least (forms_faults context.now.names.now (defined_in context.now)
+        (take before (defined_in context.now)) (data_at context.now forms.now))) }
 {
     let mut faults = Vec::new(context.alloc);
     judge_forms(context, before, forms, &mut faults)?;

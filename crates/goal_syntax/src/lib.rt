@@ -1,4 +1,5 @@
-//! The grammar of texts: which program and which runs the data of a text are, or which fault they have.
+//! The grammar of texts: which program and which runs the data of a text are, or which fault they
+//! have.
 #![tactic(auto)]
 
 mod build_form;

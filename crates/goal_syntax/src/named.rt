@@ -48,7 +48,8 @@ fn is_goal_named(names: &Names, node: GoalNode) -> bool
 // The same of all templates.
 fn are_terms_named(names: &Names, program: &Program) -> bool
     requires { length (programs.tables program.now).terms < 2 ^ 24 }
-    ensures { result ≡ list_all (named.is_term_named names.now) (programs.tables program.now).terms }
+    ensures { result ≡ list_all (named.is_term_named names.now)
+        (programs.tables program.now).terms }
 {
     let mut at = 0;
     while let Some(node) = program.term(at) {
@@ -63,7 +64,8 @@ fn are_terms_named(names: &Names, program: &Program) -> bool
 // The same of all goals.
 fn are_goals_named(names: &Names, program: &Program) -> bool
     requires { length (programs.tables program.now).goals < 2 ^ 24 }
-    ensures { result ≡ list_all (named.is_goal_named names.now) (programs.tables program.now).goals }
+    ensures { result ≡ list_all (named.is_goal_named names.now)
+        (programs.tables program.now).goals }
 {
     let mut at = 0;
     while let Some(node) = program.goal(at) {
@@ -78,7 +80,8 @@ fn are_goals_named(names: &Names, program: &Program) -> bool
 // The same of all relations.
 fn are_relations_named(names: &Names, program: &Program) -> bool
     requires { length (programs.tables program.now).relations < 2 ^ 24 }
-    ensures { result ≡ list_all (named.is_relation_named names.now) (programs.tables program.now).relations }
+    ensures { result ≡ list_all (named.is_relation_named names.now)
+        (programs.tables program.now).relations }
 {
     let mut at = 0;
     while let Some(relation) = program.relation(at) {

@@ -1,10 +1,14 @@
 -- Data of texts, and libraries that are accepted by themselves, for those who compile.
 use Rattle.std.proofs.Common.{◌≡◌, ◌≤◌, ◌^◌, ℕ, List, [], length, refl, arith}
+use Rattle.std.specs.Prelude.{Ok}
 use Rattle.std.specs.Str.{is_utf8, chars}
 use Rattle.kan_terms.specs.Table.{Table}
 use Rattle.kan_grammar.specs.Data.Faults.{run, read_tokens, read_text, data_are}
 use Rattle.kan_grammar.specs.Data.Tokens.{tokens, tokens_from}
 use Rattle.kan_grammar.specs.Texts.TextFaults.{faults_of}
+use Rattle.kan_grammar.specs.Texts.TextNames.{GoesOn, with_prefixes}
+use Rattle.kan_grammar.proofs.Texts.NameLaws.{extends_prefixes, goes_on_further}
+use Rattle.sexpr.specs.Reads.{Reads}
 use Rattle.sexpr.specs.Seen.{as_kept}
 use Rattle.sexpr.specs.declared.data.Datum.{Datum}
 use Rattle.goal_syntax.specs.Compiling.Compiles.{AreOfText, IsAcceptedAlone}
@@ -16,6 +20,14 @@ empty_read = refl
 
 pub none_of_text : (names : Table) (ds : List Datum) → ds ≡ [] → AreOfText names ds
 none_of_text names ds e = rw e (record { bytes = []; few = omega arith; are = empty_read })
+
+-- data that were read are those of their text, under a table that goes on
+pub read_of_text : (old new : Table) (bytes : List ℕ) (ds : List Datum) → length bytes ≤ 1048576 → GoesOn old new → ((later : Table) → GoesOn old later → Reads bytes later (Ok ds)) → AreOfText (with_prefixes new) ds
+read_of_text old new bytes ds few further reads = record {
+  bytes = bytes;
+  few = few;
+  are = reads (with_prefixes new) (goes_on_further old new (with_prefixes new) further (extends_prefixes new).goes_on);
+}
 
 -- an empty library is accepted
 none_faulty : (t : Table) → faults_of t [] [] ≡ []
