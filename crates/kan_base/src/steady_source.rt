@@ -1,10 +1,11 @@
-//! A source and a sink that never fail.
+//! A source that never fails.
 
-ghost use Rattle.std.specs.Prelude.{◌≡◌, ◌+◌, ◌-◌, ◌^◌, ◌<◌, [], None, Some, IfOk, IsOk, min, length, drop};
+ghost use Rattle.std.specs.Prelude.{◌≡◌, ◌<◌, [], Some, IfOk, IsOk, min, length, drop};
 ghost use Rattle.kan_base.specs.Reads.{Reads};
 
 use crate::copy::copy_front;
-use crate::outside::{Failed, Place, Sink, Source};
+use crate::faults::Failed;
+use crate::sources::{Place, Source};
 use std::marker::Model;
 
 /// A source where every place holds one text. No call fails.
@@ -16,7 +17,7 @@ pub struct SteadySource {
 
 impl Model for SteadySource {
     ghost use Rattle.std.specs.Prelude.{◌≤◌, length, drop};
-    ghost use Rattle.kan_base.specs.Steady.{SteadyState};
+    ghost use Rattle.kan_base.specs.SteadySources.{SteadyState};
 
     ghost Value = { SteadyState };
 
@@ -36,11 +37,11 @@ impl SteadySource {
 }
 
 impl Source for SteadySource {
-    ghost holds = { λ source place. Some source.text };
-
-    ghost left = { λ source. Some source.left };
-
-    ghost faults = { λ source. 0 };
+    ghost view = { λ source. record {
+      holds = λ place. Some source.text;
+      left = Some source.left;
+      faults = 0;
+    } };
 
     fn open(&mut self, _place: Place<'_>) -> Result<(), Failed>
         ensures never_fails { IsOk result }
@@ -62,50 +63,5 @@ impl Source for SteadySource {
         copy_front(left, buf, n);
         self.at += n;
         Ok(n)
-    }
-}
-
-/// A sink that takes every byte and keeps their number alone. No call fails.
-#[derive(Drop)]
-pub struct CountSink {
-    count: u64,
-}
-
-impl Model for CountSink {
-    ghost use Rattle.std.specs.Prelude.{ℕ};
-
-    ghost Value = { ℕ };
-
-    ghost view = { λ sink. sink.count };
-}
-
-impl CountSink {
-    /// A sink that has taken nothing.
-    pub fn new() -> CountSink
-        ensures { result ≡ 0 }
-    {
-        CountSink { count: 0 }
-    }
-
-    /// How many bytes were taken, where the count stays at the greatest `u64`.
-    pub fn count(&self) -> u64
-        ensures { result ≡ self.now }
-    {
-        self.count
-    }
-}
-
-impl Sink for CountSink {
-    ghost put = { λ sink. None };
-
-    ghost faults = { λ sink. 0 };
-
-    fn write(&mut self, piece: &[u8]) -> Result<usize, Failed>
-        ensures never_fails { IsOk result }
-        ensures count { IfOk result (λ n. n ≡ length piece.now) }
-        ensures exact { self.new ≡ min (self.old + length piece.now) (2 ^ 64 - 1) }
-    {
-        self.count = self.count.saturating_add(piece.len() as u64);
-        Ok(piece.len())
     }
 }
