@@ -10,3 +10,4 @@ pub mod InMemory
 pub mod Files
 pub mod Opened
 pub mod SteadySources
+pub mod StdSources

@@ -26,7 +26,8 @@ pub record TakesAtMost (n : ℕ) (old new : Option (List ℕ)) : Type 0 where
   pub size : length front ≤ n
   pub taken : Consumes old new front
 
--- why there is no text: one byte more than a text may have was taken, or there was no memory before that; a fault says nothing of what is left
+-- why there is no text: one byte more than a text may have was taken, or there was no memory
+-- before that; a fault says nothing of what is left
 abbrev pub Stops : TextStop → Option (List ℕ) → Option (List ℕ) → Type 0
 Stops Fault old new = ⊤
 Stops TooLong old new = TakesCount (greatest_text + 1) old new
@@ -38,7 +39,8 @@ StopsAfter before Fault old new = ⊤
 StopsAfter before TooLong old new = (n : ℕ) × (length before + n ≡ greatest_text + 1) × TakesCount n old new
 StopsAfter before Memory old new = (n : ℕ) × (length before + n ≤ greatest_text) × TakesCount n old new
 
--- how many calls have failed after the reading of a text: one more where it stopped at a fault, else as many as before
+-- how many calls have failed after the reading of a text: one more where it stopped at a fault,
+-- else as many as before
 abbrev pub faults_after_text : {A : Type 0} → Result A TextStop → ℕ → ℕ
 faults_after_text (Ok x) faults = faults
 faults_after_text (Err Fault) faults = one_more faults

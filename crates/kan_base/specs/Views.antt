@@ -2,7 +2,8 @@
 use Rattle.std.specs.Prelude.{◌≡◌, ℕ, List, Option}
 use Rattle.kan_base.specs.Spots.{Spot}
 
--- what each place holds and what is left of the opened one, where that is told, and how many calls have failed
+-- what each place holds and what is left of the opened one, where that is told, and how many
+-- calls have failed
 pub record SourceView : Type 0 where
   pub holds : Spot → Option (List ℕ)
   pub left : Option (List ℕ)

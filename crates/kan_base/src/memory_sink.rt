@@ -4,7 +4,8 @@ ghost use Rattle.std.specs.Prelude.{◌≡◌, ◌≤◌, [], Some, IfOk, IfErr,
 ghost use Rattle.kan_base.specs.Faults.{faults_after};
 ghost use Rattle.kan_base.specs.Writes.{Writes};
 ghost use Rattle.kan_base.specs.Plans.{new_plan};
-ghost use Rattle.kan_base.specs.InMemory.{write_fails, write_count, after_write, after_failed_write};
+ghost use Rattle.kan_base.specs.InMemory.{write_fails, write_count};
+ghost use Rattle.kan_base.specs.InMemory.{after_write, after_failed_write};
 
 use crate::faults::Failed;
 use crate::plan::Plan;
@@ -80,10 +81,10 @@ impl Sink for MemorySink {
     ghost view = { λ sink. record { put = Some sink.put; faults = sink.plan.faults } };
 
     fn write(&mut self, piece: &[u8]) -> Result<usize, Failed>
-        ensures written { IfOk result (λ n. Writes (Some self.old.put) (Some self.new.put) n piece.now) }
+        ensures written { IfOk result (λ n.
+            Writes (Some self.old.put) (Some self.new.put) n piece.now) }
         ensures faults { self.new.plan.faults ≡ faults_after result self.old.plan.faults }
-        // A write fails exactly where it is planned to, and where nothing fits of a piece that isn't
-        // empty.
+        // Exactly where it is planned to, and where nothing of a piece that isn't empty fits.
         ensures fails { is_err result ≡ write_fails self.old piece.now }
         ensures count { IfOk result (λ n. n ≡ write_count self.old piece.now) }
         ensures ok { IfOk result (λ n. self.new ≡ after_write self.old n piece.now) }

@@ -1,11 +1,13 @@
 //! A source whose places are kept in memory.
 
-ghost use Rattle.std.specs.Prelude.{◌≡◌, ◌<◌, ◌≤◌, [], None, Some, MatchOption, IfOk, OnOk, OnErr, is_err, length};
+ghost use Rattle.std.specs.Prelude.{◌≡◌, ◌<◌, ◌≤◌, [], None, Some, MatchOption, length};
+ghost use Rattle.std.specs.Prelude.{IfOk, OnOk, OnErr, is_err};
 ghost use Rattle.kan_base.specs.Spots.{spot};
 ghost use Rattle.kan_base.specs.Faults.{faults_after};
 ghost use Rattle.kan_base.specs.Reads.{Reads};
 ghost use Rattle.kan_base.specs.Plans.{is_due, new_plan};
-ghost use Rattle.kan_base.specs.InMemory.{file_of, content_of, open_fails, read_count, after_open, after_read, after_failed_call};
+ghost use Rattle.kan_base.specs.InMemory.{file_of, content_of, open_fails, read_count};
+ghost use Rattle.kan_base.specs.InMemory.{after_open, after_read, after_failed_call};
 ghost use Rattle.kan_base.specs.Files.{all_named, FindsAt};
 ghost use Rattle.kan_base.specs.Opened.{opened_bytes};
 
@@ -93,7 +95,7 @@ impl Source for MemorySource {
 
     fn open(&mut self, place: Place<'_>) -> Result<(), Failed>
         ensures faults { self.new.plan.faults ≡ faults_after result self.old.plan.faults }
-        // An open fails exactly where it is planned to, and where the place isn't there.
+        // Exactly where it is planned to, and where the place isn't there.
         ensures fails { is_err result ≡ open_fails self.old (spot place.entry) }
         ensures ok { OnOk result (self.new ≡ after_open self.old (spot place.entry)) }
         ensures err { OnErr result (self.new ≡ after_failed_call self.old) }
@@ -118,9 +120,10 @@ impl Source for MemorySource {
 
     fn read(&mut self, buf: &mut [u8]) -> Result<usize, Failed>
         requires { 0 < length buf.old }
-        ensures read { IfOk result (λ n. Reads (Some self.old.left) (Some self.new.left) n buf.new) }
+        ensures read { IfOk result (λ n.
+            Reads (Some self.old.left) (Some self.new.left) n buf.new) }
         ensures faults { self.new.plan.faults ≡ faults_after result self.old.plan.faults }
-        // A read fails exactly where it is planned to.
+        // Exactly where it is planned to.
         ensures fails { is_err result ≡ is_due self.old.plan }
         ensures count { IfOk result (λ n. n ≡ read_count self.old buf.old) }
         ensures ok { IfOk result (λ n. self.new ≡ after_read self.old n) }

@@ -19,7 +19,11 @@ impl Model for Plan {
 
     ghost Value = { CallPlan };
 
-    ghost view = { λ plan. record { fails = plan.fails.items; calls = plan.calls; faults = plan.faults } };
+    ghost view = { λ plan. record {
+      fails = plan.fails.items;
+      calls = plan.calls;
+      faults = plan.faults;
+    } };
 }
 
 impl Plan {

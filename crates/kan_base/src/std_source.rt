@@ -1,68 +1,92 @@
-//! The source over std's input and files. What they hold isn't told.
+//! The source over std's input and files.
 
 ghost use Rattle.std.specs.Prelude.{◌≡◌, ◌<◌, None, IfOk, length};
 ghost use Rattle.kan_base.specs.Faults.{faults_after};
 ghost use Rattle.kan_base.specs.Reads.{Reads};
+ghost use Rattle.kan_base.specs.StdSources.{left_of};
 
 use crate::faults::{Failed, one_more};
 use crate::sources::{Place, Source};
 use crate::std_streams::read_some;
 use std::fs;
-use std::io::Input;
+use std::io::{Input, Read};
 use std::marker::Model;
 use std::rt::Files;
 
-/// What a source over std has open.
+/// What a source over std has open: a reader of standard input, or one of a file.
 #[derive(Drop)]
-enum Opened<R: Files + Input> {
+enum OpenStream<I, F> {
     Nothing,
-    Input(R::Reader),
-    File(R::File),
+    Input(I),
+    File(F),
 }
 
-/// Standard input and files, by the runtime.
+impl<I: Read, F: Read> OpenStream<I, F> {
+    /// Reads the next bytes into the front of `buf`, and says how many.
+    fn read(&mut self, buf: &mut [u8]) -> Result<usize, Failed>
+        requires { 0 < length buf.old }
+        ensures { IfOk result (λ n. Reads (left_of I.remaining F.remaining self.old)
+            (left_of I.remaining F.remaining self.new) n buf.new) }
+    {
+        match self {
+            OpenStream::Nothing => Ok(0),
+            OpenStream::Input(reader) => read_some(reader, buf),
+            OpenStream::File(file) => read_some(file, buf),
+        }
+    }
+}
+
+/// Standard input and files, by the runtime. What is left of the opened place is told where the
+/// runtime's readers tell it; those of the host don't.
 #[derive(Drop)]
 pub struct StdSource<R: Files + Input + Drop> {
     rt: R,
-    opened: Opened<R>,
+    opened: OpenStream<R::Reader, R::File>,
     faults: u64,
 }
 
 impl<R: Files + Input + Drop> Model for StdSource<R> {
-    ghost use Rattle.std.specs.Prelude.{ℕ};
+    ghost use Rattle.kan_base.specs.StdSources.{StdSourceState, left_of};
 
-    ghost Value = { ℕ };
+    ghost Value = { StdSourceState };
 
-    ghost view = { λ source. source.faults };
+    ghost view = { λ source. record {
+      left = left_of R.Reader.remaining R.File.remaining source.opened;
+      faults = source.faults;
+    } };
 }
 
 impl<R: Files + Input + Drop> StdSource<R> {
-    /// A source that has nothing open. It is seen as its count of faults.
+    /// A source that has nothing open.
     pub fn new(rt: R) -> StdSource<R>
-        ensures { result ≡ 0 }
+        ensures { result ≡ record { left = None; faults = 0 } }
     {
         StdSource {
             rt,
-            opened: Opened::Nothing,
+            opened: OpenStream::Nothing,
             faults: 0,
         }
     }
 }
 
 impl<R: Files + Input + Drop> Source for StdSource<R> {
-    ghost view = { λ source. record { holds = λ place. None; left = None; faults = source } };
+    ghost view = { λ source. record {
+      holds = λ place. None;
+      left = source.left;
+      faults = source.faults;
+    } };
 
     fn open(&mut self, place: Place<'_>) -> Result<(), Failed>
-        ensures faults { self.new ≡ faults_after result self.old }
+        ensures faults { self.new.faults ≡ faults_after result self.old.faults }
     {
         match place {
             Place::Input => {
-                self.opened = Opened::Input(self.rt.reader());
+                self.opened = OpenStream::Input(self.rt.reader());
                 Ok(())
             }
             Place::File(name) => match fs::open(&self.rt, name) {
                 Ok(file) => {
-                    self.opened = Opened::File(file);
+                    self.opened = OpenStream::File(file);
                     Ok(())
                 }
                 Err(_) => {
@@ -75,14 +99,10 @@ impl<R: Files + Input + Drop> Source for StdSource<R> {
 
     fn read(&mut self, buf: &mut [u8]) -> Result<usize, Failed>
         requires { 0 < length buf.old }
-        ensures read { IfOk result (λ n. Reads None None n buf.new) }
-        ensures faults { self.new ≡ faults_after result self.old }
+        ensures read { IfOk result (λ n. Reads self.old.left self.new.left n buf.new) }
+        ensures faults { self.new.faults ≡ faults_after result self.old.faults }
     {
-        let result = match &mut self.opened {
-            Opened::Nothing => Ok(0),
-            Opened::Input(reader) => read_some(reader, buf),
-            Opened::File(file) => read_some(file, buf),
-        };
+        let result = self.opened.read(buf);
         if result.is_err() {
             self.faults = one_more(self.faults);
         }

@@ -21,7 +21,10 @@ impl Model for SteadySource {
 
     ghost Value = { SteadyState };
 
-    ghost view = { λ source. record { text = source.text.items; left = drop source.at source.text.items } };
+    ghost view = { λ source. record {
+      text = source.text.items;
+      left = drop source.at source.text.items;
+    } };
 
     ghost invariant = { λ source. source.at ≤ length source.text.items };
 }
@@ -53,10 +56,12 @@ impl Source for SteadySource {
 
     fn read(&mut self, buf: &mut [u8]) -> Result<usize, Failed>
         requires { 0 < length buf.old }
-        ensures read { IfOk result (λ n. Reads (Some self.old.left) (Some self.new.left) n buf.new) }
+        ensures read { IfOk result (λ n.
+            Reads (Some self.old.left) (Some self.new.left) n buf.new) }
         ensures never_fails { IsOk result }
         ensures count { IfOk result (λ n. n ≡ min (length self.old.left) (length buf.old)) }
-        ensures exact { IfOk result (λ n. self.new ≡ record self.old { left = drop n self.old.left }) }
+        ensures exact { IfOk result (λ n.
+            self.new ≡ record self.old { left = drop n self.old.left }) }
     {
         let left = &self.text[self.at..];
         let n = left.len().min(buf.len());
