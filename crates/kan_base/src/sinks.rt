@@ -22,6 +22,7 @@ pub trait Sink {
 }
 
 /// Puts a whole piece, by as many writes as the sink wants. The first write that fails is the last.
+#[tactic(auto, using(crate::proofs::WriteLemmas::front_put))]
 pub fn put_all<K: Sink>(sink: &mut K, piece: &[u8]) -> Result<(), Failed>
     ensures whole { OnOk result (Appends (K.view sink.old).put (K.view sink.new).put piece.now) }
     ensures front { OnErr result (PutsFront (K.view sink.old).put (K.view sink.new).put piece.now) }
