@@ -1,9 +1,10 @@
 //! The source over std's input and files.
 
-ghost use Rattle.std.specs.Prelude.{◌≡◌, ◌<◌, None, IfOk, length};
+ghost use Rattle.std.specs.Prelude.{◌≡◌, ◌<◌, None, IfOk, OnOk, length};
 ghost use Rattle.kan_base.specs.Faults.{faults_after};
+ghost use Rattle.kan_base.specs.Spots.{spot};
 ghost use Rattle.kan_base.specs.Reads.{Reads};
-ghost use Rattle.kan_base.specs.StdSources.{left_of};
+ghost use Rattle.kan_base.specs.StdSources.{OpenKind, kind_of, left_of};
 
 use crate::faults::{Failed, one_more};
 use crate::sources::{Place, Source};
@@ -46,11 +47,12 @@ pub struct StdSource<R: Files + Input + Drop> {
 }
 
 impl<R: Files + Input + Drop> Model for StdSource<R> {
-    ghost use Rattle.kan_base.specs.StdSources.{StdSourceState, left_of};
+    ghost use Rattle.kan_base.specs.StdSources.{StdSourceState, open_kind, left_of};
 
     ghost Value = { StdSourceState };
 
     ghost view = { λ source. record {
+      kind = open_kind source.opened;
       left = left_of R.Reader.remaining R.File.remaining source.opened;
       faults = source.faults;
     } };
@@ -59,7 +61,7 @@ impl<R: Files + Input + Drop> Model for StdSource<R> {
 impl<R: Files + Input + Drop> StdSource<R> {
     /// A source that has nothing open.
     pub fn new(rt: R) -> StdSource<R>
-        ensures { result ≡ record { left = None; faults = 0 } }
+        ensures { result ≡ record { kind = OpenKind.nothing; left = None; faults = 0 } }
     {
         StdSource {
             rt,
@@ -77,6 +79,7 @@ impl<R: Files + Input + Drop> Source for StdSource<R> {
     } };
 
     fn open(&mut self, place: Place<'_>) -> Result<(), Failed>
+        ensures kind { OnOk result (self.new.kind ≡ kind_of (spot place.entry)) }
         ensures faults { self.new.faults ≡ faults_after result self.old.faults }
     {
         match place {
