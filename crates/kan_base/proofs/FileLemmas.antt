@@ -3,7 +3,7 @@ use Rattle.std.proofs.Common.{◌≡◌, ℕ, zero, suc, ◌<◌, ◌≤◌, tru
 use Rattle.std.specs.Prelude.{String, Vec}
 use Rattle.std.specs.declared.alloc.Global.{Global}
 use Rattle.std.specs.Str.{bytes_eq}
-use Rattle.kan_base.specs.Memories.{file_of}
+use Rattle.kan_base.specs.InMemory.{file_of}
 use Rattle.kan_base.specs.Files.{all_named, bytes_at}
 
 -- a file of this name is found

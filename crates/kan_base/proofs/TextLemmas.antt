@@ -2,7 +2,7 @@
 use Rattle.std.proofs.Common.{ℕ, ◌+◌, List, ◌++◌, length, Option, ap, ◌∙◌, arith, length-append}
 use Rattle.std.specs.Io.KnownBytes.{Consumes}
 use Rattle.std.proofs.KnownBytes.{Consumes-trans}
-use Rattle.kan_base.specs.Taken.{Stops, StopsAfter}
+use Rattle.kan_base.specs.Texts.{Stops, StopsAfter}
 use Rattle.kan_base.specs.declared.text.TextStop.{TextStop}
 use Rattle.kan_base.specs.declared.text.TextStop.TheVariants.{Fault, TooLong, Memory}
 

@@ -1,12 +1,15 @@
--- Counts of faults, which never fall and stand still at the greatest u64.
-use Rattle.std.specs.Prelude.{◌≡◌, ℕ, ◌-◌, ◌^◌, ◌<◌, ◌≤◌, ◌⊎◌, OnOk, OnErr, Result}
+-- Counts of faults.
+use Rattle.std.specs.Prelude.{ℕ, ◌+◌, ◌-◌, ◌^◌, nat_lt, Result, Ok, Err, if◌then◌else◌}
 
--- a count rose, or stands at the last value that it can have
-abbrev pub Rose : ℕ → ℕ → Type 0
-Rose old new = (old < new) ⊎ (new ≡ 2 ^ 64 - 1)
+-- the greatest value of a count, at which it stays
+abbrev pub greatest_count : ℕ
+greatest_count = 2 ^ 64 - 1
 
--- a count never falls, is what it was at `Ok`, and rose at `Err`
-pub record CountsFaults {A E : Type 0} (old new : ℕ) (result : Result A E) : Type 0 where
-  pub never_falls : old ≤ new
-  pub still : OnOk result (new ≡ old)
-  pub rose : OnErr result (Rose old new)
+-- one more, where a count stays at its greatest value
+abbrev pub one_more : ℕ → ℕ
+one_more n = if nat_lt n greatest_count then n + 1 else n
+
+-- how many calls have failed after a call: one more where it failed, else as many as before
+abbrev pub faults_after : {A E : Type 0} → Result A E → ℕ → ℕ
+faults_after (Ok x) faults = faults
+faults_after (Err e) faults = one_more faults

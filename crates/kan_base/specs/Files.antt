@@ -1,7 +1,7 @@
 -- Named files as the code keeps them.
 use Rattle.std.specs.Prelude.{◌≡◌, ◌<◌, ℕ, zero, suc, List, [], ◌∷◌, length, Some, String, Vec, string_bytes}
 use Rattle.std.specs.declared.alloc.Global.{Global}
-use Rattle.kan_base.specs.Memories.{NamedFile, file_of}
+use Rattle.kan_base.specs.InMemory.{NamedFile, file_of}
 
 -- a name with the bytes of its file
 abbrev pub named : String Global × Vec ℕ Global → NamedFile

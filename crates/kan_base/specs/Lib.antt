@@ -1,11 +1,13 @@
 pub mod Spots
+pub mod Views
 pub mod Faults
 pub mod Reads
 pub mod Writes
-pub mod Taken
+pub mod Texts
 pub mod Statuses
 pub mod Plans
-pub mod Memories
+pub mod InMemory
 pub mod Files
 pub mod Opened
-pub mod Steady
+pub mod SteadySources
+pub mod StdSources

@@ -1,4 +1,4 @@
--- The text that a source in memory has open.
+-- What a source in memory has open.
 use Rattle.std.specs.Prelude.{ℕ, List, [], String, Vec}
 use Rattle.std.specs.declared.alloc.Global.{Global}
 use Rattle.kan_base.specs.Files.{bytes_at}

@@ -1,22 +1,29 @@
-//! The outside of the program: where bytes come from and where they go, and what becomes of a run.
+//! The ends of the program: where bytes come from and where they go, and what becomes of a run.
 #![tactic(auto)]
 
 mod copy;
+mod count_sink;
+mod faults;
 mod memory_sink;
 mod memory_source;
-mod outside;
 mod plan;
-mod put;
+mod sinks;
+mod sources;
 mod status;
-mod std_edge;
-mod steady;
+mod std_sink;
+mod std_source;
+mod std_streams;
+mod steady_source;
 mod text;
 
+pub use count_sink::CountSink;
+pub use faults::Failed;
 pub use memory_sink::MemorySink;
 pub use memory_source::MemorySource;
-pub use outside::{Failed, Place, Sink, Source};
-pub use put::put_all;
+pub use sinks::{Sink, put_all};
+pub use sources::{Place, Source};
 pub use status::Status;
-pub use std_edge::{StdSink, StdSource};
-pub use steady::{CountSink, SteadySource};
+pub use std_sink::StdSink;
+pub use std_source::StdSource;
+pub use steady_source::SteadySource;
 pub use text::{GREATEST_TEXT, TextStop, take_text};

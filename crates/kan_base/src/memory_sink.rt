@@ -1,13 +1,15 @@
 //! A sink that keeps in memory what was put.
 
 ghost use Rattle.std.specs.Prelude.{◌≡◌, ◌≤◌, [], Some, IfOk, IfErr, OnErr, is_err};
-ghost use Rattle.kan_base.specs.Faults.{CountsFaults};
+ghost use Rattle.kan_base.specs.Faults.{faults_after};
 ghost use Rattle.kan_base.specs.Writes.{Writes};
 ghost use Rattle.kan_base.specs.Plans.{new_plan};
-ghost use Rattle.kan_base.specs.Memories.{write_fails, write_count, after_write, after_refusal};
+ghost use Rattle.kan_base.specs.InMemory.{write_fails, write_count};
+ghost use Rattle.kan_base.specs.InMemory.{after_write, after_failed_write};
 
-use crate::outside::{Failed, Sink};
+use crate::faults::Failed;
 use crate::plan::Plan;
+use crate::sinks::Sink;
 use std::alloc::Global;
 use std::marker::Model;
 
@@ -22,7 +24,7 @@ pub struct MemorySink {
 
 impl Model for MemorySink {
     ghost use Rattle.std.specs.Prelude.{◌≤◌, length, vec_capacity};
-    ghost use Rattle.kan_base.specs.Memories.{SinkState};
+    ghost use Rattle.kan_base.specs.InMemory.{SinkState};
 
     ghost Value = { SinkState };
 
@@ -76,19 +78,17 @@ impl MemorySink {
 }
 
 impl Sink for MemorySink {
-    ghost put = { λ sink. Some sink.put };
-
-    ghost faults = { λ sink. sink.plan.faults };
+    ghost view = { λ sink. record { put = Some sink.put; faults = sink.plan.faults } };
 
     fn write(&mut self, piece: &[u8]) -> Result<usize, Failed>
-        ensures written { IfOk result (λ n. Writes (Some self.old.put) (Some self.new.put) n piece.now) }
-        ensures faults { CountsFaults self.old.plan.faults self.new.plan.faults result }
-        // A write fails exactly where it is planned to, and where nothing fits of a piece that isn't
-        // empty.
+        ensures written { IfOk result (λ n.
+            Writes (Some self.old.put) (Some self.new.put) n piece.now) }
+        ensures faults { self.new.plan.faults ≡ faults_after result self.old.plan.faults }
+        // Exactly where it is planned to, and where nothing of a piece that isn't empty fits.
         ensures fails { is_err result ≡ write_fails self.old piece.now }
         ensures count { IfOk result (λ n. n ≡ write_count self.old piece.now) }
         ensures ok { IfOk result (λ n. self.new ≡ after_write self.old n piece.now) }
-        ensures err { OnErr result (self.new ≡ after_refusal self.old) }
+        ensures err { OnErr result (self.new ≡ after_failed_write self.old) }
     {
         let free = self.room as usize - self.bytes.len();
         if self.plan.is_due() || (!piece.is_empty() && free == 0) {

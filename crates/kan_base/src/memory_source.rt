@@ -1,17 +1,20 @@
 //! A source whose places are kept in memory.
 
-ghost use Rattle.std.specs.Prelude.{◌≡◌, ◌<◌, ◌≤◌, [], None, Some, MatchOption, IfOk, OnOk, OnErr, is_err, length};
+ghost use Rattle.std.specs.Prelude.{◌≡◌, ◌<◌, ◌≤◌, [], None, Some, MatchOption, length};
+ghost use Rattle.std.specs.Prelude.{IfOk, OnOk, OnErr, is_err};
 ghost use Rattle.kan_base.specs.Spots.{spot};
-ghost use Rattle.kan_base.specs.Faults.{CountsFaults};
+ghost use Rattle.kan_base.specs.Faults.{faults_after};
 ghost use Rattle.kan_base.specs.Reads.{Reads};
 ghost use Rattle.kan_base.specs.Plans.{is_due, new_plan};
-ghost use Rattle.kan_base.specs.Memories.{file_of, held, open_fails, read_count, after_open, after_read, after_fault};
+ghost use Rattle.kan_base.specs.InMemory.{file_of, content_of, open_fails, read_count};
+ghost use Rattle.kan_base.specs.InMemory.{after_open, after_read, after_failed_call};
 ghost use Rattle.kan_base.specs.Files.{all_named, FindsAt};
 ghost use Rattle.kan_base.specs.Opened.{opened_bytes};
 
 use crate::copy::copy_front;
-use crate::outside::{Failed, Place, Source};
+use crate::faults::Failed;
 use crate::plan::Plan;
+use crate::sources::{Place, Source};
 use std::marker::Model;
 
 /// What a source in memory has open.
@@ -35,7 +38,7 @@ pub struct MemorySource {
 
 impl Model for MemorySource {
     ghost use Rattle.std.specs.Prelude.{◌≤◌, length, drop};
-    ghost use Rattle.kan_base.specs.Memories.{SourceState};
+    ghost use Rattle.kan_base.specs.InMemory.{SourceState};
     ghost use Rattle.kan_base.specs.Files.{all_named};
     ghost use Rattle.kan_base.specs.Opened.{opened_bytes};
 
@@ -84,18 +87,18 @@ impl MemorySource {
 }
 
 impl Source for MemorySource {
-    ghost holds = { held };
-
-    ghost left = { λ source. Some source.left };
-
-    ghost faults = { λ source. source.plan.faults };
+    ghost view = { λ source. record {
+      holds = content_of source;
+      left = Some source.left;
+      faults = source.plan.faults;
+    } };
 
     fn open(&mut self, place: Place<'_>) -> Result<(), Failed>
-        ensures faults { CountsFaults self.old.plan.faults self.new.plan.faults result }
-        // An open fails exactly where it is planned to, and where the place isn't there.
+        ensures faults { self.new.plan.faults ≡ faults_after result self.old.plan.faults }
+        // Exactly where it is planned to, and where the place isn't there.
         ensures fails { is_err result ≡ open_fails self.old (spot place.entry) }
         ensures ok { OnOk result (self.new ≡ after_open self.old (spot place.entry)) }
-        ensures err { OnErr result (self.new ≡ after_fault self.old) }
+        ensures err { OnErr result (self.new ≡ after_failed_call self.old) }
     {
         let found = match place {
             Place::Input => Some(Opened::Input),
@@ -117,13 +120,14 @@ impl Source for MemorySource {
 
     fn read(&mut self, buf: &mut [u8]) -> Result<usize, Failed>
         requires { 0 < length buf.old }
-        ensures read { IfOk result (λ n. Reads (Some self.old.left) (Some self.new.left) n buf.new) }
-        ensures faults { CountsFaults self.old.plan.faults self.new.plan.faults result }
-        // A read fails exactly where it is planned to.
+        ensures read { IfOk result (λ n.
+            Reads (Some self.old.left) (Some self.new.left) n buf.new) }
+        ensures faults { self.new.plan.faults ≡ faults_after result self.old.plan.faults }
+        // Exactly where it is planned to.
         ensures fails { is_err result ≡ is_due self.old.plan }
         ensures count { IfOk result (λ n. n ≡ read_count self.old buf.old) }
         ensures ok { IfOk result (λ n. self.new ≡ after_read self.old n) }
-        ensures err { OnErr result (self.new ≡ after_fault self.old) }
+        ensures err { OnErr result (self.new ≡ after_failed_call self.old) }
     {
         if self.plan.is_due() {
             self.plan.fail();

@@ -1,9 +1,9 @@
 //! Plans of which calls fail.
 
-ghost use Rattle.std.specs.Prelude.{◌≡◌, ◌≤◌};
-ghost use Rattle.kan_base.specs.Faults.{Rose};
-ghost use Rattle.kan_base.specs.Plans.{new_plan, is_due, passed, failed};
+ghost use Rattle.std.specs.Prelude.{◌≡◌};
+ghost use Rattle.kan_base.specs.Plans.{new_plan, is_due, after_success, after_failure};
 
+use crate::faults::one_more;
 use std::marker::Model;
 
 /// Which calls are to fail, by their numbers from 0, with counts of calls and of faults.
@@ -19,7 +19,11 @@ impl Model for Plan {
 
     ghost Value = { CallPlan };
 
-    ghost view = { λ plan. record { fails = plan.fails.items; calls = plan.calls; faults = plan.faults } };
+    ghost view = { λ plan. record {
+      fails = plan.fails.items;
+      calls = plan.calls;
+      faults = plan.faults;
+    } };
 }
 
 impl Plan {
@@ -43,18 +47,16 @@ impl Plan {
 
     /// Counts a call that succeeded.
     pub(crate) fn pass(&mut self)
-        ensures { self.new ≡ passed self.old }
+        ensures { self.new ≡ after_success self.old }
     {
-        self.calls = self.calls.saturating_add(1);
+        self.calls = one_more(self.calls);
     }
 
     /// Counts a call that failed.
     pub(crate) fn fail(&mut self)
-        ensures counted { self.new ≡ failed self.old }
-        ensures never_falls { self.old.faults ≤ self.new.faults }
-        ensures rose { Rose self.old.faults self.new.faults }
+        ensures { self.new ≡ after_failure self.old }
     {
-        self.calls = self.calls.saturating_add(1);
-        self.faults = self.faults.saturating_add(1);
+        self.calls = one_more(self.calls);
+        self.faults = one_more(self.faults);
     }
 }

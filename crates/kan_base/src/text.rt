@@ -2,10 +2,12 @@
 
 ghost use Rattle.std.specs.Prelude.{◌≡◌, ◌+◌, ◌<◌, ◌≤◌, length, IfOk, IfErr};
 ghost use Rattle.std.specs.Io.KnownBytes.{IsAtEnd};
-ghost use Rattle.kan_base.specs.Spots.{spot, HoldTheSame};
-ghost use Rattle.kan_base.specs.Taken.{greatest_text, IsWhole, Stops, StopsAfter, CountsFault, AddsPiece};
+ghost use Rattle.kan_base.specs.Spots.{spot};
+ghost use Rattle.kan_base.specs.Views.{HoldsTheSame};
+ghost use Rattle.kan_base.specs.Texts.{greatest_text, IsWhole, Stops, StopsAfter, AddsPiece};
+ghost use Rattle.kan_base.specs.Texts.{faults_after_text};
 
-use crate::outside::{Place, Source};
+use crate::sources::{Place, Source};
 use std::alloc::{AllocError, Global};
 
 /// The greatest length of a text, in bytes.
@@ -33,11 +35,13 @@ pub fn take_text<S: Source>(
 ) -> Result<Vec<u8>, TextStop>
     ensures fits { IfOk result (λ text. length text.items ≤ greatest_text) }
     ensures whole { IfOk result (λ text.
-        IsWhole (S.holds source.old (spot place.entry)) (S.left source.new) text.items) }
+        IsWhole ((S.view source.old).holds (spot place.entry)) (S.view source.new).left
+        text.items) }
     ensures stopped { IfErr result (λ stop.
-        Stops stop (S.holds source.old (spot place.entry)) (S.left source.new)) }
-    ensures same { HoldTheSame (S.holds source.old) (S.holds source.new) }
-    ensures faults { CountsFault (S.faults source.old) (S.faults source.new) result }
+        Stops stop ((S.view source.old).holds (spot place.entry)) (S.view source.new).left) }
+    ensures same { HoldsTheSame (S.view source.old) (S.view source.new) }
+    ensures faults { (S.view source.new).faults
+        ≡ faults_after_text result (S.view source.old).faults }
 {
     if source.open(place).is_err() {
         return Err(TextStop::Fault);
@@ -48,10 +52,13 @@ pub fn take_text<S: Source>(
 /// Reads what is left of the opened place.
 fn read_to_end<S: Source>(alloc: Global, source: &mut S) -> Result<Vec<u8>, TextStop>
     ensures fits { IfOk result (λ text. length text.items ≤ greatest_text) }
-    ensures whole { IfOk result (λ text. IsWhole (S.left source.old) (S.left source.new) text.items) }
-    ensures stopped { IfErr result (λ stop. Stops stop (S.left source.old) (S.left source.new)) }
-    ensures same { HoldTheSame (S.holds source.old) (S.holds source.new) }
-    ensures faults { CountsFault (S.faults source.old) (S.faults source.new) result }
+    ensures whole { IfOk result (λ text.
+        IsWhole (S.view source.old).left (S.view source.new).left text.items) }
+    ensures stopped { IfErr result (λ stop.
+        Stops stop (S.view source.old).left (S.view source.new).left) }
+    ensures same { HoldsTheSame (S.view source.old) (S.view source.new) }
+    ensures faults { (S.view source.new).faults
+        ≡ faults_after_text result (S.view source.old).faults }
 {
     let Ok(mut buffer) = new_buffer(alloc) else {
         return Err(TextStop::Memory);
@@ -85,12 +92,14 @@ fn add_piece<S: Source>(
     requires fits { length text.old.items ≤ greatest_text }
     requires room { length text.old.items + length buffer.old ≤ greatest_text + 1 }
     ensures added { IfOk result (λ n.
-        AddsPiece (S.left source.old) (S.left source.new) text.old.items text.new.items n) }
-    ensures at_end { IfOk result (λ n. n ≡ 0 → IsAtEnd (S.left source.old)) }
+        AddsPiece (S.view source.old).left (S.view source.new).left text.old.items
+        text.new.items n) }
+    ensures at_end { IfOk result (λ n. n ≡ 0 → IsAtEnd (S.view source.old).left) }
     ensures stopped { IfErr result (λ stop.
-        StopsAfter text.old.items stop (S.left source.old) (S.left source.new)) }
-    ensures same { HoldTheSame (S.holds source.old) (S.holds source.new) }
-    ensures faults { CountsFault (S.faults source.old) (S.faults source.new) result }
+        StopsAfter text.old.items stop (S.view source.old).left (S.view source.new).left) }
+    ensures same { HoldsTheSame (S.view source.old) (S.view source.new) }
+    ensures faults { (S.view source.new).faults
+        ≡ faults_after_text result (S.view source.old).faults }
 {
     let Ok(n) = source.read(buffer) else {
         return Err(TextStop::Fault);

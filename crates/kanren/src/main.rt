@@ -2,7 +2,7 @@
 #![tactic(auto)]
 
 use kan_base::{Status, StdSink, StdSource};
-use kanren_run::kanren_alone;
+use kanren_run::{complaint, kanren_alone};
 use std::alloc::{AllocError, Global};
 use std::env;
 use std::process::ExitCode;
@@ -30,18 +30,6 @@ fn run(rt: &HostRuntime, words: &[&str]) -> Status {
     let mut source = StdSource::new(*rt);
     let mut sink = StdSink::new(*rt);
     kanren_alone(rt.alloc(), words, &mut source, &mut sink)
-}
-
-// What standard error says of a run that came to nothing.
-fn complaint(status: Status) -> Option<&'static str> {
-    match status {
-        Status::Usage => Some("usage: kanren [--fuel N]"),
-        Status::ReadFault => Some("kanren: read fault"),
-        Status::WriteFault => Some("kanren: write fault"),
-        Status::TooLong => Some("kanren: text too long"),
-        Status::Memory => Some("kanren: out of memory"),
-        _ => None,
-    }
 }
 
 // Runs the program with these words.

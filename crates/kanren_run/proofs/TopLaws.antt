@@ -3,6 +3,7 @@ use Rattle.std.proofs.Common.{◌≡◌, ℕ, Bool, true, List, [], ◌∷◌, m
 use Rattle.std.specs.List.{list_all}
 use Rattle.std.specs.Io.KnownBytes.{Appends}
 use Rattle.std.proofs.lemmas.Bool.{and_parts}
+use Rattle.kan_base.specs.Views.{SinkView}
 use Rattle.kan_base.specs.Writes.{PutsFront}
 use Rattle.kan_model.specs.Programs.Closed as programs
 use Rattle.kan_model.specs.Programs.Tables.{GoalEntry}
@@ -80,13 +81,13 @@ pub refused_front : (fuel : ℕ) (bytes : List ℕ) (at number : ℕ) (line : Li
 refused_front fuel bytes at number line put after refused is front = record { answer = refusal at number; answered = refused fuel; front = subst (PutsFront put after) is front }
 
 -- the same where the queries are lent as a list of items
-pub runs_done : (fuel : ℕ) (bytes : List ℕ) (names : Table) (program : declared.Program) (queries items : List declared.Query) (b spent : Bool) (put after : Option (List ℕ)) (faults more : ℕ) → HasRuns bytes names program queries → items ≡ queries →
-    spent ≡ b → spent ≡ spends (programs.meaning program) fuel (map (query_of program) items) → Appends put after (runs_output names (programs.meaning program) fuel (map (query_of program) items)) × (more ≡ faults) →
-    (x : List ℕ) × Answered fuel bytes (output x b) × Appends put after x × (more ≡ faults)
-runs_done fuel bytes names program queries items b spent put after faults more has same is told (puts, still) = (
+pub runs_done : (fuel : ℕ) (bytes : List ℕ) (names : Table) (program : declared.Program) (queries items : List declared.Query) (b spent : Bool) (old new : SinkView) → HasRuns bytes names program queries → items ≡ queries →
+    spent ≡ b → spent ≡ spends (programs.meaning program) fuel (map (query_of program) items) → Appends old.put new.put (runs_output names (programs.meaning program) fuel (map (query_of program) items)) × (new.faults ≡ old.faults) →
+    (x : List ℕ) × Answered fuel bytes (output x b) × Appends old.put new.put x × (new.faults ≡ old.faults)
+runs_done fuel bytes names program queries items b spent old new has same is told (puts, still) = (
   runs_output names (programs.meaning program) fuel (map (query_of program) queries),
   runs_answer fuel bytes names program queries b has (sym is ∙ told ∙ ap (λ qs. spends (programs.meaning program) fuel (map (query_of program) qs)) same),
-  subst (λ qs. Appends put after (runs_output names (programs.meaning program) fuel (map (query_of program) qs))) same puts,
+  subst (λ qs. Appends old.put new.put (runs_output names (programs.meaning program) fuel (map (query_of program) qs))) same puts,
   still,
 )
 
@@ -96,8 +97,8 @@ runs_stopped fuel bytes names program queries items put after has same front =
     runs_front fuel bytes names program queries put after has (subst (λ qs. PutsFront put after (runs_output names (programs.meaning program) fuel (map (query_of program) qs))) same front)
 
 -- the same of equal stops, and of equal refusals
-pub stops_as : (text : List ℕ) (put after : Option (List ℕ)) (faults more : ℕ) (s t : Stop) → s ≡ t → Stops text put after faults more s → Stops text put after faults more t
-stops_as text put after faults more s t is stops = subst (Stops text put after faults more) is stops
+pub stops_as : (text : List ℕ) (old new : SinkView) (s t : Stop) → s ≡ t → Stops text old new s → Stops text old new t
+stops_as text old new s t is stops = subst (Stops text old new) is stops
 
 pub refused_as : (bytes : List ℕ) (names : Table) (x : NotRun) (f : refusals.Fault) → x ≡ not_run.Fault f → ComesTo bytes names (Err x) → IsRefused bytes f.at f.number
 refused_as bytes names x f is comes = subst (λ y. ComesTo bytes names (Err y)) is comes

@@ -10,7 +10,8 @@ use Rattle.std.specs.List.{list_all}
 use Rattle.std.specs.Io.KnownBytes.{Appends}
 use Rattle.std.proofs.KnownBytes.{Appends-nil, Appends-trans}
 use Rattle.std.proofs.lemmas.Grind.{flat_map-append}
-use Rattle.kan_base.specs.Faults.{Rose}
+use Rattle.kan_base.specs.Faults.{one_more}
+use Rattle.kan_base.specs.Views.{SinkView}
 use Rattle.kan_base.specs.Writes.{PutsFront}
 use Rattle.kan_model.specs.Programs.Goals.{Program, Query, Goal}
 use Rattle.kan_model.specs.Programs.Nodes.{goal_place}
@@ -66,22 +67,22 @@ rest-joined table n p sts k t =
     ∙ append_assoc (answer_lines table sts) (answer_lines table t.stores) (summary_line (n + length sts + length t.stores) (p + k + t.pulls) t.ending)
 
 -- pieces of a text, put one after the other
-pub begun : (text : List ℕ) (put : Option (List ℕ)) (faults : ℕ) → Written text put put faults faults text
-begun text put faults = record { front = []; parts = refl; put_front = Appends-nil put; still = refl }
+pub begun : (text : List ℕ) (sink : SinkView) → Written text sink sink text
+begun text sink = record { front = []; parts = refl; put_front = Appends-nil sink.put; still = refl }
 
-pub written_more : (text rest last piece : List ℕ) (a b c : Option (List ℕ)) (f g h : ℕ) → Written text a b f g rest → rest ≡ piece ++ last → Appends b c piece → h ≡ g → Written text a c f h last
-written_more text rest last piece a b c f g h w parts put still = record {
+pub written_more : (text rest last piece : List ℕ) (a b c : SinkView) → Written text a b rest → rest ≡ piece ++ last → Appends b.put c.put piece → c.faults ≡ b.faults → Written text a c last
+written_more text rest last piece a b c w parts put still = record {
   front = w.front ++ piece;
   parts = w.parts ∙ ap (λ l. w.front ++ l) parts ∙ sym (append_assoc w.front piece last);
-  put_front = Appends-trans a b c w.front piece w.put_front put;
+  put_front = Appends-trans a.put b.put c.put w.front piece w.put_front put;
   still = still ∙ w.still;
 }
 
-pub written_on : (text rest last : List ℕ) (a b c : Option (List ℕ)) (f g h : ℕ) → Written text a b f g rest → Written rest b c g h last → Written text a c f h last
-written_on text rest last a b c f g h w v = written_more text rest last v.front a b c f g h w v.parts v.put_front v.still
+pub written_on : (text rest last : List ℕ) (a b c : SinkView) → Written text a b rest → Written rest b c last → Written text a c last
+written_on text rest last a b c w v = written_more text rest last v.front a b c w v.parts v.put_front v.still
 
-pub all_written : {A : Type 0} (text : List ℕ) (x : A) (a b : Option (List ℕ)) (f g : ℕ) → Written text a b f g [] → Puts text a b f g (Ok x)
-all_written text x a b f g w = (subst (Appends a b) (sym (w.parts ∙ append-nil w.front)) w.put_front, w.still)
+pub all_written : {A : Type 0} (text : List ℕ) (x : A) (a b : SinkView) → Written text a b [] → Puts text a b (Ok x)
+all_written text x a b w = (subst (Appends a.put b.put) (sym (w.parts ∙ append-nil w.front)) w.put_front, w.still)
 
 -- a front of what is left is one of the whole text
 front_on : (text rest : List ℕ) (a b c : Option (List ℕ)) (front : List ℕ) → text ≡ front ++ rest → Appends a b front → PutsFront b c rest → PutsFront a c text
@@ -92,23 +93,23 @@ front_on text rest a b c front parts put next = record {
   put = Appends-trans a b c front next.front put next.put;
 }
 
-pub stops_on : (text rest : List ℕ) (s : Stop) (a b c : Option (List ℕ)) (f g h : ℕ) → Written text a b f g rest → Stops rest b c g h s → Stops text a c f h s
-stops_on text rest Fault a b c f g h w (front, rose, more) =
-    (front_on text rest a b c w.front w.parts w.put_front front, subst (λ n. Rose n h) w.still rose, subst (λ n. n ≤ h) w.still more)
-stops_on text rest Memory a b c f g h w (front, still) = (front_on text rest a b c w.front w.parts w.put_front front, still ∙ w.still)
+pub stops_on : (text rest : List ℕ) (s : Stop) (a b c : SinkView) → Written text a b rest → Stops rest b c s → Stops text a c s
+stops_on text rest Fault a b c w (front, more) =
+    (front_on text rest a.put b.put c.put w.front w.parts w.put_front front, more ∙ ap one_more w.still)
+stops_on text rest Memory a b c w (front, still) = (front_on text rest a.put b.put c.put w.front w.parts w.put_front front, still ∙ w.still)
 
-pub ends_on : {A B : Type 0} (text rest : List ℕ) (x : A) (y : B) (a b c : Option (List ℕ)) (f g h : ℕ) → Written text a b f g rest → Puts {A = A} rest b c g h (Ok x) → Puts {A = B} text a c f h (Ok y)
-ends_on text rest x y a b c f g h w (put, still) = (subst (Appends a c) (sym w.parts) (Appends-trans a b c w.front rest w.put_front put), still ∙ w.still)
+pub ends_on : {A B : Type 0} (text rest : List ℕ) (x : A) (y : B) (a b c : SinkView) → Written text a b rest → Puts {A = A} rest b c (Ok x) → Puts {A = B} text a c (Ok y)
+ends_on text rest x y a b c w (put, still) = (subst (Appends a.put c.put) (sym w.parts) (Appends-trans a.put b.put c.put w.front rest w.put_front put), still ∙ w.still)
 
 -- want of memory before anything was put
-pub nothing_put : (text : List ℕ) (a : Option (List ℕ)) (f : ℕ) → Stops text a a f f Memory
-nothing_put text a f = (record { front = []; rest = text; parts = refl; put = Appends-nil a }, refl)
+pub nothing_put : (text : List ℕ) (a : SinkView) → Stops text a a Memory
+nothing_put text a = (record { front = []; rest = text; parts = refl; put = Appends-nil a.put }, refl)
 
 -- what was put of a front is put of the whole
-pub front_stops : (text front rest : List ℕ) (s : Stop) (a b : Option (List ℕ)) (f g : ℕ) → text ≡ front ++ rest → Stops front a b f g s → Stops text a b f g s
-front_stops text front rest Fault a b f g parts (w, rose, more) =
-    (record { front = w.front; rest = w.rest ++ rest; parts = parts ∙ ap (λ l. l ++ rest) w.parts ∙ append_assoc w.front w.rest rest; put = w.put }, rose, more)
-front_stops text front rest Memory a b f g parts (w, still) =
+pub front_stops : (text front rest : List ℕ) (s : Stop) (a b : SinkView) → text ≡ front ++ rest → Stops front a b s → Stops text a b s
+front_stops text front rest Fault a b parts (w, more) =
+    (record { front = w.front; rest = w.rest ++ rest; parts = parts ∙ ap (λ l. l ++ rest) w.parts ∙ append_assoc w.front w.rest rest; put = w.put }, more)
+front_stops text front rest Memory a b parts (w, still) =
     (record { front = w.front; rest = w.rest ++ rest; parts = parts ∙ ap (λ l. l ++ rest) w.parts ∙ append_assoc w.front w.rest rest; put = w.put }, still)
 
 -- the lines of a batch, and those that are left after it
@@ -160,52 +161,52 @@ next_lines table round before n p sts None after m q adv counted =
 next_lines table round before n p sts (Some e) after m q adv counted = ([], last_lines table round before n p sts e after m q adv counted ∙ sym (append-nil (answer_lines table sts ++ end_text m q (Some e))))
 
 -- what the writing of a batch makes of the writing of a run, where the count of pulls is read after it
-pub next_written : (table : Table) (round : ℕ) (before : Taken) (n p : ℕ) (sts : List Store) (ended : Option Ended) (after : Taken) (m q r : ℕ) (a b : Option (List ℕ)) (f g : ℕ) →
+pub next_written : (table : Table) (round : ℕ) (before : Taken) (n p : ℕ) (sts : List Store) (ended : Option Ended) (after : Taken) (m q r : ℕ) (a b : SinkView) →
     1 ≤ round → Each HasEquations before.stores → Advances round before p sts ended after q → m ≡ n + length sts → r ≡ q →
-    Appends a b (answer_lines table sts ++ end_text m r ended) × (g ≡ f) → WritesNext table before n p after m q a b f g (Ok ended)
-next_written table round before n p sts None after m q r a b f g some each adv counted read (put, still) = record {
-  written = record { front = answer_lines table sts; parts = batch_parts table round before n p sts None after m q adv counted; put_front = subst (Appends a b) (append-nil (answer_lines table sts)) put; still = still };
+    Appends a.put b.put (answer_lines table sts ++ end_text m r ended) × (b.faults ≡ a.faults) → WritesNext table before n p after m q a b (Ok ended)
+next_written table round before n p sts None after m q r a b some each adv counted read (put, still) = record {
+  written = record { front = answer_lines table sts; parts = batch_parts table round before n p sts None after m q adv counted; put_front = subst (Appends a.put b.put) (append-nil (answer_lines table sts)) put; still = still };
   equations = each-after sts after.stores (subst (λ (t : Taken). Each HasEquations t.stores) adv.joins each);
   ending = sym (ap (λ (t : Taken). t.ending) adv.joins);
   less = batch_less round before p sts after q some adv;
 }
-next_written table round before n p sts (Some e) after m q r a b f g some each adv counted read (put, still) = (
-  subst (Appends a b) (ap (λ k. answer_lines table sts ++ end_text m k (Some e)) read ∙ sym (last_lines table round before n p sts e after m q adv counted)) put,
+next_written table round before n p sts (Some e) after m q r a b some each adv counted read (put, still) = (
+  subst (Appends a.put b.put) (ap (λ k. answer_lines table sts ++ end_text m k (Some e)) read ∙ sym (last_lines table round before n p sts e after m q adv counted)) put,
   still,
   sym (ap (λ (t : Taken). t.ending) adv.joins ∙ ap (λ (t : Taken). t.ending) adv.ends),
 )
 
-pub next_stopped : (table : Table) (round : ℕ) (before : Taken) (n p : ℕ) (sts : List Store) (ended : Option Ended) (after : Taken) (m q r : ℕ) (a b : Option (List ℕ)) (f g : ℕ) (s : Stop) →
-    Advances round before p sts ended after q → m ≡ n + length sts → r ≡ q → Stops (answer_lines table sts ++ end_text m r ended) a b f g s → Stops (rest_text table n p before) a b f g s
-next_stopped table round before n p sts ended after m q r a b f g s adv counted read stopped =
+pub next_stopped : (table : Table) (round : ℕ) (before : Taken) (n p : ℕ) (sts : List Store) (ended : Option Ended) (after : Taken) (m q r : ℕ) (a b : SinkView) (s : Stop) →
+    Advances round before p sts ended after q → m ≡ n + length sts → r ≡ q → Stops (answer_lines table sts ++ end_text m r ended) a b s → Stops (rest_text table n p before) a b s
+next_stopped table round before n p sts ended after m q r a b s adv counted read stopped =
     let (rest, parts) = next_lines table round before n p sts ended after m q adv counted in
-    front_stops (rest_text table n p before) (answer_lines table sts ++ end_text m r ended) rest s a b f g
+    front_stops (rest_text table n p before) (answer_lines table sts ++ end_text m r ended) rest s a b
     (parts ∙ ap (λ k. (answer_lines table sts ++ end_text m k ended) ++ rest) (sym read)) stopped
 
 -- a failure as a result
-pub err_puts : {A : Type 0} (text : List ℕ) (a b : Option (List ℕ)) (f g : ℕ) (s : Stop) (r : Result A Stop) → IsErrAnd r (λ e. e ≡ s) → Stops text a b f g s → Puts text a b f g r
-err_puts text a b f g s (Ok x) is stops = absurd is
-err_puts text a b f g s (Err e) is stops = subst (Stops text a b f g) (sym is) stops
+pub err_puts : {A : Type 0} (text : List ℕ) (a b : SinkView) (s : Stop) (r : Result A Stop) → IsErrAnd r (λ e. e ≡ s) → Stops text a b s → Puts text a b r
+err_puts text a b s (Ok x) is stops = absurd is
+err_puts text a b s (Err e) is stops = subst (Stops text a b) (sym is) stops
 
 -- want of memory before the next lines were put
-pub next_wanted : (table : Table) (before after : Taken) (n p m q f : ℕ) (a : Option (List ℕ)) (r : Result (Option Ended) Stop) → IsErrAnd r (λ s. s ≡ Memory) → WritesNext table before n p after m q a a f f r
-next_wanted table before after n p m q f a (Ok x) wanted = absurd wanted
-next_wanted table before after n p m q f a (Err s) wanted = subst (λ t. Stops (rest_text table n p before) a a f f t) (sym wanted) (nothing_put (rest_text table n p before) a f)
+pub next_wanted : (table : Table) (before after : Taken) (n p m q : ℕ) (a : SinkView) (r : Result (Option Ended) Stop) → IsErrAnd r (λ s. s ≡ Memory) → WritesNext table before n p after m q a a r
+next_wanted table before after n p m q a (Ok x) wanted = absurd wanted
+next_wanted table before after n p m q a (Err s) wanted = subst (λ t. Stops (rest_text table n p before) a a t) (sym wanted) (nothing_put (rest_text table n p before) a)
 
 -- the last lines, after others, and lines after which more come
-pub run_ended : (total : List ℕ) (table : Table) (before : Taken) (n p : ℕ) (after : Taken) (m q : ℕ) (a b c : Option (List ℕ)) (f g h : ℕ) (o : Option Ended) (e : Ended) → o ≡ Some e →
-    Written total a b f g (rest_text table n p before) → WritesNext table before n p after m q b c g h (Ok o) → Appends a c total × (h ≡ f)
-run_ended total table before n p after m q a b c f g h o e is w next =
-    let (put, still, ending) = subst (λ x. WritesNext table before n p after m q b c g h (Ok x)) is next in
-    (subst (Appends a c) (sym w.parts) (Appends-trans a b c w.front (rest_text table n p before) w.put_front put), still ∙ w.still)
+pub run_ended : (total : List ℕ) (table : Table) (before : Taken) (n p : ℕ) (after : Taken) (m q : ℕ) (a b c : SinkView) (o : Option Ended) (e : Ended) → o ≡ Some e →
+    Written total a b (rest_text table n p before) → WritesNext table before n p after m q b c (Ok o) → Appends a.put c.put total × (c.faults ≡ a.faults)
+run_ended total table before n p after m q a b c o e is w next =
+    let (put, still, ending) = subst (λ x. WritesNext table before n p after m q b c (Ok x)) is next in
+    (subst (Appends a.put c.put) (sym w.parts) (Appends-trans a.put b.put c.put w.front (rest_text table n p before) w.put_front put), still ∙ w.still)
 
-pub run_ending : (table : Table) (before : Taken) (n p : ℕ) (after : Taken) (m q : ℕ) (b c : Option (List ℕ)) (g h : ℕ) (o : Option Ended) (e : Ended) → o ≡ Some e → WritesNext table before n p after m q b c g h (Ok o) → ending_of e ≡ before.ending
-run_ending table before n p after m q b c g h o e is next = (subst (λ x. WritesNext table before n p after m q b c g h (Ok x)) is next).2
+pub run_ending : (table : Table) (before : Taken) (n p : ℕ) (after : Taken) (m q : ℕ) (b c : SinkView) (o : Option Ended) (e : Ended) → o ≡ Some e → WritesNext table before n p after m q b c (Ok o) → ending_of e ≡ before.ending
+run_ending table before n p after m q b c o e is next = (subst (λ x. WritesNext table before n p after m q b c (Ok x)) is next).2
 
-pub run_goes_on : (table : Table) (before : Taken) (n p : ℕ) (after : Taken) (m q : ℕ) (b c : Option (List ℕ)) (g h : ℕ) (o : Option Ended) → ((e : Ended) → o ≡ Some e → ⊥) → WritesNext table before n p after m q b c g h (Ok o) →
-    Continues table before n p after m q b c g h
-run_goes_on table before n p after m q b c g h None isnt next = next
-run_goes_on table before n p after m q b c g h (Some e) isnt next = elim (isnt e refl) [ ]
+pub run_goes_on : (table : Table) (before : Taken) (n p : ℕ) (after : Taken) (m q : ℕ) (b c : SinkView) (o : Option Ended) → ((e : Ended) → o ≡ Some e → ⊥) → WritesNext table before n p after m q b c (Ok o) →
+    Continues table before n p after m q b c
+run_goes_on table before n p after m q b c None isnt next = next
+run_goes_on table before n p after m q b c (Some e) isnt next = elim (isnt e refl) [ ]
 
 -- what is to be written of a run at its start
 pub start_text : (table : Table) (p : ℕ) (t u : Taken) → p ≡ 0 → t ≡ u → rest_text table 0 p t ≡ taken_text table u
@@ -283,18 +284,18 @@ at_place (x ∷ xs) (suc i) d e within = at_place xs i d e (omega (arith, within
 pub can-at : (program : declared.Program) (qs : List declared.Query) (i : ℕ) (d : declared.Query) → i < length qs → CanRun program qs → CanRun program (get_or qs i d ∷ [])
 can-at program qs i d within can = can-one program qs i (get_or qs i d) within (at_place qs i d (get_or qs i d) within) can
 
-pub runs-written : (table : Table) (program : Program) (fuel : ℕ) (means : declared.Query → Query) (qs : List declared.Query) (i : ℕ) (d : declared.Query) (total : List ℕ) (a b c : Option (List ℕ)) (f g h : ℕ) → i < length qs →
-    Written total a b f g (runs_output table program fuel (map means (drop i qs))) → Appends b c (taken_text table (taken program fuel (means (get_or qs i d)))) × (h ≡ g) →
-    Written total a c f h (runs_output table program fuel (map means (drop (i + 1) qs)))
-runs-written table program fuel means qs i d total a b c f g h within w (put, still) =
-    written_more total _ (runs_output table program fuel (map means (drop (i + 1) qs))) (taken_text table (taken program fuel (means (get_or qs i d)))) a b c f g h w
+pub runs-written : (table : Table) (program : Program) (fuel : ℕ) (means : declared.Query → Query) (qs : List declared.Query) (i : ℕ) (d : declared.Query) (total : List ℕ) (a b c : SinkView) → i < length qs →
+    Written total a b (runs_output table program fuel (map means (drop i qs))) → Appends b.put c.put (taken_text table (taken program fuel (means (get_or qs i d)))) × (c.faults ≡ b.faults) →
+    Written total a c (runs_output table program fuel (map means (drop (i + 1) qs)))
+runs-written table program fuel means qs i d total a b c within w (put, still) =
+    written_more total _ (runs_output table program fuel (map means (drop (i + 1) qs))) (taken_text table (taken program fuel (means (get_or qs i d)))) a b c w
     (runs_more table program fuel means qs i (get_or qs i d) within (at_place qs i d (get_or qs i d) within)) put still
 
-pub runs-stopped : (table : Table) (program : Program) (fuel : ℕ) (means : declared.Query → Query) (qs : List declared.Query) (i : ℕ) (d : declared.Query) (total : List ℕ) (s : Stop) (a b c : Option (List ℕ)) (f g h : ℕ) → i < length qs →
-    Written total a b f g (runs_output table program fuel (map means (drop i qs))) → Stops (taken_text table (taken program fuel (means (get_or qs i d)))) b c g h s → Stops total a c f h s
-runs-stopped table program fuel means qs i d total s a b c f g h within w stopped =
-    stops_on total (runs_output table program fuel (map means (drop i qs))) s a b c f g h w
-    (front_stops (runs_output table program fuel (map means (drop i qs))) (taken_text table (taken program fuel (means (get_or qs i d)))) (runs_output table program fuel (map means (drop (i + 1) qs))) s b c g h
+pub runs-stopped : (table : Table) (program : Program) (fuel : ℕ) (means : declared.Query → Query) (qs : List declared.Query) (i : ℕ) (d : declared.Query) (total : List ℕ) (s : Stop) (a b c : SinkView) → i < length qs →
+    Written total a b (runs_output table program fuel (map means (drop i qs))) → Stops (taken_text table (taken program fuel (means (get_or qs i d)))) b c s → Stops total a c s
+runs-stopped table program fuel means qs i d total s a b c within w stopped =
+    stops_on total (runs_output table program fuel (map means (drop i qs))) s a b c w
+    (front_stops (runs_output table program fuel (map means (drop i qs))) (taken_text table (taken program fuel (means (get_or qs i d)))) (runs_output table program fuel (map means (drop (i + 1) qs))) s b c
     (runs_more table program fuel means qs i (get_or qs i d) within (at_place qs i d (get_or qs i d) within)) stopped)
 
 pub spends-at : (program : Program) (fuel : ℕ) (means : declared.Query → Query) (qs : List declared.Query) (i : ℕ) (d : declared.Query) (spent now all : Bool) → i < length qs →

@@ -8,3 +8,4 @@ pub mod Writing
 pub mod Equations
 pub mod Replies
 pub mod Outcomes
+pub mod Complaints

@@ -2,7 +2,8 @@
 use Rattle.std.specs.Prelude.{◌≡◌, ℕ, ◌+◌, ◌≤◌, ◌<◌, true, List, [], ◌++◌, map, length, Option, Some, None, Result, Ok, Err}
 use Rattle.std.specs.List.{flat_map, list_all}
 use Rattle.std.specs.Io.KnownBytes.{Appends}
-use Rattle.kan_base.specs.Faults.{Rose}
+use Rattle.kan_base.specs.Faults.{one_more}
+use Rattle.kan_base.specs.Views.{SinkView}
 use Rattle.kan_base.specs.Writes.{PutsFront}
 use Rattle.kan_model.specs.Stores.Store.{Store}
 use Rattle.kan_model.specs.Streams.Taking.{Taken}
@@ -41,35 +42,36 @@ end_text answers pulls (Some ended) = summary_line answers pulls (ending_of ende
 abbrev pub rest_text : Table → ℕ → ℕ → Taken → List ℕ
 rest_text table answers pulls t = answer_lines table t.stores ++ summary_line (answers + length t.stores) (pulls + t.pulls) t.ending
 
--- a front of a text is put, where the sink fails or memory is wanting; what was put before and after, and the counts of faults
-abbrev pub Stops : List ℕ → Option (List ℕ) → Option (List ℕ) → ℕ → ℕ → Stop → Type 0
-Stops text put after faults more Fault = PutsFront put after text × Rose faults more × (faults ≤ more)
-Stops text put after faults more Memory = PutsFront put after text × (more ≡ faults)
+-- a front of a text is put, where one call of the sink failed, or memory is wanting and none did
+abbrev pub Stops : List ℕ → SinkView → SinkView → Stop → Type 0
+Stops text old new Fault = PutsFront old.put new.put text × (new.faults ≡ one_more old.faults)
+Stops text old new Memory = PutsFront old.put new.put text × (new.faults ≡ old.faults)
 
--- a text is put whole, or a front of it
-abbrev pub Puts : {A : Type 0} → List ℕ → Option (List ℕ) → Option (List ℕ) → ℕ → ℕ → Result A Stop → Type 0
-Puts text put after faults more (Ok x) = Appends put after text × (more ≡ faults)
-Puts text put after faults more (Err stop) = Stops text put after faults more stop
+-- a text is put whole and no call failed, or a front of it is put
+abbrev pub Puts : {A : Type 0} → List ℕ → SinkView → SinkView → Result A Stop → Type 0
+Puts text old new (Ok x) = Appends old.put new.put text × (new.faults ≡ old.faults)
+Puts text old new (Err stop) = Stops text old new stop
 
--- a front of a text was put, and this is what is left of it
-pub record Written (text : List ℕ) (put after : Option (List ℕ)) (faults more : ℕ) (rest : List ℕ) : Type 0 where
+-- a front of a text was put and no call failed, and this is what is left of it
+pub record Written (text : List ℕ) (old new : SinkView) (rest : List ℕ) : Type 0 where
   pub front : List ℕ
   pub parts : text ≡ front ++ rest
-  pub put_front : Appends put after front
-  pub still : more ≡ faults
+  pub put_front : Appends old.put new.put front
+  pub still : new.faults ≡ old.faults
 
 -- what is left of a run after some of its lines were put: the lines that are still to come, less of them than before, and the same end
-pub record Continues (table : Table) (before : Taken) (answers pulls : ℕ) (after : Taken) (answers_after pulls_after : ℕ) (put put_after : Option (List ℕ)) (faults faults_after : ℕ) : Type 0 where
-  pub written : Written (rest_text table answers pulls before) put put_after faults faults_after (rest_text table answers_after pulls_after after)
+pub record Continues (table : Table) (before : Taken) (answers pulls : ℕ) (after : Taken) (answers_after pulls_after : ℕ) (old new : SinkView) : Type 0 where
+  pub written : Written (rest_text table answers pulls before) old new (rest_text table answers_after pulls_after after)
   pub equations : Each HasEquations after.stores
   pub ending : after.ending ≡ before.ending
   pub less : length after.stores + after.pulls < length before.stores + before.pulls
 
 -- the next lines of a run were put, and more are to come or they were the last ones; or a front of all that were to come was put
-abbrev pub WritesNext : Table → Taken → ℕ → ℕ → Taken → ℕ → ℕ → Option (List ℕ) → Option (List ℕ) → ℕ → ℕ → Result (Option Ended) Stop → Type 0
-WritesNext t before n p after m q put put_after f g (Ok None) = Continues t before n p after m q put put_after f g
-WritesNext t before n p after m q put put_after f g (Ok (Some ended)) = Appends put put_after (rest_text t n p before) × (g ≡ f) × (ending_of ended ≡ before.ending)
-WritesNext t before n p after m q put put_after f g (Err stop) = Stops (rest_text t n p before) put put_after f g stop
+abbrev pub WritesNext : Table → Taken → ℕ → ℕ → Taken → ℕ → ℕ → SinkView → SinkView → Result (Option Ended) Stop → Type 0
+WritesNext t before n p after m q old new (Ok None) = Continues t before n p after m q old new
+WritesNext t before n p after m q old new (Ok (Some ended)) =
+    Appends old.put new.put (rest_text t n p before) × (new.faults ≡ old.faults) × (ending_of ended ≡ before.ending)
+WritesNext t before n p after m q old new (Err stop) = Stops (rest_text t n p before) old new stop
 
 -- a program may be run for some queries: nothing is open, it is small, and it has equations alone
 pub record CanRun (program : Program) (queries : List Query) : Type 0 where

@@ -3,6 +3,7 @@
 
 mod answer;
 mod command;
+mod complaints;
 mod naming;
 mod printing;
 mod refusal;
@@ -11,4 +12,5 @@ mod top;
 mod walking;
 mod writing;
 
+pub use complaints::complaint;
 pub use top::kanren_alone;

@@ -1,10 +1,10 @@
-//! Refused texts: their first fault, and the line that says so.
+//! The fault of a text, and the line that says it.
 
-ghost use Rattle.std.specs.Prelude.{◌≡◌, ◌++◌, OnOk, string_bytes};
-ghost use Rattle.kanren_run.specs.Refusals as refusals;
+ghost use Rattle.std.specs.Prelude.{◌≡◌, IfOk, string_bytes};
+ghost use Rattle.kanren_run.specs.Refusals.{refusal_line};
 
-use kan_terms::Memory;
-use std::fmt::Write;
+use kan_refusals::{Refusal, error_line};
+use std::alloc::{AllocError, Global};
 
 /// A fault of a text.
 #[derive(Clone, Copy, Debug, PartialEq, Eq)]
@@ -15,55 +15,12 @@ pub(crate) struct Fault {
     pub(crate) number: u8,
 }
 
-// What a refusal of data is called.
-fn data_refusal_text(number: u8) -> &'static str
-    ensures { result.now ≡ refusals.data_refusal_text number }
+/// The line of a fault.
+pub(crate) fn fault_line(alloc: Global, fault: Fault) -> Result<String, AllocError>
+    ensures { IfOk result (λ line. string_bytes line ≡ refusal_line fault.at fault.number) }
 {
-    match number {
-        1 => "not UTF-8",
-        2 => "list not closed",
-        3 => "close without open",
-        4 => "bad token",
-        5 => "bad dot",
-        6 => "too deep",
-        7 => "number out of range",
-        8 => "reserved name",
-        _ => "",
+    match Refusal::of_number(fault.number) {
+        Some(refusal) => error_line(alloc, fault.at, refusal),
+        None => Ok(String::new(alloc)),
     }
-}
-
-// What a refusal of a text is called.
-fn form_refusal_text(number: u8) -> &'static str
-    ensures { result.now ≡ refusals.form_refusal_text number }
-{
-    match number {
-        9 => "unknown form",
-        10 => "bad shape",
-        11 => "unbound name",
-        12 => "unknown relation",
-        13 => "wrong number of arguments",
-        14 => "defined twice",
-        15 => "tag is not a quoted symbol",
-        _ => data_refusal_text(number),
-    }
-}
-
-// What a refusal is called.
-fn refusal_text(number: u8) -> &'static str
-    ensures { result.now ≡ refusals.refusal_text number }
-{
-    match number {
-        0 => "not built yet",
-        _ => form_refusal_text(number),
-    }
-}
-
-/// Adds the line of a fault.
-pub(crate) fn print_refusal(fault: Fault, line: &mut String) -> Result<(), Memory>
-    ensures { OnOk result (string_bytes line.new ≡ string_bytes line.old ++ refusals.refusal_line fault.at fault.number) }
-{
-    let Fault { at, number } = fault;
-    let text = refusal_text(number);
-    writeln!(line, "error {number} at {at}: {text}")?;
-    Ok(())
 }

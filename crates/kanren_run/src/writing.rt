@@ -88,7 +88,7 @@ fn write_batch<K: Sink, St: Store>(
     sink: &mut K,
 ) -> Result<(), Stop>
     requires { Each HasEquations (map St.meaning batch.now.answers) }
-    ensures { Puts (answer_lines names.now (map St.meaning batch.now.answers) ++ end_text answers pulls batch.now.ended) (K.put sink.old) (K.put sink.new) (K.faults sink.old) (K.faults sink.new) result }
+    ensures { Puts (answer_lines names.now (map St.meaning batch.now.answers) ++ end_text answers pulls batch.now.ended) (K.view sink.old) (K.view sink.new) result }
 {
     let text = batch_text(alloc, batch, answers, pulls, names)?;
     put_all(sink, text.as_bytes())?;
@@ -115,7 +115,7 @@ fn write_next<K: Sink, St: Store>(
 ) -> Result<Option<Ended>, Stop>
     requires round { 1 ≤ search.old.round }
     requires equations { Each HasEquations (left St.meaning search.old).stores }
-    ensures next { WritesNext names.now (left St.meaning search.old) answers.old search.old.pulls (left St.meaning search.new) answers.new search.new.pulls (K.put sink.old) (K.put sink.new) (K.faults sink.old) (K.faults sink.new) result }
+    ensures next { WritesNext names.now (left St.meaning search.old) answers.old search.old.pulls (left St.meaning search.new) answers.new search.new.pulls (K.view sink.old) (K.view sink.new) result }
     ensures round { search.new.round ≡ search.old.round }
 {
     let batch = search.advance_alone(alloc)?;
@@ -135,7 +135,7 @@ fn write_search<K: Sink, St: Store>(
 ) -> Result<Ended, Stop>
     requires round { 1 ≤ search.old.round }
     requires equations { Each HasEquations (left St.meaning search.old).stores }
-    ensures puts { Puts (rest_text names.now 0 search.old.pulls (left St.meaning search.old)) (K.put sink.old) (K.put sink.new) (K.faults sink.old) (K.faults sink.new) result }
+    ensures puts { Puts (rest_text names.now 0 search.old.pulls (left St.meaning search.old)) (K.view sink.old) (K.view sink.new) result }
     ensures ended { IfOk result (λ ended. ending_of ended ≡ (left St.meaning search.old).ending) }
 {
     let mut answers = 0;
@@ -160,7 +160,7 @@ fn write_query<K: Sink, St: Store>(
 ) -> Result<Ended, Stop>
     requires can_run { CanRun program.now (query.now ∷ []) }
     requires fuel { 1 ≤ fuel × (fuel ≤ 1000000) }
-    ensures puts { Puts (taken_text names.now (taken (programs.meaning program.now) fuel (query_of program.now query.now))) (K.put sink.old) (K.put sink.new) (K.faults sink.old) (K.faults sink.new) result }
+    ensures puts { Puts (taken_text names.now (taken (programs.meaning program.now) fuel (query_of program.now query.now))) (K.view sink.old) (K.view sink.new) result }
     ensures ended { IfOk result (λ ended. ending_of ended ≡ (taken (programs.meaning program.now) fuel (query_of program.now query.now)).ending) }
 {
     let mut search: Search<St> = Search::open(alloc, program, query, fuel, ROUND)?;
@@ -186,7 +186,7 @@ pub(crate) fn write_runs<K: Sink, St: Store>(
 ) -> Result<bool, Stop>
     requires can_run { CanRun program.now queries.now }
     requires fuel { 1 ≤ fuel × (fuel ≤ 1000000) }
-    ensures puts { Puts (runs_output names.now (programs.meaning program.now) fuel (map (query_of program.now) queries.now)) (K.put sink.old) (K.put sink.new) (K.faults sink.old) (K.faults sink.new) result }
+    ensures puts { Puts (runs_output names.now (programs.meaning program.now) fuel (map (query_of program.now) queries.now)) (K.view sink.old) (K.view sink.new) result }
     ensures spent { IfOk result (λ spent. spent ≡ spends (programs.meaning program.now) fuel (map (query_of program.now) queries.now)) }
 {
     let mut spent = false;

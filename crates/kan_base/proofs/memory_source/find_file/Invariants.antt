@@ -1,5 +1,5 @@
 use Rattle.std.proofs.Common.{◌≡◌, drop}
-use Rattle.kan_base.specs.Memories.{file_of}
+use Rattle.kan_base.specs.InMemory.{file_of}
 use Rattle.kan_base.specs.Files.{all_named}
 use Rattle.kan_base.proofs.memory_source.find_file.Given as goal
 

@@ -11,7 +11,7 @@ use Rattle.kanren_run.proofs.WritingLaws.{nothing_put, err_puts, start_text}
 use Rattle.kanren_run.proofs.writing.write_query.Goals as goal
 
 pub returns-in_err-search-clause-puts : goal.returns-in_err-search-clause-puts
-returns-in_err-search-clause-puts g c = err_puts _ _ _ _ _ Memory c.from_residual.result c.from_residual.ensures.1 (nothing_put _ _ _)
+returns-in_err-search-clause-puts g c = err_puts _ _ _ Memory c.from_residual.result c.from_residual.ensures.1 (nothing_put _ _)
 
 pub write_search-requires-clause-equations : goal.write_search-requires-clause-equations
 write_search-requires-clause-equations g c =
@@ -21,11 +21,11 @@ write_search-requires-clause-equations g c =
 
 pub returns-in_err-ended-clause-puts : goal.returns-in_err-ended-clause-puts
 returns-in_err-ended-clause-puts g c =
-    err_puts _ _ _ _ _ c.in_err-ended.field-0.0 c.from_residual-in_err-ended.result c.from_residual-in_err-ended.ensures.1
-    (subst (λ t. Stops t (g.K.Sink.put c.args.sink.now) (g.K.Sink.put c.write_search.new.sink) (g.K.Sink.faults c.args.sink.now) (g.K.Sink.faults c.write_search.new.sink) c.in_err-ended.field-0.0)
+    err_puts _ _ _ c.in_err-ended.field-0.0 c.from_residual-in_err-ended.result c.from_residual-in_err-ended.ensures.1
+    (subst (λ t. Stops t (g.K.Sink.view c.args.sink.now) (g.K.Sink.view c.write_search.new.sink) c.in_err-ended.field-0.0)
     (start_text c.args.names.now _ _ _ c.in_ok-search.ensures.pulls c.in_ok-search.ensures.left) c.in_err-ended.ensures.puts)
 
 pub returns-clause-puts : goal.returns-clause-puts
 returns-clause-puts g c =
-    subst (λ t. Appends (g.K.Sink.put c.args.sink.now) (g.K.Sink.put c.write_search.new.sink) t × (g.K.Sink.faults c.write_search.new.sink ≡ g.K.Sink.faults c.args.sink.now))
+    subst (λ t. Appends (g.K.Sink.view c.args.sink.now).put (g.K.Sink.view c.write_search.new.sink).put t × ((g.K.Sink.view c.write_search.new.sink).faults ≡ (g.K.Sink.view c.args.sink.now).faults))
     (start_text c.args.names.now _ _ _ c.in_ok-search.ensures.pulls c.in_ok-search.ensures.left) c.in_ok-ended.ensures.puts

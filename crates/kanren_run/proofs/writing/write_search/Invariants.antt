@@ -7,7 +7,7 @@ use Rattle.kanren_run.proofs.writing.write_search.Given as goal
 -- the lines so far are put, and what is left of the run ends as the whole
 abbrev pub invariant-loop-ended : goal.invariant-loop-ended
 invariant-loop-ended g l = record {
-  written : Written (rest_text l.names 0 l.fn.search.pulls (left g.St.Store.meaning l.fn.search)) (g.K.Sink.put l.fn.sink) (g.K.Sink.put l.sink) (g.K.Sink.faults l.fn.sink) (g.K.Sink.faults l.sink)
+  written : Written (rest_text l.names 0 l.fn.search.pulls (left g.St.Store.meaning l.fn.search)) (g.K.Sink.view l.fn.sink) (g.K.Sink.view l.sink)
       (rest_text l.names l.answers l.search.pulls (left g.St.Store.meaning l.search));
   round : 1 ≤ l.search.round;
   equations : Each HasEquations (left g.St.Store.meaning l.search).stores;

@@ -1,8 +1,8 @@
--- Sources and sinks in memory as clauses see them.
+-- What sources and sinks in memory hold.
 use Rattle.std.specs.Prelude.{ℕ, ◌-◌, Bool, ◌||◌, ◌&&◌, nat_lt, nat_le, List, [], ◌∷◌, ◌++◌, length, take, drop, min, Option, None, Some, is_none, unwrap_or, if◌then◌else◌}
 use Rattle.std.specs.Str.{bytes_eq}
 use Rattle.kan_base.specs.Spots.{Spot}
-use Rattle.kan_base.specs.Plans.{CallPlan, is_due, passed, failed}
+use Rattle.kan_base.specs.Plans.{CallPlan, is_due, after_success, after_failure}
 
 -- a file by its name
 pub record NamedFile : Type 0 where
@@ -23,13 +23,13 @@ file_of name [] = None
 file_of name (file ∷ files) = if bytes_eq file.name name then Some file.bytes else file_of name files
 
 -- what a place holds
-abbrev pub held : SourceState → Spot → Option (List ℕ)
-held source Spot.input = Some source.input
-held source (Spot.file name) = file_of name source.files
+abbrev pub content_of : SourceState → Spot → Option (List ℕ)
+content_of source Spot.input = Some source.input
+content_of source (Spot.file name) = file_of name source.files
 
 -- an open is to fail: its call is planned to, or the place isn't there
 abbrev pub open_fails : SourceState → Spot → Bool
-open_fails source place = is_due source.plan || is_none (held source place)
+open_fails source place = is_due source.plan || is_none (content_of source place)
 
 -- how many bytes a read gives: as many as are left, fit and stand in a piece
 abbrev pub read_count : SourceState → List ℕ → ℕ
@@ -37,15 +37,15 @@ read_count source buffer = min (min (length source.left) (length buffer)) source
 
 -- the source after a place was opened
 abbrev pub after_open : SourceState → Spot → SourceState
-after_open source place = record source { left = unwrap_or (held source place) []; plan = passed source.plan }
+after_open source place = record source { left = unwrap_or (content_of source place) []; plan = after_success source.plan }
 
 -- the source after n bytes were read
 abbrev pub after_read : SourceState → ℕ → SourceState
-after_read source n = record source { left = drop n source.left; plan = passed source.plan }
+after_read source n = record source { left = drop n source.left; plan = after_success source.plan }
 
 -- the source after a call that failed
-abbrev pub after_fault : SourceState → SourceState
-after_fault source = record source { plan = failed source.plan }
+abbrev pub after_failed_call : SourceState → SourceState
+after_failed_call source = record source { plan = after_failure source.plan }
 
 -- what was put into a sink in memory, how much it has room for, and how much a write takes at most
 pub record SinkState : Type 0 where
@@ -64,8 +64,8 @@ write_count sink piece = min (min (length piece) sink.piece) (sink.room - length
 
 -- the sink after the first n bytes of a piece were put
 abbrev pub after_write : SinkState → ℕ → List ℕ → SinkState
-after_write sink n piece = record sink { put = sink.put ++ take n piece; plan = passed sink.plan }
+after_write sink n piece = record sink { put = sink.put ++ take n piece; plan = after_success sink.plan }
 
 -- the sink after a write that failed
-abbrev pub after_refusal : SinkState → SinkState
-after_refusal sink = record sink { plan = failed sink.plan }
+abbrev pub after_failed_write : SinkState → SinkState
+after_failed_write sink = record sink { plan = after_failure sink.plan }

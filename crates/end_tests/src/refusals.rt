@@ -1,0 +1,23 @@
+//! Lines of refused texts.
+
+use kan_refusals::{Refusal, error_line};
+use std::test::Fail;
+
+#[test]
+fn prints_lines(rt: HostRuntime) -> Result<(), Fail> {
+    let table = [
+        (0, Refusal::NotBuiltYet, "error 0 at 0: not built yet\n"),
+        (2_049, Refusal::TooDeep, "error 6 at 2049: too deep\n"),
+        (
+            4_294_967_295,
+            Refusal::BadString,
+            "error 16 at 4294967295: bad string\n",
+        ),
+    ];
+    for (at, refusal, want) in table {
+        let line = error_line(rt.alloc(), at, refusal)?;
+        assert_eq!(rt; line.as_str(), want);
+        assert_eq!(rt; Refusal::of_number(refusal.number()), Some(refusal));
+    }
+    Ok(())
+}
