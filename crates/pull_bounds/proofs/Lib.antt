@@ -1,0 +1,6 @@
+mod Numbers
+mod Within
+mod Appended
+mod Counted
+mod Bound
+mod KeptStores
