@@ -4,3 +4,5 @@ mod Appended
 mod Counted
 mod Bound
 mod KeptStores
+mod Longer
+mod NamedArguments
