@@ -2,7 +2,9 @@ mod Numbers
 mod Within
 mod Appended
 mod Counted
-mod Bound
+pub mod Bound
 mod KeptStores
 mod Longer
 mod NamedArguments
+mod FoundSolutions
+mod TakenSolutions
