@@ -6,15 +6,15 @@ use Rattle.std.proofs.lemmas.List.{map-append}
 use Rattle.std.proofs.lemmas.List.Folds.{list_all-append}
 use Rattle.kan_terms.specs.Tree.{Tm, Gd}
 use Rattle.kan_terms.specs.Valuations.{value}
-use Rattle.kan_model.specs.Goals.{Primitive, Goal, Template, Relation, Program, on_sides}
-use Rattle.kan_model.specs.Stores.{Store, with_prim, with_fresh}
-use Rattle.kan_model.specs.Streams.{Stream, Thunk, one, append}
-use Rattle.kan_model.specs.Running.{run, force, enter, instance, instances, named, variables, assert}
-use Rattle.kan_model.specs.Scope.{all_below, is_counted}
-use Rattle.kan_model.specs.Holds.{holds_at, IsSolution, BeginsWith}
-use Rattle.kan_model.specs.Derivations.{Derivation, Derives, values}
-use Rattle.kan_model.specs.Pulls.{pulls_for, and_first}
-use Rattle.kan_model.proofs.DerivationLaws.{Derives-from_test}
+use Rattle.kan_model.specs.Programs.Goals.{Primitive, Goal, Template, Relation, Program, on_sides}
+use Rattle.kan_model.specs.Stores.Store.{Store, with_prim, with_fresh}
+use Rattle.kan_model.specs.Streams.Stream.{Stream, Thunk, one, append}
+use Rattle.kan_model.specs.Streams.Running.{run, force, enter, instance, instances, named, variables, assert}
+use Rattle.kan_model.specs.Programs.Scope.{all_below, is_counted}
+use Rattle.kan_model.specs.Meaning.Holds.{holds_at, IsSolution, BeginsWith}
+use Rattle.kan_model.specs.Meaning.Derivations.{Derivation, Derives, values}
+use Rattle.kan_model.specs.Streams.Pulls.{pulls_for, and_first}
+use Rattle.kan_model.proofs.Meaning.DerivationLaws.{Derives-from_test}
 use Rattle.pull_bounds.specs.Coming.{ComesWithin}
 use Rattle.pull_bounds.specs.Finding.{IsSolvedFrom, StandsAbove, DerivationIsFound}
 use Rattle.pull_bounds.proofs.Within.{Comes, Comes-within, within-Comes, Comes-more}

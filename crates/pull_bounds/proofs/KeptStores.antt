@@ -6,15 +6,15 @@ use Rattle.std.proofs.lemmas.List.Folds.{list_all-append}
 use Rattle.kan_terms.specs.Tree.{Tree, Tm, Gd, fill, has_symbol, term_eq, ground_eq}
 use Rattle.kan_terms.specs.Valuations.{value_at, value}
 use Rattle.kan_terms.proofs.TreeLaws.{term_eq-true, Decides-ground_eq, fill-has_symbol}
-use Rattle.kan_model.specs.Goals.{Primitive}
-use Rattle.kan_model.specs.Stores.{Store, Equation, equations, with_prim}
-use Rattle.kan_model.specs.Solve.{Replacement, image, apply, solved, left_first}
-use Rattle.kan_model.specs.Unifiers.{Unifies, Factors}
-use Rattle.kan_model.specs.Kept.{may_be_symbol, may_be_number, allows, is_variable, makes_number, is_number_variable, is_no_number, gives_one_type, holds_under, holds_with, is_kept}
-use Rattle.kan_model.specs.Holds.{is_symbol, is_number, holds_at, IsSolution}
-use Rattle.kan_model.specs.Streams.{one, empty}
-use Rattle.kan_model.specs.Running.{assert}
-use Rattle.kan_model.proofs.UnifierLaws.{fill-apply, answer_most_general}
+use Rattle.kan_model.specs.Programs.Goals.{Primitive}
+use Rattle.kan_model.specs.Stores.Store.{Store, Equation, equations, with_prim}
+use Rattle.kan_model.specs.Stores.Solve.{Replacement, image, apply, solved, left_first}
+use Rattle.kan_model.specs.Stores.Unifiers.{Unifies, Factors}
+use Rattle.kan_model.specs.Stores.Kept.{may_be_symbol, may_be_number, allows, is_variable, makes_number, is_number_variable, is_no_number, gives_one_type, holds_under, holds_with, is_kept}
+use Rattle.kan_model.specs.Meaning.Holds.{is_symbol, is_number, holds_at, IsSolution}
+use Rattle.kan_model.specs.Streams.Stream.{one, empty}
+use Rattle.kan_model.specs.Streams.Running.{assert}
+use Rattle.kan_model.proofs.Solving.UnifierLaws.{fill-apply, answer_most_general}
 use Rattle.pull_bounds.specs.Finding.{SolvedIsKept, HoldingIsAdded}
 
 -- the values of a common solution make the sides of all equations the same

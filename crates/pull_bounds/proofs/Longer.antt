@@ -6,11 +6,11 @@ use Rattle.std.proofs.lemmas.List.{length-append, append-nil}
 use Rattle.kan_terms.specs.Tree.{Tree, Tm, Gd, fill}
 use Rattle.kan_terms.specs.Valuations.{value_at, value}
 use Rattle.kan_terms.proofs.ValuationLaws.{value_at-append}
-use Rattle.kan_model.specs.Goals.{Primitive, Template, on_sides}
-use Rattle.kan_model.specs.Scope.{all_below, sides_below}
-use Rattle.kan_model.specs.Running.{slot, instance, instances, variables}
-use Rattle.kan_model.specs.Holds.{holds, holds_at, BeginsWith}
-use Rattle.kan_model.specs.Derivations.{values}
+use Rattle.kan_model.specs.Programs.Goals.{Primitive, Template, on_sides}
+use Rattle.kan_model.specs.Programs.Scope.{all_below, sides_below}
+use Rattle.kan_model.specs.Streams.Running.{slot, instance, instances, variables}
+use Rattle.kan_model.specs.Meaning.Holds.{holds, holds_at, BeginsWith}
+use Rattle.kan_model.specs.Meaning.Derivations.{values}
 
 pub BeginsWith-self : (us : List Gd) → BeginsWith us us
 BeginsWith-self us = ([], sym (append-nil us))

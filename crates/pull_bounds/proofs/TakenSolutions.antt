@@ -3,14 +3,14 @@ use Rattle.std.proofs.Common.{◌≡◌, ◌⊎◌, ℕ, zero, suc, ◌+◌, ◌
 use Rattle.std.proofs.lemmas.Bool.{cases_lt}
 use Rattle.kan_terms.specs.Tree.{Tree, Gd}
 use Rattle.kan_terms.specs.Valuations.{value_at}
-use Rattle.kan_model.specs.Goals.{Goal, Program, Query}
-use Rattle.kan_model.specs.Stores.{Store, bare}
-use Rattle.kan_model.specs.Streams.{Stream, Thunk}
-use Rattle.kan_model.specs.Running.{force, start}
-use Rattle.kan_model.specs.Derivations.{Derivation}
-use Rattle.kan_model.specs.Pulls.{pulls_for}
-use Rattle.kan_model.specs.Taking.{Taken, Ending, nothing_more, with_answer, with_pull, less_one, give, take, taken}
-use Rattle.kan_model.proofs.DerivationLaws.{Derives-from_test}
+use Rattle.kan_model.specs.Programs.Goals.{Goal, Program, Query}
+use Rattle.kan_model.specs.Stores.Store.{Store, bare}
+use Rattle.kan_model.specs.Streams.Stream.{Stream, Thunk}
+use Rattle.kan_model.specs.Streams.Running.{force, start}
+use Rattle.kan_model.specs.Meaning.Derivations.{Derivation}
+use Rattle.kan_model.specs.Streams.Pulls.{pulls_for}
+use Rattle.kan_model.specs.Streams.Taking.{Taken, Ending, nothing_more, with_answer, with_pull, less_one, give, take, taken}
+use Rattle.kan_model.proofs.Meaning.DerivationLaws.{Derives-from_test}
 use Rattle.pull_bounds.specs.Coming.{stores_within, ComesWithin}
 use Rattle.pull_bounds.specs.Finding.{IsSolvedAt, IsTaken, IsCutBefore, NoneIsMissed, EndHasAll}
 use Rattle.pull_bounds.proofs.Within.{Comes, Comes-within, within-Comes, Comes-more}

@@ -1,12 +1,12 @@
 -- Which stores a stream gives within some pulls, and what appending, running and binding keep of that.
 use Rattle.std.specs.Prelude.{ℕ, ◌+◌, ◌*◌, ◌≤◌, List, length, None, Contains}
 use Rattle.kan_terms.specs.Tree.{Tm}
-use Rattle.kan_model.specs.Goals.{Goal, Program}
-use Rattle.kan_model.specs.Stores.{Store}
-use Rattle.kan_model.specs.Streams.{Stream, append, bind_all}
-use Rattle.kan_model.specs.Running.{run}
-use Rattle.kan_model.specs.Taking.{take}
-use Rattle.kan_model.specs.Pulls.{answers_within, both_pulls, and_first}
+use Rattle.kan_model.specs.Programs.Goals.{Goal, Program}
+use Rattle.kan_model.specs.Stores.Store.{Store}
+use Rattle.kan_model.specs.Streams.Stream.{Stream, append, bind_all}
+use Rattle.kan_model.specs.Streams.Running.{run}
+use Rattle.kan_model.specs.Streams.Taking.{take}
+use Rattle.kan_model.specs.Streams.Pulls.{answers_within, both_pulls, and_first}
 
 -- the stores that a stream gives within some pulls, where no limit stops it
 abbrev pub stores_within : Program → ℕ → Stream → List Store
