@@ -8,3 +8,5 @@ mod Longer
 mod NamedArguments
 mod FoundSolutions
 mod TakenSolutions
+mod NeverExamples
+mod ConjunctionExamples
