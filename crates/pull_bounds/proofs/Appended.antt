@@ -1,5 +1,5 @@
 -- What comes of two streams that are appended.
-use Rattle.std.proofs.Common.{ℕ, suc, ◌+◌, ◌*◌, List, [], ◌∷◌, ◌++◌, arith}
+use Rattle.std.proofs.Common.{ℕ, suc, ◌+◌, ◌*◌, List, arith}
 use Rattle.std.proofs.lemmas.List.Elements.{Contains-append_left, Contains-append_right}
 use Rattle.kan_model.specs.Programs.Goals.{Program}
 use Rattle.kan_model.specs.Stores.Store.{Store}

@@ -1,8 +1,7 @@
 -- A worked example of the bound: a conjunction whose first goal has answers at 0, 1 and 2 pulls.
-use Rattle.std.proofs.Common.{◌≡◌, ℕ, true, List, [], ◌∷◌, length, refl}
-use Rattle.std.specs.List.{list_all}
-use Rattle.kan_terms.specs.Tree.{Tree, Gd}
-use Rattle.kan_model.specs.Programs.Goals.{Primitive, Goal, Relation, Program, Template}
+use Rattle.std.proofs.Common.{◌≡◌, ℕ, true, [], ◌∷◌, length, refl}
+use Rattle.kan_terms.specs.Tree.{Tree}
+use Rattle.kan_model.specs.Programs.Goals.{Primitive, Goal, Relation, Program}
 use Rattle.kan_model.specs.Stores.Solve.{solve_by, rounds, steps}
 use Rattle.kan_model.specs.Streams.Running.{start}
 use Rattle.kan_model.specs.Streams.Pulls.{answers_within, pulls_for}

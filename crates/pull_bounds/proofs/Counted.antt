@@ -1,14 +1,14 @@
 -- How many stores come within some pulls.
-use Rattle.std.proofs.Common.{◌≡◌, ℕ, zero, suc, ◌+◌, ◌*◌, ◌≤◌, List, [], ◌∷◌, ◌++◌, length, Bool, true, false, Option, Some, None, slice_get, refl, sym, ap, subst, ◌∙◌, arith}
+use Rattle.std.proofs.Common.{◌≡◌, ℕ, zero, suc, ◌+◌, ◌*◌, ◌≤◌, List, [], ◌∷◌, ◌++◌, length, Bool, true, false, Option, Some, None, slice_get, ap, ◌∙◌, arith}
 use Rattle.std.proofs.lemmas.List.{length-append}
 use Rattle.std.proofs.Math.Nat.{suc-mul, add-mul, mul-le-mul, le_trans, le_refl}
 use Rattle.kan_terms.specs.Tree.{Tm}
-use Rattle.kan_model.specs.Programs.Goals.{Goal, Program, Relation, Template, on_sides}
+use Rattle.kan_model.specs.Programs.Goals.{Goal, Program, Relation, on_sides}
 use Rattle.kan_model.specs.Stores.Store.{Store, with_prim, with_fresh}
 use Rattle.kan_model.specs.Streams.Stream.{Stream, Thunk, empty, one, append, append_each, bind_all}
 use Rattle.kan_model.specs.Streams.Running.{run, enter, force, instance, instances, named, variables}
 use Rattle.kan_model.specs.Stores.Kept.{is_kept}
-use Rattle.kan_model.specs.Streams.Pulls.{answers_by, body_answers, call_answers, answers_within}
+use Rattle.kan_model.specs.Streams.Pulls.{answers_by, body_answers, call_answers}
 use Rattle.pull_bounds.specs.Coming.{stores_within, AnswersAreBounded}
 use Rattle.pull_bounds.proofs.Within.{within_ends, within_none, within_pull}
 

@@ -1,5 +1,5 @@
 -- A derivation at the values of a solution leads to a store that has a longer solution, within the derivation's pulls.
-use Rattle.std.proofs.Common.{◌≡◌, ℕ, suc, ◌+◌, ◌*◌, ◌≤◌, true, List, [], ◌∷◌, ◌++◌, length, map, Option, Some, None, slice_get, Contains, refl, sym, ap, ap₂, subst, ◌∙◌, arith}
+use Rattle.std.proofs.Common.{◌≡◌, ℕ, suc, ◌+◌, ◌*◌, true, List, [], ◌++◌, length, map, Some, slice_get, refl, sym, ap, ap₂, subst, ◌∙◌, arith}
 use Rattle.std.specs.List.{list_all}
 use Rattle.std.proofs.lemmas.Bool.{and_from}
 use Rattle.std.proofs.lemmas.List.{map-append}
@@ -9,14 +9,14 @@ use Rattle.kan_terms.specs.Valuations.{value}
 use Rattle.kan_model.specs.Programs.Goals.{Primitive, Goal, Template, Relation, Program, on_sides}
 use Rattle.kan_model.specs.Stores.Store.{Store, with_prim, with_fresh}
 use Rattle.kan_model.specs.Streams.Stream.{Stream, Thunk, one, append}
-use Rattle.kan_model.specs.Streams.Running.{run, force, enter, instance, instances, named, variables, assert}
+use Rattle.kan_model.specs.Streams.Running.{run, force, enter, instance, instances, named, variables}
 use Rattle.kan_model.specs.Programs.Scope.{all_below, is_counted}
 use Rattle.kan_model.specs.Meaning.Holds.{holds_at, IsSolution, BeginsWith}
 use Rattle.kan_model.specs.Meaning.Derivations.{Derivation, Derives, values}
 use Rattle.kan_model.specs.Streams.Pulls.{pulls_for, and_first}
 use Rattle.kan_model.proofs.Meaning.DerivationLaws.{Derives-from_test}
 use Rattle.pull_bounds.specs.Coming.{ComesWithin}
-use Rattle.pull_bounds.specs.Finding.{IsSolvedFrom, StandsAbove, DerivationIsFound}
+use Rattle.pull_bounds.specs.Finding.{StandsAbove, DerivationIsFound}
 use Rattle.pull_bounds.proofs.Within.{Comes, Comes-within, within-Comes, Comes-more}
 use Rattle.pull_bounds.proofs.Appended.{left_comes, right_comes}
 use Rattle.pull_bounds.proofs.Bound.{both_come}
@@ -113,11 +113,12 @@ module _ (program : Program) where
 
   -- fresh variables with these values behind an environment
   above_fresh : (env : List Tm) (st : Store) (k : ℕ) → StandsAbove st env → StandsAbove (with_fresh st k) (env ++ variables st.counter k)
-  above_fresh env st k (counted, below) =
-      (counted-fresh st k counted,
-      list_all-append (all_below (st.counter + k)) env (variables st.counter k)
-      ∙ and_from (list_all (all_below (st.counter + k)) env) (list_all (all_below (st.counter + k)) (variables st.counter k))
-      (all-below_more st.counter (st.counter + k) (omega arith) env below) (below-variables (st.counter + k) st.counter k (omega arith)))
+  above_fresh env st k (counted, below) = (
+    counted-fresh st k counted,
+    list_all-append (all_below (st.counter + k)) env (variables st.counter k)
+        ∙ and_from (list_all (all_below (st.counter + k)) env) (list_all (all_below (st.counter + k)) (variables st.counter k))
+        (all-below_more st.counter (st.counter + k) (omega arith) env below) (below-variables (st.counter + k) st.counter k (omega arith)),
+  )
 
   values_fresh : (env : List Tm) (st : Store) (us vs : List Gd) → StandsAbove st env → IsSolution st us →
       map (value (us ++ vs)) (env ++ variables st.counter (length vs)) ≡ map (value us) env ++ vs
@@ -135,7 +136,7 @@ module _ (program : Program) where
   found_both g h ws b1 b2 first second env st us above solves same =
       let one = first env st us above solves same in
       let two = second env one.store one.longer (above_later env st one.store us one.longer above solves one.counted one.solves one.begins) one.solves
-          (values_later env st us one.longer above solves one.begins ∙ same) in
+      (values_later env st us one.longer above solves one.begins ∙ same) in
       record {
         store = two.store;
         comes = both_come program g h env st one.store two.store b1 b2 one.comes two.comes;
@@ -149,7 +150,7 @@ module _ (program : Program) where
   found_fresh g ws vs b below env st us above solves same =
       found_shorter b (run g (env ++ variables st.counter (length vs)) (with_fresh st (length vs))) us (us ++ vs) (vs, refl)
       (below (env ++ variables st.counter (length vs)) (with_fresh st (length vs)) (us ++ vs) (above_fresh env st (length vs) above) (solution-fresh st us vs above.0 solves)
-          (values_fresh env st us vs above solves ∙ ap (λ l. l ++ vs) same))
+      (values_fresh env st us vs above solves ∙ ap (λ l. l ++ vs) same))
 
   found_call : (r : ℕ) (args : List Template) (rel : Relation) (ws : List Gd) (b : ℕ) → slice_get program.relations r ≡ Some rel → FindsAt rel.body (values ws args) b →
       FindsAt (Goal.call r args) ws (1 + b)
@@ -157,8 +158,8 @@ module _ (program : Program) where
       found_pulled b (Thunk.call r (named st terms).values (named st terms).store) us
       (found_shorter b (force program (Thunk.call r (named st terms).values (named st terms).store)) us are.longer are.begins
       (subst (λ found. Finds program b (enter found (named st terms).values (named st terms).store) are.longer) (sym there)
-          (below (named st terms).values (named st terms).store are.longer (are.counted, are.below) are.solves
-              (are.same ∙ values-instances us env args ∙ ap (λ l. values l args) same))))
+      (below (named st terms).values (named st terms).store are.longer (are.counted, are.below) are.solves
+      (are.same ∙ values-instances us env args ∙ ap (λ l. values l args) same))))
     where
       terms : List Tm
       terms = instances env args

@@ -1,19 +1,18 @@
 -- A store with a solution is kept.
-use Rattle.std.proofs.Common.{◌≡◌, ℕ, inl, inr, Bool, true, false, not, ◌&&◌, eqb, List, [], ◌∷◌, ◌++◌, Option, Some, None, refl, sym, ap, ap₂, subst, ◌∙◌}
+use Rattle.std.proofs.Common.{◌≡◌, ℕ, inl, inr, Bool, true, false, not, ◌&&◌, List, [], ◌∷◌, ◌++◌, refl, sym, ap, subst, ◌∙◌}
 use Rattle.std.specs.List.{list_all}
-use Rattle.std.proofs.lemmas.Bool.{and_parts, and_from, or_cases, eqb-true, true≢false, not-true}
+use Rattle.std.proofs.lemmas.Bool.{and_parts, and_from, or_cases, eqb-true, true≢false}
 use Rattle.std.proofs.lemmas.List.Folds.{list_all-append}
-use Rattle.kan_terms.specs.Tree.{Tree, Tm, Gd, fill, has_symbol, term_eq, ground_eq}
+use Rattle.kan_terms.specs.Tree.{Tree, Tm, Gd, has_symbol, term_eq, ground_eq}
 use Rattle.kan_terms.specs.Valuations.{value_at, value}
 use Rattle.kan_terms.proofs.TreeLaws.{term_eq-true, Decides-ground_eq, fill-has_symbol}
 use Rattle.kan_model.specs.Programs.Goals.{Primitive}
-use Rattle.kan_model.specs.Stores.Store.{Store, Equation, equations, with_prim}
-use Rattle.kan_model.specs.Stores.Solve.{Replacement, image, apply, solved, left_first}
+use Rattle.kan_model.specs.Stores.Store.{Store, equations, with_prim}
+use Rattle.kan_model.specs.Stores.Solve.{Replacement, apply, left_first}
 use Rattle.kan_model.specs.Stores.Unifiers.{Unifies, Factors}
 use Rattle.kan_model.specs.Stores.Kept.{may_be_symbol, may_be_number, allows, is_variable, makes_number, is_number_variable, is_no_number, gives_one_type, holds_under, holds_with, is_kept}
-use Rattle.kan_model.specs.Meaning.Holds.{is_symbol, is_number, holds_at, IsSolution}
+use Rattle.kan_model.specs.Meaning.Holds.{is_symbol, is_number, holds_at}
 use Rattle.kan_model.specs.Streams.Stream.{one, empty}
-use Rattle.kan_model.specs.Streams.Running.{assert}
 use Rattle.kan_model.proofs.Solving.UnifierLaws.{fill-apply, answer_most_general}
 use Rattle.pull_bounds.specs.Finding.{SolvedIsKept, HoldingIsAdded}
 
@@ -66,12 +65,12 @@ module _ (us : List Gd) (s : Replacement) (factors : Factors (value_at us) s) wh
   holds-allows (Primitive.same a b) h = refl
   holds-allows (Primitive.differ a b) h =
       not_true (term_eq (apply s a) (apply s b)) (λ e. not_both (ground_eq (value us a) (value us b)) h
-          ((Decides-ground_eq (value us a) (value us b)).1 (sym (value-apply a) ∙ ap (value us) (term_eq-true (apply s a) (apply s b) e) ∙ value-apply b)))
+      ((Decides-ground_eq (value us a) (value us b)).1 (sym (value-apply a) ∙ ap (value us) (term_eq-true (apply s a) (apply s b) e) ∙ value-apply b)))
   holds-allows (Primitive.symbol a) h = may_be_symbol-value us (apply s a) (subst (λ u. is_symbol u ≡ true) (sym (value-apply a)) h)
   holds-allows (Primitive.number a) h = may_be_number-value us (apply s a) (subst (λ u. is_number u ≡ true) (sym (value-apply a)) h)
   holds-allows (Primitive.absent tag a) h =
       not_true (has_symbol tag (apply s a)) (λ e. not_both (has_symbol tag (value us a)) h
-          (subst (λ u. has_symbol tag u ≡ true) (value-apply a) (fill-has_symbol tag (value_at us) (apply s a) e)))
+      (subst (λ u. has_symbol tag u ≡ true) (value-apply a) (fill-has_symbol tag (value_at us) (apply s a) e)))
 
   all-allowed : (ps : List (Primitive Tm)) → list_all (holds_at us) ps ≡ true → list_all (allows s) ps ≡ true
   all-allowed [] h = refl

@@ -1,12 +1,12 @@
 mod Numbers
-mod Within
-mod Appended
-mod Counted
+pub mod Within
+pub mod Appended
+pub mod Counted
 pub mod Bound
-mod KeptStores
-mod Longer
-mod NamedArguments
-mod FoundSolutions
-mod TakenSolutions
+pub mod KeptStores
+pub mod Longer
+pub mod NamedArguments
+pub mod FoundSolutions
+pub mod TakenSolutions
 mod NeverExamples
 mod ConjunctionExamples

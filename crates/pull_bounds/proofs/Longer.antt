@@ -1,9 +1,9 @@
 -- A longer valuation gives terms whose variables are there the values that they had.
-use Rattle.std.proofs.Common.{◌≡◌, ℕ, zero, suc, ◌+◌, ◌≤◌, ◌<◌, Bool, true, false, ◌&&◌, List, [], ◌∷◌, ◌++◌, length, map, refl, sym, ap, ap₂, subst, ◌∙◌, arith, append_assoc}
+use Rattle.std.proofs.Common.{◌≡◌, ℕ, zero, suc, ◌+◌, ◌≤◌, Bool, true, ◌&&◌, List, [], ◌∷◌, ◌++◌, length, map, refl, sym, ap, ap₂, ◌∙◌, arith, append_assoc}
 use Rattle.std.specs.List.{list_all}
 use Rattle.std.proofs.lemmas.Bool.{and_parts, and_from, ltb-true, lt-ltb}
 use Rattle.std.proofs.lemmas.List.{length-append, append-nil}
-use Rattle.kan_terms.specs.Tree.{Tree, Tm, Gd, fill}
+use Rattle.kan_terms.specs.Tree.{Tree, Tm, Gd}
 use Rattle.kan_terms.specs.Valuations.{value_at, value}
 use Rattle.kan_terms.proofs.ValuationLaws.{value_at-append}
 use Rattle.kan_model.specs.Programs.Goals.{Primitive, Template, on_sides}

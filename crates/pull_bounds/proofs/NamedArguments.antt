@@ -1,10 +1,10 @@
 -- A store in which a call's pairs are named has the solutions that it had, each with the values of the pairs behind it.
-use Rattle.std.proofs.Common.{◌≡◌, ℕ, suc, ◌+◌, ◌≤◌, Bool, true, false, ◌&&◌, List, [], ◌∷◌, ◌++◌, length, map, refl, sym, ap, ap₂, subst, ◌∙◌, arith, append_assoc}
+use Rattle.std.proofs.Common.{◌≡◌, ℕ, ◌+◌, ◌≤◌, true, ◌&&◌, List, [], ◌∷◌, ◌++◌, length, map, refl, sym, ap, ap₂, subst, ◌∙◌, arith}
 use Rattle.std.specs.List.{list_all}
 use Rattle.std.proofs.lemmas.Bool.{and_parts, and_from, lt-ltb}
 use Rattle.std.proofs.lemmas.List.{length-append}
 use Rattle.std.proofs.lemmas.List.Folds.{list_all-append}
-use Rattle.kan_terms.specs.Tree.{Tree, Tm, Gd, ground_eq}
+use Rattle.kan_terms.specs.Tree.{Tree, Tm, Gd}
 use Rattle.kan_terms.specs.Valuations.{value_at, value}
 use Rattle.kan_terms.proofs.TreeLaws.{Decides-ground_eq}
 use Rattle.kan_model.specs.Programs.Goals.{Primitive}
@@ -12,23 +12,25 @@ use Rattle.kan_model.specs.Stores.Store.{Store, with_prim, with_fresh}
 use Rattle.kan_model.specs.Programs.Scope.{all_below, sides_below, is_counted}
 use Rattle.kan_model.specs.Streams.Running.{Arguments, and_value, named_store, named}
 use Rattle.kan_model.specs.Meaning.Holds.{holds_at, IsSolution, BeginsWith}
-use Rattle.pull_bounds.specs.Finding.{IsSolvedFrom, StandsAbove}
+use Rattle.pull_bounds.specs.Finding.{StandsAbove}
 use Rattle.pull_bounds.proofs.Longer.{BeginsWith-self, BeginsWith-trans, BeginsWith-length, value-longer, values-longer, all-hold_longer, below-more, all-below_more, all-sides_more, value_at-next}
 
 -- a solution with values behind it is one of the store with as many variables more
 pub solution-fresh : (st : Store) (us vs : List Gd) → is_counted st ≡ true → IsSolution st us → IsSolution (with_fresh st (length vs)) (us ++ vs)
-solution-fresh st us vs counted (long, h) =
-    (length-append us vs ∙ ap (λ n. n + length vs) long,
-    all-hold_longer us (us ++ vs) (vs, refl) st.prims (subst (λ n. list_all (sides_below n) st.prims ≡ true) (sym long) counted) h)
+solution-fresh st us vs counted (long, h) = (
+  length-append us vs ∙ ap (λ n. n + length vs) long,
+  all-hold_longer us (us ++ vs) (vs, refl) st.prims (subst (λ n. list_all (sides_below n) st.prims ≡ true) (sym long) counted) h,
+)
 
 pub counted-fresh : (st : Store) (k : ℕ) → is_counted st ≡ true → is_counted (with_fresh st k) ≡ true
 counted-fresh st k h = all-sides_more st.counter (st.counter + k) (omega arith) st.prims h
 
 -- a primitive that holds keeps a solution, and its variables are counted where they are there
 pub solution-with : (st : Store) (us : List Gd) (p : Primitive Tm) → IsSolution st us → holds_at us p ≡ true → IsSolution (with_prim st p) us
-solution-with st us p (long, h) holds =
-    (long,
-    list_all-append (holds_at us) st.prims (p ∷ []) ∙ and_from (list_all (holds_at us) st.prims) (holds_at us p && true) h (and_from (holds_at us p) true holds refl))
+solution-with st us p (long, h) holds = (
+  long,
+  list_all-append (holds_at us) st.prims (p ∷ []) ∙ and_from (list_all (holds_at us) st.prims) (holds_at us p && true) h (and_from (holds_at us p) true holds refl),
+)
 
 pub counted-with : (st : Store) (p : Primitive Tm) → is_counted st ≡ true → sides_below st.counter p ≡ true → is_counted (with_prim st p) ≡ true
 counted-with st p h below =
@@ -121,10 +123,10 @@ are_named st us (t ∷ ts) (counted, below) solves = by t first (are_named st us
     by (Tree.pair a b) h others again =
         pair_named st us a b counted solves h (map (value us) ts) (named (named_store st (Tree.pair a b)) ts)
         (subst (λ l. AreNamed vs l (named (named_store st (Tree.pair a b)) ts))
-            (values-longer us vs (value us (Tree.pair a b) ∷ [], refl) ts (subst (λ n. list_all (all_below n) ts ≡ true) (sym solves.0) rest))
-            (again (named_store st (Tree.pair a b)) vs
-                (named_counted st us a b counted solves h, all-below_more st.counter (st.counter + 1) (above_one st us a b counted solves h) ts rest)
-                (named_solves st us a b counted solves h)))
+        (values-longer us vs (value us (Tree.pair a b) ∷ [], refl) ts (subst (λ n. list_all (all_below n) ts ≡ true) (sym solves.0) rest))
+        (again (named_store st (Tree.pair a b)) vs
+        (named_counted st us a b counted solves h, all-below_more st.counter (st.counter + 1) (above_one st us a b counted solves h) ts rest)
+        (named_solves st us a b counted solves h)))
       where
         vs : List Gd
         vs = us ++ value us (Tree.pair a b) ∷ []

@@ -1,5 +1,5 @@
 -- Worked examples of the bound: an answer behind one, two and three goals that never answer.
-use Rattle.std.proofs.Common.{◌≡◌, true, List, [], ◌∷◌, refl}
+use Rattle.std.proofs.Common.{◌≡◌, true, [], ◌∷◌, refl}
 use Rattle.kan_terms.specs.Tree.{Tree, Gd}
 use Rattle.kan_model.specs.Programs.Goals.{Primitive, Goal, Relation, Program}
 use Rattle.kan_model.specs.Stores.Store.{Store, bare, with_prim}

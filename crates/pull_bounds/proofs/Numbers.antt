@@ -1,7 +1,7 @@
 -- Products and powers of two.
-use Rattle.std.proofs.Common.{◌≡◌, ℕ, suc, ◌+◌, ◌*◌, ◌^◌, ◌<◌, ◌≤◌, arith, ap, ap₂, sym, ◌∙◌}
+use Rattle.std.proofs.Common.{◌≡◌, ℕ, suc, ◌+◌, ◌*◌, ◌^◌, ◌≤◌, arith, ap, sym, ◌∙◌}
 use Rattle.std.proofs.lemmas.Nat.{pow_pos, pow-add}
-use Rattle.std.proofs.Math.Nat.{mul_assoc, mul_comm, mul-suc, pow-suc, mul-le-mul, mul-le-mul_left, mul-le-mul_right}
+use Rattle.std.proofs.Math.Nat.{mul_assoc, mul_comm, mul-suc, pow-suc, mul-le-mul, mul-le-mul_right}
 use Rattle.std.proofs.Math.Pow.{pow_mono}
 
 -- one doubling more

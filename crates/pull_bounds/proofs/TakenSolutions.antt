@@ -1,18 +1,17 @@
 -- What a run takes, with a limit and without one, and the solutions that it has by then.
-use Rattle.std.proofs.Common.{◌≡◌, ◌⊎◌, ℕ, zero, suc, ◌+◌, ◌≤◌, ◌<◌, List, [], ◌∷◌, ◌++◌, Option, Some, None, Any, Contains, inl, inr, refl, sym, ap, subst, ◌∙◌, arith}
+use Rattle.std.proofs.Common.{◌≡◌, ◌⊎◌, ℕ, zero, suc, ◌<◌, List, [], ◌∷◌, Option, Some, None, Contains, inl, inr, refl, sym, ap, subst, ◌∙◌, arith}
 use Rattle.std.proofs.lemmas.Bool.{cases_lt}
-use Rattle.kan_terms.specs.Tree.{Tree, Gd}
+use Rattle.kan_terms.specs.Tree.{Tree}
 use Rattle.kan_terms.specs.Valuations.{value_at}
-use Rattle.kan_model.specs.Programs.Goals.{Goal, Program, Query}
+use Rattle.kan_model.specs.Programs.Goals.{Program}
 use Rattle.kan_model.specs.Stores.Store.{Store, bare}
-use Rattle.kan_model.specs.Streams.Stream.{Stream, Thunk}
+use Rattle.kan_model.specs.Streams.Stream.{Stream}
 use Rattle.kan_model.specs.Streams.Running.{force, start}
-use Rattle.kan_model.specs.Meaning.Derivations.{Derivation}
 use Rattle.kan_model.specs.Streams.Pulls.{pulls_for}
-use Rattle.kan_model.specs.Streams.Taking.{Taken, Ending, nothing_more, with_answer, with_pull, less_one, give, take, taken}
+use Rattle.kan_model.specs.Streams.Taking.{Taken, Ending, nothing_more, with_answer, with_pull, give, take, taken}
 use Rattle.kan_model.proofs.Meaning.DerivationLaws.{Derives-from_test}
-use Rattle.pull_bounds.specs.Coming.{stores_within, ComesWithin}
-use Rattle.pull_bounds.specs.Finding.{IsSolvedAt, IsTaken, IsCutBefore, NoneIsMissed, EndHasAll}
+use Rattle.pull_bounds.specs.Coming.{ComesWithin}
+use Rattle.pull_bounds.specs.Finding.{IsSolvedAt, IsTaken, IsCutBefore, WhatComesIsTaken, NoneIsMissed, EndHasAll}
 use Rattle.pull_bounds.proofs.Within.{Comes, Comes-within, within-Comes, Comes-more}
 use Rattle.pull_bounds.proofs.FoundSolutions.{Finds, derivation_finds}
 
@@ -78,25 +77,29 @@ module _ (program : Program) where
     ]
   ]
 
-  -- a store that comes was taken, but for the limit or the fuel
-  taken_or_cut : (P : Store → Type 0) (pulls f : ℕ) (s : Stream) (l : Option ℕ) (st : Store) → ComesWithin program pulls s st → P st →
-      Any P (take program f s l).stores ⊎ IsCutBefore pulls f (take program f s l).ending
-  taken_or_cut P pulls f s l st h holds = by (take_limited f s l) (comes_or_cut pulls f s st h)
-    where
-      found : (ts : List Store) → Contains ts st → Any P ts
-      found ts (k, within, is) = (k, st, within, is, holds)
-
-      by : ChangesNothing (take program f s l) (take program f s None) → ComesWithin program f s st ⊎ (((take program f s None).ending ≡ Ending.fuel) × (f < pulls)) →
-          Any P (take program f s l).stores ⊎ IsCutBefore pulls f (take program f s l).ending
-      by (inl e) _ = inr (inl e)
-      by (inr (stores, ending)) (inl there) = inl (found (take program f s l).stores (subst (λ ts. Contains ts st) (sym stores) there))
-      by (inr (stores, ending)) (inr (e, less)) = inr (inr (ending ∙ e, less))
+-- a store that comes was taken, but for the limit or the fuel
+pub what_comes_is_taken : WhatComesIsTaken
+what_comes_is_taken program pulls f s l st h = by (take_limited program f s l) (comes_or_cut program pulls f s st h)
+  where
+    by : ChangesNothing (take program f s l) (take program f s None) → ComesWithin program f s st ⊎ (((take program f s None).ending ≡ Ending.fuel) × (f < pulls)) →
+        Contains (take program f s l).stores st ⊎ IsCutBefore pulls f (take program f s l).ending
+    by (inl e) _ = inr (inl e)
+    by (inr (stores, ending)) (inl there) = inl (subst (λ ts. Contains ts st) (sym stores) there)
+    by (inr (stores, ending)) (inr (e, less)) = inr (inr (ending ∙ e, less))
 
 pub none_is_missed : NoneIsMissed
-none_is_missed program q fuel u d h =
-    let found = derivation_finds program q.goal (Tree.leaf 0 ∷ []) (bare 1) (u ∷ []) d (refl, refl) (refl, refl) (Derives-from_test program q.goal (u ∷ []) d h) in
-    taken_or_cut program (IsSolvedAt u) (pulls_for program q.goal d) fuel (start q.goal) q.limit found.store found.comes
-    (found.longer, found.solves, ap (λ us. value_at us 0) found.begins.1)
+none_is_missed program q fuel u d h = by (what_comes_is_taken program (pulls_for program q.goal d) fuel (start q.goal) q.limit found.store found.comes)
+  where
+    found : Finds program (pulls_for program q.goal d) (start q.goal) (u ∷ [])
+    found = derivation_finds program q.goal (Tree.leaf 0 ∷ []) (bare 1) (u ∷ []) d (refl, refl) (refl, refl) (Derives-from_test program q.goal (u ∷ []) d h)
+
+    solved : IsSolvedAt u found.store
+    solved = (found.longer, found.solves, ap (λ us. value_at us 0) found.begins.1)
+
+    by : Contains (taken program fuel q).stores found.store ⊎ IsCutBefore (pulls_for program q.goal d) fuel (taken program fuel q).ending →
+        IsTaken u (taken program fuel q) ⊎ IsCutBefore (pulls_for program q.goal d) fuel (taken program fuel q).ending
+    by (inl (k, within, is)) = inl (k, found.store, within, is, solved)
+    by (inr cut) = inr cut
 
 pub end_has_all : EndHasAll
 end_has_all program q fuel u ended (d, h) = by (none_is_missed program q fuel u d h)

@@ -1,18 +1,18 @@
 -- Which solutions are found, and within how many pulls.
-use Rattle.std.specs.Prelude.{◌≡◌, ◌⊎◌, ℕ, ◌<◌, true, List, [], ◌∷◌, map, Any}
+use Rattle.std.specs.Prelude.{◌≡◌, ◌⊎◌, ℕ, ◌<◌, true, List, [], ◌∷◌, map, Option, Any, Contains}
 use Rattle.std.specs.List.{list_all}
 use Rattle.kan_terms.specs.Tree.{Tm, Gd}
 use Rattle.kan_terms.specs.Valuations.{value_at, value}
 use Rattle.kan_model.specs.Programs.Goals.{Primitive, Goal, Program, Query}
 use Rattle.kan_model.specs.Stores.Store.{Store, with_prim}
 use Rattle.kan_model.specs.Stores.Kept.{is_kept}
-use Rattle.kan_model.specs.Streams.Stream.{one}
+use Rattle.kan_model.specs.Streams.Stream.{Stream, one}
 use Rattle.kan_model.specs.Streams.Running.{run, assert}
 use Rattle.kan_model.specs.Programs.Scope.{all_below, is_counted}
 use Rattle.kan_model.specs.Meaning.Holds.{holds_at, IsSolution, BeginsWith}
 use Rattle.kan_model.specs.Meaning.Derivations.{Derivation, derives, IsRunSolution}
 use Rattle.kan_model.specs.Streams.Pulls.{pulls_for}
-use Rattle.kan_model.specs.Streams.Taking.{Ending, Taken, taken}
+use Rattle.kan_model.specs.Streams.Taking.{Ending, Taken, take, taken}
 use Rattle.pull_bounds.specs.Coming.{ComesWithin}
 
 -- a store with a solution is kept
@@ -46,9 +46,15 @@ IsSolvedAt u st = (us : List Gd) × IsSolution st us × (value_at us 0 ≡ u)
 abbrev pub IsTaken : Gd → Taken → Type 0
 IsTaken u t = Any (IsSolvedAt u) t.stores
 
--- what ended before a solution with this many pulls was taken: the limit of answers, or a smaller fuel
+-- what ended before so many pulls: the limit of answers, or a smaller fuel
 abbrev pub IsCutBefore : ℕ → ℕ → Ending → Type 0
 IsCutBefore pulls fuel e = (e ≡ Ending.limit) ⊎ ((e ≡ Ending.fuel) × (fuel < pulls))
+
+-- a store that comes of a stream within some pulls is taken, but for the limit or the fuel
+abbrev pub WhatComesIsTaken : Type 0
+WhatComesIsTaken =
+    (program : Program) (pulls fuel : ℕ) (s : Stream) (limit : Option ℕ) (st : Store) → ComesWithin program pulls s st →
+    Contains (take program fuel s limit).stores st ⊎ IsCutBefore pulls fuel (take program fuel s limit).ending
 
 -- no solution is missed but for the limit, or for a fuel below its derivation's pulls
 abbrev pub NoneIsMissed : Type 0

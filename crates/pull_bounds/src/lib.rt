@@ -3,7 +3,7 @@
 #![tactic(auto)]
 
 ghost use Rattle.pull_bounds.specs.Coming.{LeftComes, RightComes, AnswersAreBounded, BoundComes, BothCome};
-ghost use Rattle.pull_bounds.specs.Finding.{SolvedIsKept, HoldingIsAdded, DerivationIsFound, NoneIsMissed, EndHasAll};
+ghost use Rattle.pull_bounds.specs.Finding.{SolvedIsKept, HoldingIsAdded, DerivationIsFound, WhatComesIsTaken, NoneIsMissed, EndHasAll};
 
 /// What the left one of two appended streams gives within some pulls comes within twice as many.
 #[tactic(auto, using(crate::proofs::Appended::left_comes))]
@@ -49,6 +49,11 @@ pub fn what_holds_is_added()
 #[tactic(auto, using(crate::proofs::FoundSolutions::derivation_is_found))]
 pub fn derivations_are_found()
     ensures { DerivationIsFound }
+{}
+
+/// A store that comes of a stream is taken, unless the limit is met, or a fuel below its pulls is spent.
+pub fn what_comes_is_taken()
+    ensures { WhatComesIsTaken }
 {}
 
 /// A solution of a run is taken, unless the limit is met, or a fuel below the pulls of its derivation is spent.
