@@ -8,7 +8,8 @@ use Rattle.kan_model.specs.Stores.Store.{Store}
 use Rattle.kan_model.specs.Streams.Stream.{Stream, Thunk, empty, append, append_each, bind_all}
 use Rattle.kan_model.specs.Streams.Running.{run, force}
 use Rattle.kan_model.specs.Streams.Pulls.{both_pulls, answers_within}
-use Rattle.pull_bounds.specs.Coming.{stores_within, ComesWithin, BoundComes, BothCome}
+use Rattle.kan_model.specs.Streams.Taking.{stores_within}
+use Rattle.pull_bounds.specs.Coming.{ComesWithin, BoundComes, BothCome}
 use Rattle.pull_bounds.proofs.Numbers.{pow-suc_times, pow_times_more, heads_fit, later_fits}
 use Rattle.pull_bounds.proofs.Within.{Comes, Comes-within, within-Comes, Comes-more}
 use Rattle.pull_bounds.proofs.Appended.{Comes-left, Comes-right}

@@ -6,30 +6,30 @@ use Rattle.kan_model.specs.Stores.Solve.{solve_by, rounds, steps}
 use Rattle.kan_model.specs.Streams.Running.{start}
 use Rattle.kan_model.specs.Streams.Pulls.{answers_within, pulls_for}
 use Rattle.kan_model.specs.Meaning.Derivations.{Derivation, derives}
-use Rattle.pull_bounds.specs.Coming.{stores_within}
+use Rattle.kan_model.specs.Streams.Taking.{stores_within}
 
-abbrev is : ℕ → Goal
+abbrev pub is : ℕ → Goal
 is s = Goal.prim (Primitive.same (Tree.leaf 0) (Tree.sym s))
 
 -- a relation that has the symbol 2, and one that has 1 and calls that one
-abbrev last_one : Relation
+abbrev pub last_one : Relation
 last_one = record { params = 1; body = is 2 }
 
-abbrev next_one : Relation
+abbrev pub next_one : Relation
 next_one = record { params = 1; body = Goal.either (is 1) (Goal.call 0 (Tree.leaf 0 ∷ [])) }
 
-abbrev program : Program
+abbrev pub program : Program
 program = record { relations = last_one ∷ next_one ∷ []; goals = last_one.body ∷ next_one.body ∷ [] }
 
 -- the symbol 0 at once, 1 after a pull, and 2 after one more
-abbrev first : Goal
+abbrev pub first : Goal
 first = Goal.either (is 0) (Goal.call 1 (Tree.leaf 0 ∷ []))
 
 -- a second goal that holds of 2 alone, after a pull
-abbrev second : Goal
+abbrev pub second : Goal
 second = Goal.call 0 (Tree.leaf 0 ∷ [])
 
-abbrev whole : Goal
+abbrev pub whole : Goal
 whole = Goal.both first second
 
 pub first_at_once : length (stores_within program 0 (start first)) ≡ 1
@@ -55,10 +55,10 @@ pub counted_after_two : answers_within program first 2 ≡ 3
 counted_after_two = refl
 
 -- the derivation of the third answer, and of both goals at it
-abbrev to_first : Derivation
+abbrev pub to_first : Derivation
 to_first = Derivation.right (Derivation.enter (Derivation.right (Derivation.enter Derivation.holds)))
 
-abbrev to_whole : Derivation
+abbrev pub to_whole : Derivation
 to_whole = Derivation.both to_first (Derivation.enter Derivation.holds)
 
 pub derived : derives program whole (Tree.sym 2 ∷ []) to_whole ≡ true

@@ -1,15 +1,16 @@
 -- How many stores come within some pulls.
-use Rattle.std.proofs.Common.{◌≡◌, ℕ, zero, suc, ◌+◌, ◌*◌, ◌≤◌, List, [], ◌∷◌, ◌++◌, length, Bool, true, false, Option, Some, None, slice_get, ap, ◌∙◌, arith}
+use Rattle.std.proofs.Common.{◌≡◌, ℕ, zero, suc, ◌+◌, ◌*◌, ◌≤◌, List, [], ◌∷◌, ◌++◌, length, Bool, true, false, Option, Some, None, slice_get, refl, ap, ◌∙◌, arith}
 use Rattle.std.proofs.lemmas.List.{length-append}
 use Rattle.std.proofs.Math.Nat.{suc-mul, add-mul, mul-le-mul, le_trans, le_refl}
 use Rattle.kan_terms.specs.Tree.{Tm}
 use Rattle.kan_model.specs.Programs.Goals.{Goal, Program, Relation, on_sides}
 use Rattle.kan_model.specs.Stores.Store.{Store, with_prim, with_fresh}
 use Rattle.kan_model.specs.Streams.Stream.{Stream, Thunk, empty, one, append, append_each, bind_all}
-use Rattle.kan_model.specs.Streams.Running.{run, enter, force, instance, instances, named, variables}
+use Rattle.kan_model.specs.Streams.Running.{run, enter, force, instance, instances, name_pairs, variables}
 use Rattle.kan_model.specs.Stores.Kept.{is_kept}
-use Rattle.kan_model.specs.Streams.Pulls.{answers_by, body_answers, call_answers}
-use Rattle.pull_bounds.specs.Coming.{stores_within, AnswersAreBounded}
+use Rattle.kan_model.specs.Streams.Pulls.{answers_by, answers_behind}
+use Rattle.kan_model.specs.Streams.Taking.{stores_within}
+use Rattle.pull_bounds.specs.Coming.{AnswersAreBounded}
 use Rattle.pull_bounds.proofs.Within.{within_ends, within_none, within_pull}
 
 module _ (program : Program) where
@@ -71,33 +72,48 @@ module _ (program : Program) where
       let all = ap (λ k. k * m) (count_pull d hs i) ∙ add-mul (length hs) (count d (force program i)) m in
       omega (arith, each, rest, below, all)
 
-  -- a goal has no more answers than are counted for it, where its calls have no more
-  count_run : (d : ℕ) (at_call : ℕ → ℕ) → ((r : ℕ) (args : List Tm) (st : Store) → count d (Stream.goes_on [] (Thunk.call r args st)) ≤ at_call r) →
-      (g : Goal) (env : List Tm) (st : Store) → count d (run g env st) ≤ answers_by at_call g
-  count_run d at_call calls (Goal.prim p) env st = by (is_kept (with_prim st (on_sides (instance env) p)))
+  -- a bound on what goals give behind one pull
+  abbrev BoundsBehind : ℕ → (Goal → ℕ) → Type 0
+  BoundsBehind d after_pull = (i : Thunk) (g : Goal) (env : List Tm) (st : Store) → force program i ≡ run g env st → count d (Stream.goes_on [] i) ≤ after_pull g
+
+  count_nothing : (d : ℕ) (i : Thunk) → force program i ≡ empty → count d (Stream.goes_on [] i) ≤ 0
+  count_nothing zero i e = omega (arith, count_none [] i)
+  count_nothing (suc d) i e = omega (arith, count_pull d [] i, ap (count d) e, count_ends d [])
+
+  -- a call gives what the body gives
+  count_call : (d : ℕ) (after_pull : Goal → ℕ) → BoundsBehind d after_pull → (r : ℕ) (args : List Tm) (st : Store) →
+      count d (Stream.goes_on [] (Thunk.call r args st)) ≤ elim (slice_get program.relations r) [ Some rel ↦ after_pull rel.body | None ↦ 0 ]
+  count_call d after_pull behind r args st = by (slice_get program.relations r) refl
+    where
+      by : (found : Option Relation) → slice_get program.relations r ≡ found →
+          count d (Stream.goes_on [] (Thunk.call r args st)) ≤ elim found [ Some rel ↦ after_pull rel.body | None ↦ 0 ]
+      by None e = count_nothing d (Thunk.call r args st) (ap (λ rel. enter rel args st) e)
+      by (Some rel) e = behind (Thunk.call r args st) rel.body args st (ap (λ rel. enter rel args st) e)
+
+  -- a goal has no more answers than are counted for it
+  count_run : (d : ℕ) (after_pull : Goal → ℕ) → BoundsBehind d after_pull → (g : Goal) (env : List Tm) (st : Store) →
+      count d (run g env st) ≤ answers_by after_pull program g
+  count_run d after_pull behind (Goal.prim p) env st = by (is_kept (with_prim st (on_sides (instance env) p)))
     where
       by : (kept : Bool) → count d (elim kept [ true ↦ one (with_prim st (on_sides (instance env) p)) | false ↦ empty ]) ≤ 1
       by true = omega (arith, count_ends d (with_prim st (on_sides (instance env) p) ∷ []))
       by false = omega (arith, count_ends d [])
-  count_run d at_call calls Goal.succeed env st = omega (arith, count_ends d (st ∷ []))
-  count_run d at_call calls Goal.fail env st = omega (arith, count_ends d [])
-  count_run d at_call calls (Goal.both g h) env st =
-      le_trans (count_bind d (answers_by at_call h) h env (λ s. count_run d at_call calls h env s) (run g env st))
-      (mul-le-mul (count_run d at_call calls g env st) (le_refl (answers_by at_call h)))
-  count_run d at_call calls (Goal.either g h) env st =
-      omega (arith, count_append d (run g env st) (run h env st), count_run d at_call calls g env st, count_run d at_call calls h env st)
-  count_run d at_call calls (Goal.fresh k g) env st = count_run d at_call calls g (env ++ variables st.counter k) (with_fresh st k)
-  count_run d at_call calls (Goal.call r args) env st = calls r (named st (instances env args)).values (named st (instances env args)).store
+  count_run d after_pull behind Goal.succeed env st = omega (arith, count_ends d (st ∷ []))
+  count_run d after_pull behind Goal.fail env st = omega (arith, count_ends d [])
+  count_run d after_pull behind (Goal.both g h) env st =
+      le_trans (count_bind d (answers_by after_pull program h) h env (λ s. count_run d after_pull behind h env s) (run g env st))
+      (mul-le-mul (count_run d after_pull behind g env st) (le_refl (answers_by after_pull program h)))
+  count_run d after_pull behind (Goal.either g h) env st =
+      omega (arith, count_append d (run g env st) (run h env st), count_run d after_pull behind g env st, count_run d after_pull behind h env st)
+  count_run d after_pull behind (Goal.fresh k g) env st = count_run d after_pull behind g (env ++ variables st.counter k) (with_fresh st k)
+  count_run d after_pull behind (Goal.later g) env st = behind (Thunk.pause g env st) g env st refl
+  count_run d after_pull behind (Goal.call r args) env st =
+      count_call d after_pull behind r (name_pairs st (instances env args)).values (name_pairs st (instances env args)).store
 
-  count_call : (d r : ℕ) (args : List Tm) (st : Store) → count d (Stream.goes_on [] (Thunk.call r args st)) ≤ call_answers program d r
-  count_call zero r args st = omega (arith, count_none [] (Thunk.call r args st))
-  count_call (suc d) r args st = omega (arith, count_pull d [] (Thunk.call r args st), by (slice_get program.relations r) (count_call d))
-    where
-      by : (rel : Option Relation) → ((r : ℕ) (args : List Tm) (st : Store) → count d (Stream.goes_on [] (Thunk.call r args st)) ≤ call_answers program d r) →
-          count d (enter rel args st) ≤ body_answers (call_answers program d) rel
-      by None calls = omega (arith, count_ends d [])
-      by (Some rel) calls = count_run d (call_answers program d) calls rel.body args st
+  count_behind : (d : ℕ) → BoundsBehind d (answers_behind program d)
+  count_behind zero i g env st e = omega (arith, count_none [] i)
+  count_behind (suc d) i g env st e = omega (arith, count_pull d [] i, ap (count d) e, count_run d (answers_behind program d) (count_behind d) g env st)
 
 pub answers_are_bounded : AnswersAreBounded
 unfolding count
-answers_are_bounded program g env st d = count_run program d (call_answers program d) (count_call program d) g env st
+answers_are_bounded program g env st d = count_run program d (answers_behind program d) (count_behind program d) g env st

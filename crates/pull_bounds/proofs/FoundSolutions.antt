@@ -9,7 +9,7 @@ use Rattle.kan_terms.specs.Valuations.{value}
 use Rattle.kan_model.specs.Programs.Goals.{Primitive, Goal, Template, Relation, Program, on_sides}
 use Rattle.kan_model.specs.Stores.Store.{Store, with_prim, with_fresh}
 use Rattle.kan_model.specs.Streams.Stream.{Stream, Thunk, one, append}
-use Rattle.kan_model.specs.Streams.Running.{run, force, enter, instance, instances, named, variables}
+use Rattle.kan_model.specs.Streams.Running.{run, force, enter, instance, instances, name_pairs, variables}
 use Rattle.kan_model.specs.Programs.Scope.{all_below, is_counted}
 use Rattle.kan_model.specs.Meaning.Holds.{holds_at, IsSolution, BeginsWith}
 use Rattle.kan_model.specs.Meaning.Derivations.{Derivation, Derives, values}
@@ -42,36 +42,19 @@ module _ (program : Program) where
       within-Comes program (1 + b) (Stream.goes_on [] i) st
       (Comes-more program (suc b) (1 + b) (Stream.goes_on [] i) st (omega arith) (Comes.pulled (Comes-within program b (force program i) st h)))
 
-  -- what one pull brings
+  -- where what comes of one stream comes of another one, so does what is found
+  found_there : (b c : ℕ) (s t : Stream) (us : List Gd) → ((st : Store) → ComesWithin program b s st → ComesWithin program c t st) → Finds program b s us → Finds program c t us
+  found_there b c s t us there found = record {
+    store = found.store;
+    comes = there found.store found.comes;
+    counted = found.counted;
+    longer = found.longer;
+    solves = found.solves;
+    begins = found.begins;
+  }
+
   found_pulled : (b : ℕ) (i : Thunk) (us : List Gd) → Finds program b (force program i) us → Finds program (1 + b) (Stream.goes_on [] i) us
-  found_pulled b i us found = record {
-    store = found.store;
-    comes = pull_comes b i found.store found.comes;
-    counted = found.counted;
-    longer = found.longer;
-    solves = found.solves;
-    begins = found.begins;
-  }
-
-  found_left : (b : ℕ) (s t : Stream) (us : List Gd) → Finds program b s us → Finds program (2 * b) (append s t) us
-  found_left b s t us found = record {
-    store = found.store;
-    comes = left_comes program b s t found.store found.comes;
-    counted = found.counted;
-    longer = found.longer;
-    solves = found.solves;
-    begins = found.begins;
-  }
-
-  found_right : (b : ℕ) (s t : Stream) (us : List Gd) → Finds program b t us → Finds program (2 * b + 1) (append s t) us
-  found_right b s t us found = record {
-    store = found.store;
-    comes = right_comes program b s t found.store found.comes;
-    counted = found.counted;
-    longer = found.longer;
-    solves = found.solves;
-    begins = found.begins;
-  }
+  found_pulled b i us = found_there b (1 + b) (force program i) (Stream.goes_on [] i) us (pull_comes b i)
 
   -- a solution that begins with a longer one begins with the shorter one
   found_shorter : (b : ℕ) (s : Stream) (us vs : List Gd) → BeginsWith vs us → Finds program b s vs → Finds program b s us
@@ -155,17 +138,20 @@ module _ (program : Program) where
   found_call : (r : ℕ) (args : List Template) (rel : Relation) (ws : List Gd) (b : ℕ) → slice_get program.relations r ≡ Some rel → FindsAt rel.body (values ws args) b →
       FindsAt (Goal.call r args) ws (1 + b)
   found_call r args rel ws b there below env st us above solves same =
-      found_pulled b (Thunk.call r (named st terms).values (named st terms).store) us
-      (found_shorter b (force program (Thunk.call r (named st terms).values (named st terms).store)) us are.longer are.begins
-      (subst (λ found. Finds program b (enter found (named st terms).values (named st terms).store) are.longer) (sym there)
-      (below (named st terms).values (named st terms).store are.longer (are.counted, are.below) are.solves
+      found_pulled b (Thunk.call r (name_pairs st terms).values (name_pairs st terms).store) us
+      (found_shorter b (force program (Thunk.call r (name_pairs st terms).values (name_pairs st terms).store)) us are.longer are.begins
+      (subst (λ found. Finds program b (enter found (name_pairs st terms).values (name_pairs st terms).store) are.longer) (sym there)
+      (below (name_pairs st terms).values (name_pairs st terms).store are.longer (are.counted, are.below) are.solves
       (are.same ∙ values-instances us env args ∙ ap (λ l. values l args) same))))
     where
       terms : List Tm
       terms = instances env args
 
-      are : AreNamed us (map (value us) terms) (named st terms)
+      are : AreNamed us (map (value us) terms) (name_pairs st terms)
       are = are_named st us terms (above.0, below-instances st.counter env above.1 args) solves
+
+  found_later : (g : Goal) (ws : List Gd) (b : ℕ) → FindsAt g ws b → FindsAt (Goal.later g) ws (1 + b)
+  found_later g ws b below env st us above solves same = found_pulled b (Thunk.pause g env st) us (below env st us above solves same)
 
   -- each derivation leads to a store within its pulls
   finds : (g : Goal) (ws : List Gd) (d : Derivation) → Derives program g ws d → FindsAt g ws (pulls_for program g d)
@@ -176,11 +162,15 @@ module _ (program : Program) where
   finds g ws d (Derives.both {g = g'} {h = k} {d = d'} {e = e} first second) env st us above solves same =
       found_both g' k ws (pulls_for program g' d') (pulls_for program k e) (finds g' ws d' first) (finds k ws e second) env st us above solves same
   finds g ws d (Derives.left {g = g'} {h = k} {d = d'} below) env st us above solves same =
-      found_left (pulls_for program g' d') (run g' env st) (run k env st) us (finds g' ws d' below env st us above solves same)
+      found_there (pulls_for program g' d') (2 * pulls_for program g' d') (run g' env st) (append (run g' env st) (run k env st)) us
+      (left_comes program (pulls_for program g' d') (run g' env st) (run k env st)) (finds g' ws d' below env st us above solves same)
   finds g ws d (Derives.right {g = g'} {h = k} {d = d'} below) env st us above solves same =
-      found_right (pulls_for program k d') (run g' env st) (run k env st) us (finds k ws d' below env st us above solves same)
+      found_there (pulls_for program k d') (2 * pulls_for program k d' + 1) (run k env st) (append (run g' env st) (run k env st)) us
+      (right_comes program (pulls_for program k d') (run g' env st) (run k env st)) (finds k ws d' below env st us above solves same)
   finds g ws d (Derives.choose {g = g'} {vs = vs} {d = d'} below) env st us above solves same =
       found_fresh g' ws vs (pulls_for program g' d') (finds g' (ws ++ vs) d' below) env st us above solves same
+  finds g ws d (Derives.later {g = g'} {d = d'} below) env st us above solves same =
+      found_later g' ws (pulls_for program g' d') (finds g' ws d' below) env st us above solves same
   finds g ws d (Derives.enter {r = r} {args = args} {rel = rel} {d = d'} there below) env st us above solves same =
       rw (there, pulls_for) (found_call r args rel ws (pulls_for program rel.body d') there (finds rel.body (values ws args) d' below) env st us above solves same)
 

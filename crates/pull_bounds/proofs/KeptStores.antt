@@ -1,5 +1,5 @@
 -- A store with a solution is kept.
-use Rattle.std.proofs.Common.{◌≡◌, ℕ, inl, inr, Bool, true, false, not, ◌&&◌, List, [], ◌∷◌, ◌++◌, refl, sym, ap, subst, ◌∙◌}
+use Rattle.std.proofs.Common.{◌≡◌, ℕ, inl, inr, Bool, true, false, not, ◌&&◌, List, [], ◌∷◌, ◌++◌, Option, Some, None, refl, sym, ap, subst, ◌∙◌}
 use Rattle.std.specs.List.{list_all}
 use Rattle.std.proofs.lemmas.Bool.{and_parts, and_from, or_cases, eqb-true, true≢false}
 use Rattle.std.proofs.lemmas.List.Folds.{list_all-append}
@@ -10,8 +10,10 @@ use Rattle.kan_model.specs.Programs.Goals.{Primitive}
 use Rattle.kan_model.specs.Stores.Store.{Store, equations, with_prim}
 use Rattle.kan_model.specs.Stores.Solve.{Replacement, apply, left_first}
 use Rattle.kan_model.specs.Stores.Unifiers.{Unifies, Factors}
-use Rattle.kan_model.specs.Stores.Kept.{may_be_symbol, may_be_number, allows, is_variable, makes_number, is_number_variable, is_no_number, gives_one_type, holds_under, holds_with, is_kept}
-use Rattle.kan_model.specs.Meaning.Holds.{is_symbol, is_number, holds_at}
+use Rattle.kan_model.specs.Stores.Kept.{may_be, allows, is_variable, gives_type, has_type, lacks_type, gives_one_type, holds_under, holds_with, is_kept}
+use Rattle.kan_model.specs.declared.prims.Kind.{Kind}
+use Rattle.kan_model.specs.declared.prims.Kind.TheVariants.{Symbol, Number, Text}
+use Rattle.kan_model.specs.Meaning.Holds.{is_symbol, is_number, is_string, holds_at}
 use Rattle.kan_model.specs.Streams.Stream.{one, empty}
 use Rattle.kan_model.proofs.Solving.UnifierLaws.{fill-apply, answer_most_general}
 use Rattle.pull_bounds.specs.Finding.{SolvedIsKept, HoldingIsAdded}
@@ -25,23 +27,44 @@ values_unify us (Primitive.same a b ∷ ps) h =
 values_unify us (Primitive.differ a b ∷ ps) h = values_unify us ps (and_parts (holds_at us (Primitive.differ a b)) (list_all (holds_at us) ps) h).1
 values_unify us (Primitive.symbol a ∷ ps) h = values_unify us ps (and_parts (holds_at us (Primitive.symbol a)) (list_all (holds_at us) ps) h).1
 values_unify us (Primitive.number a ∷ ps) h = values_unify us ps (and_parts (holds_at us (Primitive.number a)) (list_all (holds_at us) ps) h).1
+values_unify us (Primitive.text a ∷ ps) h = values_unify us ps (and_parts (holds_at us (Primitive.text a)) (list_all (holds_at us) ps) h).1
 values_unify us (Primitive.absent tag a ∷ ps) h = values_unify us ps (and_parts (holds_at us (Primitive.absent tag a)) (list_all (holds_at us) ps) h).1
 
--- a term whose value has a type may have it
-may_be_symbol-value : (us : List Gd) (t : Tm) → is_symbol (value us t) ≡ true → may_be_symbol t ≡ true
-may_be_symbol-value us (Tree.leaf v) h = refl
-may_be_symbol-value us (Tree.sym s) h = refl
-may_be_symbol-value us t h = h
+-- a ground term is of a type, and which type it is of
+abbrev is_of : Kind → Gd → Bool
+is_of Symbol = is_symbol
+is_of Number = is_number
+is_of Text = is_string
 
-may_be_number-value : (us : List Gd) (t : Tm) → is_number (value us t) ≡ true → may_be_number t ≡ true
-may_be_number-value us (Tree.leaf v) h = refl
-may_be_number-value us (Tree.num n) h = refl
-may_be_number-value us t h = h
+abbrev kind_of : Gd → Option Kind
+kind_of (Tree.sym s) = Some Symbol
+kind_of (Tree.num n) = Some Number
+kind_of (Tree.str s) = Some Text
+kind_of _ = None
+
+is_of-kind : (kind : Kind) (u : Gd) → is_of kind u ≡ true → kind_of u ≡ Some kind
+is_of-kind Symbol (Tree.sym s) h = refl
+is_of-kind Number (Tree.num n) h = refl
+is_of-kind Text (Tree.str s) h = refl
+is_of-kind Symbol _ h = absurd (true≢false (sym h))
+is_of-kind Number _ h = absurd (true≢false (sym h))
+is_of-kind Text _ h = absurd (true≢false (sym h))
 
 -- no value has two types
-one_type : (u : Gd) → is_symbol u ≡ true → is_number u ≡ true → ⊥
-one_type (Tree.sym s) h k = true≢false (sym k)
-one_type u h k = true≢false (sym h)
+one_type : (kind other : Kind) (u : Gd) → is_of kind u ≡ true → is_of other u ≡ true → Some kind ≡ Some other
+one_type kind other u h k = sym (is_of-kind kind u h) ∙ is_of-kind other u k
+
+-- a term whose value has a type may have it
+may_be-value : (kind : Kind) (us : List Gd) (t : Tm) → is_of kind (value us t) ≡ true → may_be kind t ≡ true
+may_be-value Symbol us (Tree.leaf v) h = refl
+may_be-value Symbol us (Tree.sym s) h = refl
+may_be-value Symbol us t h = h
+may_be-value Number us (Tree.leaf v) h = refl
+may_be-value Number us (Tree.num n) h = refl
+may_be-value Number us t h = h
+may_be-value Text us (Tree.leaf v) h = refl
+may_be-value Text us (Tree.str s) h = refl
+may_be-value Text us t h = h
 
 not_true : (b : Bool) → (b ≡ true → ⊥) → not b ≡ true
 not_true true none = absurd (none refl)
@@ -60,14 +83,18 @@ module _ (us : List Gd) (s : Replacement) (factors : Factors (value_at us) s) wh
   value-apply : (t : Tm) → value us (apply s t) ≡ value us t
   value-apply t = fill-apply (value_at us) s factors t
 
+  of-answer : (kind : Kind) (t : Tm) → is_of kind (value us t) ≡ true → is_of kind (value us (apply s t)) ≡ true
+  of-answer kind t h = subst (λ u. is_of kind u ≡ true) (sym (value-apply t)) h
+
   -- what holds of the values is allowed under the answer
   holds-allows : (p : Primitive Tm) → holds_at us p ≡ true → allows s p ≡ true
   holds-allows (Primitive.same a b) h = refl
   holds-allows (Primitive.differ a b) h =
       not_true (term_eq (apply s a) (apply s b)) (λ e. not_both (ground_eq (value us a) (value us b)) h
       ((Decides-ground_eq (value us a) (value us b)).1 (sym (value-apply a) ∙ ap (value us) (term_eq-true (apply s a) (apply s b) e) ∙ value-apply b)))
-  holds-allows (Primitive.symbol a) h = may_be_symbol-value us (apply s a) (subst (λ u. is_symbol u ≡ true) (sym (value-apply a)) h)
-  holds-allows (Primitive.number a) h = may_be_number-value us (apply s a) (subst (λ u. is_number u ≡ true) (sym (value-apply a)) h)
+  holds-allows (Primitive.symbol a) h = may_be-value Symbol us (apply s a) (of-answer Symbol a h)
+  holds-allows (Primitive.number a) h = may_be-value Number us (apply s a) (of-answer Number a h)
+  holds-allows (Primitive.text a) h = may_be-value Text us (apply s a) (of-answer Text a h)
   holds-allows (Primitive.absent tag a) h =
       not_true (has_symbol tag (apply s a)) (λ e. not_both (has_symbol tag (value us a)) h
       (subst (λ u. has_symbol tag u ≡ true) (value-apply a) (fill-has_symbol tag (value_at us) (apply s a) e)))
@@ -78,30 +105,43 @@ module _ (us : List Gd) (s : Replacement) (factors : Factors (value_at us) s) wh
       let (first, rest) = and_parts (holds_at us p) (list_all (holds_at us) ps) h in
       and_from (allows s p) (list_all (allows s) ps) (holds-allows p first) (all-allowed ps rest)
 
-  -- a variable with the type number has a number for its value
-  number-value : (v : ℕ) (ps : List (Primitive Tm)) → list_all (holds_at us) ps ≡ true → is_number_variable s ps v ≡ true → is_number (value_at us v) ≡ true
-  number-value v [] h k = absurd (true≢false (sym k))
-  number-value v (p ∷ ps) h k =
+  -- a variable with a type has a value of it
+  type-value : (kind : Kind) (v : ℕ) (ps : List (Primitive Tm)) → list_all (holds_at us) ps ≡ true → has_type kind s ps v ≡ true → is_of kind (value_at us v) ≡ true
+  type-value kind v [] h k = absurd (true≢false (sym k))
+  type-value kind v (p ∷ ps) h k =
       let (first, rest) = and_parts (holds_at us p) (list_all (holds_at us) ps) h in
-      elim (or_cases (makes_number s v p) (is_number_variable s ps v) k) [
-        | inl here ↦ by p first here
-        | inr later ↦ number-value v ps rest later
+      elim (or_cases (gives_type kind s v p) (has_type kind s ps v) k) [
+        | inl here ↦ by kind p first here
+        | inr later ↦ type-value kind v ps rest later
       ]
     where
-      by : (p : Primitive Tm) → holds_at us p ≡ true → makes_number s v p ≡ true → is_number (value_at us v) ≡ true
-      by (Primitive.number a) holds makes = subst (λ u. is_number u ≡ true) (sym (value-apply a) ∙ ap (value us) (is_variable-true v (apply s a) makes)) holds
-      by _ holds makes = absurd (true≢false (sym makes))
+      at : (kind : Kind) (a : Tm) → is_of kind (value us a) ≡ true → is_variable v (apply s a) ≡ true → is_of kind (value_at us v) ≡ true
+      at kind a holds is = subst (λ u. is_of kind u ≡ true) (sym (value-apply a) ∙ ap (value us) (is_variable-true v (apply s a) is)) holds
 
-  symbol-no_number : (ps : List (Primitive Tm)) → list_all (holds_at us) ps ≡ true → (t : Tm) → is_symbol (value us t) ≡ true → is_no_number s ps t ≡ true
-  symbol-no_number ps h (Tree.leaf v) k = not_true (is_number_variable s ps v) (λ e. one_type (value_at us v) k (number-value v ps h e))
-  symbol-no_number ps h (Tree.sym x) k = refl
-  symbol-no_number ps h (Tree.num n) k = refl
-  symbol-no_number ps h (Tree.truth b) k = refl
-  symbol-no_number ps h Tree.nil k = refl
-  symbol-no_number ps h (Tree.pair a b) k = refl
+      by : (kind : Kind) (p : Primitive Tm) → holds_at us p ≡ true → gives_type kind s v p ≡ true → is_of kind (value_at us v) ≡ true
+      by Symbol (Primitive.symbol a) holds gives = at Symbol a holds gives
+      by Number (Primitive.number a) holds gives = at Number a holds gives
+      by Text (Primitive.text a) holds gives = at Text a holds gives
+      by Symbol _ holds gives = absurd (true≢false (sym gives))
+      by Number _ holds gives = absurd (true≢false (sym gives))
+      by Text _ holds gives = absurd (true≢false (sym gives))
+
+  type-lacks : (kind other : Kind) → (Some kind ≡ Some other → ⊥) → (ps : List (Primitive Tm)) → list_all (holds_at us) ps ≡ true →
+      (t : Tm) → is_of kind (value us t) ≡ true → lacks_type other s ps t ≡ true
+  type-lacks kind other apart ps h (Tree.leaf v) k =
+      not_true (has_type other s ps v) (λ e. apart (one_type kind other (value_at us v) k (type-value other v ps h e)))
+  type-lacks kind other apart ps h (Tree.sym x) k = refl
+  type-lacks kind other apart ps h (Tree.str x) k = refl
+  type-lacks kind other apart ps h (Tree.num n) k = refl
+  type-lacks kind other apart ps h (Tree.truth b) k = refl
+  type-lacks kind other apart ps h Tree.nil k = refl
+  type-lacks kind other apart ps h (Tree.pair a b) k = refl
 
   one-type_given : (ps : List (Primitive Tm)) → list_all (holds_at us) ps ≡ true → (p : Primitive Tm) → holds_at us p ≡ true → gives_one_type s ps p ≡ true
-  one-type_given ps h (Primitive.symbol a) k = symbol-no_number ps h (apply s a) (subst (λ u. is_symbol u ≡ true) (sym (value-apply a)) k)
+  one-type_given ps h (Primitive.symbol a) k =
+      and_from (lacks_type Number s ps (apply s a)) (lacks_type Text s ps (apply s a))
+      (type-lacks Symbol Number (λ e. cc) ps h (apply s a) (of-answer Symbol a k)) (type-lacks Symbol Text (λ e. cc) ps h (apply s a) (of-answer Symbol a k))
+  one-type_given ps h (Primitive.text a) k = type-lacks Text Number (λ e. cc) ps h (apply s a) (of-answer Text a k)
   one-type_given ps h (Primitive.same a b) k = refl
   one-type_given ps h (Primitive.differ a b) k = refl
   one-type_given ps h (Primitive.number a) k = refl

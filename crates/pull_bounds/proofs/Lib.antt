@@ -8,5 +8,7 @@ pub mod Longer
 pub mod NamedArguments
 pub mod FoundSolutions
 pub mod TakenSolutions
+pub mod MoreFuel
 mod NeverExamples
 mod ConjunctionExamples
+mod PauseExamples

@@ -26,6 +26,7 @@ module _ (us vs : List Gd) (begins : BeginsWith vs us) where
   pub value-longer : (t : Tm) → all_below (length us) t ≡ true → value vs t ≡ value us t
   value-longer (Tree.leaf v) h = ap (λ l. value_at l v) begins.1 ∙ value_at-append us begins.0 v (ltb-true v (length us) h)
   value-longer (Tree.sym s) h = refl
+  value-longer (Tree.str s) h = refl
   value-longer (Tree.num n) h = refl
   value-longer (Tree.truth b) h = refl
   value-longer Tree.nil h = refl
@@ -48,6 +49,7 @@ module _ (us vs : List Gd) (begins : BeginsWith vs us) where
       let (first, rest) = and_parts (all_below (length us) a) (all_below (length us) b) h in ap₂ (λ s t. holds (Primitive.differ s t)) (value-longer a first) (value-longer b rest)
   holds-longer (Primitive.symbol a) h = ap (λ t. holds (Primitive.symbol t)) (value-longer a h)
   holds-longer (Primitive.number a) h = ap (λ t. holds (Primitive.number t)) (value-longer a h)
+  holds-longer (Primitive.text a) h = ap (λ t. holds (Primitive.text t)) (value-longer a h)
   holds-longer (Primitive.absent tag a) h = ap (λ t. holds (Primitive.absent tag t)) (value-longer a h)
 
   pub all-hold_longer : (ps : List (Primitive Tm)) → list_all (sides_below (length us)) ps ≡ true → list_all (holds_at us) ps ≡ true → list_all (holds_at vs) ps ≡ true
@@ -62,6 +64,7 @@ module _ (n m : ℕ) (le : n ≤ m) where
   pub below-more : (t : Tm) → all_below n t ≡ true → all_below m t ≡ true
   below-more (Tree.leaf v) h = let lt = ltb-true v n h in lt-ltb v m (omega (arith, lt, le))
   below-more (Tree.sym s) h = refl
+  below-more (Tree.str s) h = refl
   below-more (Tree.num k) h = refl
   below-more (Tree.truth b) h = refl
   below-more Tree.nil h = refl
@@ -79,6 +82,7 @@ module _ (n m : ℕ) (le : n ≤ m) where
   sides-below_more (Primitive.differ a b) h = below-more (Tree.pair a b) h
   sides-below_more (Primitive.symbol a) h = below-more a h
   sides-below_more (Primitive.number a) h = below-more a h
+  sides-below_more (Primitive.text a) h = below-more a h
   sides-below_more (Primitive.absent tag a) h = below-more a h
 
   pub all-sides_more : (ps : List (Primitive Tm)) → list_all (sides_below n) ps ≡ true → list_all (sides_below m) ps ≡ true
@@ -97,6 +101,7 @@ module _ (us : List Gd) where
   pub value-instance : (env : List Tm) (t : Template) → value us (instance env t) ≡ value (map (value us) env) t
   value-instance env (Tree.leaf x) = value-slot env x
   value-instance env (Tree.sym s) = refl
+  value-instance env (Tree.str s) = refl
   value-instance env (Tree.num n) = refl
   value-instance env (Tree.truth b) = refl
   value-instance env Tree.nil = refl
@@ -111,6 +116,7 @@ module _ (us : List Gd) where
   holds-instance env (Primitive.differ a b) = ap₂ (λ s t. holds (Primitive.differ s t)) (value-instance env a) (value-instance env b)
   holds-instance env (Primitive.symbol a) = ap (λ t. holds (Primitive.symbol t)) (value-instance env a)
   holds-instance env (Primitive.number a) = ap (λ t. holds (Primitive.number t)) (value-instance env a)
+  holds-instance env (Primitive.text a) = ap (λ t. holds (Primitive.text t)) (value-instance env a)
   holds-instance env (Primitive.absent tag a) = ap (λ t. holds (Primitive.absent tag t)) (value-instance env a)
 
 module _ (n : ℕ) where
@@ -122,6 +128,7 @@ module _ (n : ℕ) where
   pub below-instance : (env : List Tm) → list_all (all_below n) env ≡ true → (t : Template) → all_below n (instance env t) ≡ true
   below-instance env h (Tree.leaf x) = below-slot env x h
   below-instance env h (Tree.sym s) = refl
+  below-instance env h (Tree.str s) = refl
   below-instance env h (Tree.num k) = refl
   below-instance env h (Tree.truth b) = refl
   below-instance env h Tree.nil = refl
@@ -137,6 +144,7 @@ module _ (n : ℕ) where
   sides-below_instance env h (Primitive.differ a b) = below-instance env h (Tree.pair a b)
   sides-below_instance env h (Primitive.symbol a) = below-instance env h a
   sides-below_instance env h (Primitive.number a) = below-instance env h a
+  sides-below_instance env h (Primitive.text a) = below-instance env h a
   sides-below_instance env h (Primitive.absent tag a) = below-instance env h a
 
 -- the first value behind a valuation

@@ -10,7 +10,7 @@ use Rattle.kan_terms.proofs.TreeLaws.{Decides-ground_eq}
 use Rattle.kan_model.specs.Programs.Goals.{Primitive}
 use Rattle.kan_model.specs.Stores.Store.{Store, with_prim, with_fresh}
 use Rattle.kan_model.specs.Programs.Scope.{all_below, sides_below, is_counted}
-use Rattle.kan_model.specs.Streams.Running.{Arguments, and_value, named_store, named}
+use Rattle.kan_model.specs.Streams.Running.{Arguments, and_value, named_store, name_pairs}
 use Rattle.kan_model.specs.Meaning.Holds.{holds_at, IsSolution, BeginsWith}
 use Rattle.pull_bounds.specs.Finding.{StandsAbove}
 use Rattle.pull_bounds.proofs.Longer.{BeginsWith-self, BeginsWith-trans, BeginsWith-length, value-longer, values-longer, all-hold_longer, below-more, all-below_more, all-sides_more, value_at-next}
@@ -101,7 +101,7 @@ module _ (st : Store) (us : List Gd) (a b : Tm) (counted : is_counted st ≡ tru
       }
 
 -- each argument has the value that it had
-pub are_named : (st : Store) (us : List Gd) (ts : List Tm) → StandsAbove st ts → IsSolution st us → AreNamed us (map (value us) ts) (named st ts)
+pub are_named : (st : Store) (us : List Gd) (ts : List Tm) → StandsAbove st ts → IsSolution st us → AreNamed us (map (value us) ts) (name_pairs st ts)
 are_named st us [] (counted, below) solves =
     record { counted = counted; below = refl; longer = us; solves = solves; begins = BeginsWith-self us; same = refl }
 are_named st us (t ∷ ts) (counted, below) solves = by t first (are_named st us ts (counted, rest) solves) (λ st' vs. are_named st' vs ts)
@@ -112,17 +112,18 @@ are_named st us (t ∷ ts) (counted, below) solves = by t first (are_named st us
     rest : list_all (all_below st.counter) ts ≡ true
     rest = (and_parts (all_below st.counter t) (list_all (all_below st.counter) ts) below).1
 
-    by : (t : Tm) → all_below st.counter t ≡ true → AreNamed us (map (value us) ts) (named st ts) →
-        ((st' : Store) (vs : List Gd) → StandsAbove st' ts → IsSolution st' vs → AreNamed vs (map (value vs) ts) (named st' ts)) →
-        AreNamed us (map (value us) (t ∷ ts)) (named st (t ∷ ts))
-    by (Tree.leaf v) h others again = kept_as_it_is st us (map (value us) ts) (Tree.leaf v) (named st ts) solves h others
-    by (Tree.sym s) h others again = kept_as_it_is st us (map (value us) ts) (Tree.sym s) (named st ts) solves h others
-    by (Tree.num n) h others again = kept_as_it_is st us (map (value us) ts) (Tree.num n) (named st ts) solves h others
-    by (Tree.truth b) h others again = kept_as_it_is st us (map (value us) ts) (Tree.truth b) (named st ts) solves h others
-    by Tree.nil h others again = kept_as_it_is st us (map (value us) ts) Tree.nil (named st ts) solves h others
+    by : (t : Tm) → all_below st.counter t ≡ true → AreNamed us (map (value us) ts) (name_pairs st ts) →
+        ((st' : Store) (vs : List Gd) → StandsAbove st' ts → IsSolution st' vs → AreNamed vs (map (value vs) ts) (name_pairs st' ts)) →
+        AreNamed us (map (value us) (t ∷ ts)) (name_pairs st (t ∷ ts))
+    by (Tree.leaf v) h others again = kept_as_it_is st us (map (value us) ts) (Tree.leaf v) (name_pairs st ts) solves h others
+    by (Tree.sym s) h others again = kept_as_it_is st us (map (value us) ts) (Tree.sym s) (name_pairs st ts) solves h others
+    by (Tree.str s) h others again = kept_as_it_is st us (map (value us) ts) (Tree.str s) (name_pairs st ts) solves h others
+    by (Tree.num n) h others again = kept_as_it_is st us (map (value us) ts) (Tree.num n) (name_pairs st ts) solves h others
+    by (Tree.truth b) h others again = kept_as_it_is st us (map (value us) ts) (Tree.truth b) (name_pairs st ts) solves h others
+    by Tree.nil h others again = kept_as_it_is st us (map (value us) ts) Tree.nil (name_pairs st ts) solves h others
     by (Tree.pair a b) h others again =
-        pair_named st us a b counted solves h (map (value us) ts) (named (named_store st (Tree.pair a b)) ts)
-        (subst (λ l. AreNamed vs l (named (named_store st (Tree.pair a b)) ts))
+        pair_named st us a b counted solves h (map (value us) ts) (name_pairs (named_store st (Tree.pair a b)) ts)
+        (subst (λ l. AreNamed vs l (name_pairs (named_store st (Tree.pair a b)) ts))
         (values-longer us vs (value us (Tree.pair a b) ∷ [], refl) ts (subst (λ n. list_all (all_below n) ts ≡ true) (sym solves.0) rest))
         (again (named_store st (Tree.pair a b)) vs
         (named_counted st us a b counted solves h, all-below_more st.counter (st.counter + 1) (above_one st us a b counted solves h) ts rest)

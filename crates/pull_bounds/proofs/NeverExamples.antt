@@ -7,45 +7,45 @@ use Rattle.kan_model.specs.Stores.Solve.{solve_by, rounds, steps}
 use Rattle.kan_model.specs.Streams.Running.{start}
 use Rattle.kan_model.specs.Streams.Pulls.{pulls_for}
 use Rattle.kan_model.specs.Meaning.Derivations.{Derivation, derives}
-use Rattle.pull_bounds.specs.Coming.{stores_within}
+use Rattle.kan_model.specs.Streams.Taking.{stores_within}
 
 -- a relation that only calls itself
-abbrev nevero : Relation
+abbrev pub nevero : Relation
 nevero = record { params = 0; body = Goal.call 0 [] }
 
-abbrev program : Program
+abbrev pub program : Program
 program = record { relations = nevero ∷ []; goals = nevero.body ∷ [] }
 
 -- what has an answer at once, and a goal behind one that never answers
-abbrev equals_a : Goal
+abbrev pub equals_a : Goal
 equals_a = Goal.prim (Primitive.same (Tree.leaf 0) (Tree.sym 0))
 
-abbrev behind_never : Goal → Goal
+abbrev pub behind_never : Goal → Goal
 behind_never g = Goal.either (Goal.call 0 []) g
 
-abbrev one : Goal
+abbrev pub one : Goal
 one = behind_never equals_a
 
-abbrev two : Goal
+abbrev pub two : Goal
 two = behind_never one
 
-abbrev three : Goal
+abbrev pub three : Goal
 three = behind_never two
 
-abbrev a : Gd
+abbrev pub a : Gd
 a = Tree.sym 0
 
-abbrev answer : Store
+abbrev pub answer : Store
 answer = with_prim (bare 1) (Primitive.same (Tree.leaf 0) (Tree.sym 0))
 
 -- the derivation goes right at each
-abbrev to_one : Derivation
+abbrev pub to_one : Derivation
 to_one = Derivation.right Derivation.holds
 
-abbrev to_two : Derivation
+abbrev pub to_two : Derivation
 to_two = Derivation.right to_one
 
-abbrev to_three : Derivation
+abbrev pub to_three : Derivation
 to_three = Derivation.right to_two
 
 pub derived : derives program three (a ∷ []) to_three ≡ true

@@ -8,7 +8,7 @@ use Rattle.kan_model.specs.Stores.Store.{Store, bare}
 use Rattle.kan_model.specs.Streams.Stream.{Stream}
 use Rattle.kan_model.specs.Streams.Running.{force, start}
 use Rattle.kan_model.specs.Streams.Pulls.{pulls_for}
-use Rattle.kan_model.specs.Streams.Taking.{Taken, Ending, nothing_more, with_answer, with_pull, give, take, taken}
+use Rattle.kan_model.specs.Streams.Taking.{Taken, Ending, nothing_more, with_answer, with_pull, give, take, take_query}
 use Rattle.kan_model.proofs.Meaning.DerivationLaws.{Derives-from_test}
 use Rattle.pull_bounds.specs.Coming.{ComesWithin}
 use Rattle.pull_bounds.specs.Finding.{IsSolvedAt, IsTaken, IsCutBefore, WhatComesIsTaken, NoneIsMissed, EndHasAll}
@@ -96,15 +96,15 @@ none_is_missed program q fuel u d h = by (what_comes_is_taken program (pulls_for
     solved : IsSolvedAt u found.store
     solved = (found.longer, found.solves, ap (λ us. value_at us 0) found.begins.1)
 
-    by : Contains (taken program fuel q).stores found.store ⊎ IsCutBefore (pulls_for program q.goal d) fuel (taken program fuel q).ending →
-        IsTaken u (taken program fuel q) ⊎ IsCutBefore (pulls_for program q.goal d) fuel (taken program fuel q).ending
+    by : Contains (take_query program fuel q).stores found.store ⊎ IsCutBefore (pulls_for program q.goal d) fuel (take_query program fuel q).ending →
+        IsTaken u (take_query program fuel q) ⊎ IsCutBefore (pulls_for program q.goal d) fuel (take_query program fuel q).ending
     by (inl (k, within, is)) = inl (k, found.store, within, is, solved)
     by (inr cut) = inr cut
 
 pub end_has_all : EndHasAll
 end_has_all program q fuel u ended (d, h) = by (none_is_missed program q fuel u d h)
   where
-    by : IsTaken u (taken program fuel q) ⊎ IsCutBefore (pulls_for program q.goal d) fuel (taken program fuel q).ending → IsTaken u (taken program fuel q)
+    by : IsTaken u (take_query program fuel q) ⊎ IsCutBefore (pulls_for program q.goal d) fuel (take_query program fuel q).ending → IsTaken u (take_query program fuel q)
     by (inl t) = t
     by (inr (inl e)) = cc
     by (inr (inr (e, less))) = cc

@@ -6,8 +6,8 @@ use Rattle.kan_model.specs.Programs.Goals.{Program}
 use Rattle.kan_model.specs.Stores.Store.{Store}
 use Rattle.kan_model.specs.Streams.Stream.{Stream, Thunk}
 use Rattle.kan_model.specs.Streams.Running.{force}
-use Rattle.kan_model.specs.Streams.Taking.{Taken, Ending, nothing_more, with_pull, give, take}
-use Rattle.pull_bounds.specs.Coming.{stores_within, ComesWithin}
+use Rattle.kan_model.specs.Streams.Taking.{Taken, Ending, nothing_more, with_pull, give, take, stores_within}
+use Rattle.pull_bounds.specs.Coming.{ComesWithin}
 
 -- heads that no limit stops are all given
 given_all : (others : Option ℕ → Taken) (hs : List Store) → (give others hs None).stores ≡ hs ++ (others None).stores
@@ -56,7 +56,3 @@ module _ (program : Program) where
   Comes-more b c s st le (Comes.head h) = Comes.head h
   Comes-more b zero s st le (Comes.pulled h) = absurd (omega arith)
   Comes-more b (suc c) s st le (Comes.pulled {b = d} {i = i} h) = Comes.pulled (Comes-more d c (force program i) st (omega arith) h)
-
-  -- what comes without heads in front comes with them
-  pub Comes-behind : (hs : List Store) (i : Thunk) (b : ℕ) (st : Store) → Comes program b (force program i) st → Comes program (suc b) (Stream.goes_on hs i) st
-  Comes-behind hs i b st h = Comes.pulled h

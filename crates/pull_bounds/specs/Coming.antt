@@ -1,17 +1,14 @@
 -- Which stores a stream gives within some pulls, and what appending, running and binding keep of that.
-use Rattle.std.specs.Prelude.{ℕ, ◌+◌, ◌*◌, ◌≤◌, List, length, None, Contains}
+use Rattle.std.specs.Prelude.{ℕ, ◌+◌, ◌*◌, ◌≤◌, List, length, Contains}
 use Rattle.kan_terms.specs.Tree.{Tm}
 use Rattle.kan_model.specs.Programs.Goals.{Goal, Program}
 use Rattle.kan_model.specs.Stores.Store.{Store}
 use Rattle.kan_model.specs.Streams.Stream.{Stream, append, bind_all}
 use Rattle.kan_model.specs.Streams.Running.{run}
-use Rattle.kan_model.specs.Streams.Taking.{take}
+use Rattle.kan_model.specs.Streams.Taking.{stores_within}
 use Rattle.kan_model.specs.Streams.Pulls.{answers_within, both_pulls, and_first}
 
--- the stores that a stream gives within some pulls, where no limit stops it
-abbrev pub stores_within : Program → ℕ → Stream → List Store
-stores_within program pulls s = (take program pulls s None).stores
-
+-- a store is among those that a stream gives within some pulls
 abbrev pub ComesWithin : Program → ℕ → Stream → Store → Type 0
 ComesWithin program pulls s st = Contains (stores_within program pulls s) st
 

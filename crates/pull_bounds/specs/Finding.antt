@@ -1,5 +1,5 @@
 -- Which solutions are found, and within how many pulls.
-use Rattle.std.specs.Prelude.{◌≡◌, ◌⊎◌, ℕ, ◌<◌, true, List, [], ◌∷◌, map, Option, Any, Contains}
+use Rattle.std.specs.Prelude.{◌≡◌, ◌⊎◌, ℕ, ◌<◌, ◌≤◌, true, List, [], ◌∷◌, ◌++◌, map, Option, Any, Contains}
 use Rattle.std.specs.List.{list_all}
 use Rattle.kan_terms.specs.Tree.{Tm, Gd}
 use Rattle.kan_terms.specs.Valuations.{value_at, value}
@@ -12,7 +12,7 @@ use Rattle.kan_model.specs.Programs.Scope.{all_below, is_counted}
 use Rattle.kan_model.specs.Meaning.Holds.{holds_at, IsSolution, BeginsWith}
 use Rattle.kan_model.specs.Meaning.Derivations.{Derivation, derives, IsRunSolution}
 use Rattle.kan_model.specs.Streams.Pulls.{pulls_for}
-use Rattle.kan_model.specs.Streams.Taking.{Ending, Taken, take, taken}
+use Rattle.kan_model.specs.Streams.Taking.{Ending, Taken, take, take_query}
 use Rattle.pull_bounds.specs.Coming.{ComesWithin}
 
 -- a store with a solution is kept
@@ -56,13 +56,19 @@ WhatComesIsTaken =
     (program : Program) (pulls fuel : ℕ) (s : Stream) (limit : Option ℕ) (st : Store) → ComesWithin program pulls s st →
     Contains (take program fuel s limit).stores st ⊎ IsCutBefore pulls fuel (take program fuel s limit).ending
 
+-- what is taken with some fuel comes first with more
+abbrev pub MoreFuelAddsBehind : Type 0
+MoreFuelAddsBehind =
+    (program : Program) (fuel greater : ℕ) (s : Stream) (limit : Option ℕ) → fuel ≤ greater →
+    (later : List Store) × ((take program greater s limit).stores ≡ (take program fuel s limit).stores ++ later)
+
 -- no solution is missed but for the limit, or for a fuel below its derivation's pulls
 abbrev pub NoneIsMissed : Type 0
 NoneIsMissed =
     (program : Program) (q : Query) (fuel : ℕ) (u : Gd) (d : Derivation) → derives program q.goal (u ∷ []) d ≡ true →
-    IsTaken u (taken program fuel q) ⊎ IsCutBefore (pulls_for program q.goal d) fuel (taken program fuel q).ending
+    IsTaken u (take_query program fuel q) ⊎ IsCutBefore (pulls_for program q.goal d) fuel (take_query program fuel q).ending
 
 -- a run that comes to its end has every solution
 abbrev pub EndHasAll : Type 0
 EndHasAll =
-    (program : Program) (q : Query) (fuel : ℕ) (u : Gd) → (taken program fuel q).ending ≡ Ending.end → IsRunSolution program q.goal u → IsTaken u (taken program fuel q)
+    (program : Program) (q : Query) (fuel : ℕ) (u : Gd) → (take_query program fuel q).ending ≡ Ending.end → IsRunSolution program q.goal u → IsTaken u (take_query program fuel q)

@@ -3,7 +3,7 @@
 #![tactic(auto)]
 
 ghost use Rattle.pull_bounds.specs.Coming.{LeftComes, RightComes, AnswersAreBounded, BoundComes, BothCome};
-ghost use Rattle.pull_bounds.specs.Finding.{SolvedIsKept, HoldingIsAdded, DerivationIsFound, WhatComesIsTaken, NoneIsMissed, EndHasAll};
+ghost use Rattle.pull_bounds.specs.Finding.{SolvedIsKept, HoldingIsAdded, DerivationIsFound, WhatComesIsTaken, MoreFuelAddsBehind, NoneIsMissed, EndHasAll};
 
 /// What the left one of two appended streams gives within some pulls comes within twice as many.
 #[tactic(auto, using(crate::proofs::Appended::left_comes))]
@@ -54,6 +54,12 @@ pub fn derivations_are_found()
 /// A store that comes of a stream is taken, unless the limit is met, or a fuel below its pulls is spent.
 pub fn what_comes_is_taken()
     ensures { WhatComesIsTaken }
+{}
+
+/// What is taken with some fuel comes first with more.
+#[tactic(auto, using(crate::proofs::MoreFuel::more_fuel_adds_behind))]
+pub fn more_fuel_adds_behind()
+    ensures { MoreFuelAddsBehind }
 {}
 
 /// A solution of a run is taken, unless the limit is met, or a fuel below the pulls of its derivation is spent.
