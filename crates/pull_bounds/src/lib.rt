@@ -1,9 +1,13 @@
-//! The bound on pulls: within how many pulls the answer of a derivation comes, so that no solution is missed. The laws of
-//! the definitions of streams alone; each function has its law for its contract, and does nothing.
+//! The bound on pulls: within how many pulls the answer of a derivation comes, so that no solution
+//! is missed. The laws are of the definitions alone. Each function has its law for its contract,
+//! and does nothing.
 #![tactic(auto)]
 
-ghost use Rattle.pull_bounds.specs.Coming.{LeftComes, RightComes, AnswersAreBounded, BoundComes, BothCome};
-ghost use Rattle.pull_bounds.specs.Finding.{SolvedIsKept, HoldingIsAdded, DerivationIsFound, WhatComesIsTaken, MoreFuelAddsBehind, NoneIsMissed, EndHasAll};
+ghost use Rattle.pull_bounds.specs.Coming.{AnswersAreBounded, BothCome, BoundComes};
+ghost use Rattle.pull_bounds.specs.Coming.{LeftComes, RightComes};
+ghost use Rattle.pull_bounds.specs.Finding.{DerivationIsFound, HoldingIsAdded, SolvedIsKept};
+ghost use Rattle.pull_bounds.specs.Finding.{EndHasAll, MoreFuelAddsBehind, NoneIsMissed};
+ghost use Rattle.pull_bounds.specs.Finding.{WhatComesIsTaken};
 
 /// What the left one of two appended streams gives within some pulls comes within twice as many.
 #[tactic(auto, using(crate::proofs::Appended::left_comes))]
@@ -51,7 +55,8 @@ pub fn derivations_are_found()
     ensures { DerivationIsFound }
 {}
 
-/// A store that comes of a stream is taken, unless the limit is met, or a fuel below its pulls is spent.
+/// A store that comes of a stream is taken, unless the limit is met, or a fuel below its pulls is
+/// spent.
 pub fn what_comes_is_taken()
     ensures { WhatComesIsTaken }
 {}
@@ -62,7 +67,8 @@ pub fn more_fuel_adds_behind()
     ensures { MoreFuelAddsBehind }
 {}
 
-/// A solution of a run is taken, unless the limit is met, or a fuel below the pulls of its derivation is spent.
+/// A solution of a run is taken, unless the limit is met, or a fuel below the pulls of its
+/// derivation is spent.
 #[tactic(auto, using(crate::proofs::TakenSolutions::none_is_missed))]
 pub fn no_solution_is_missed()
     ensures { NoneIsMissed }
