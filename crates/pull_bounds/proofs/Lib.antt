@@ -1,0 +1,14 @@
+mod Numbers
+pub mod Within
+pub mod Appended
+pub mod Counted
+pub mod Bound
+pub mod KeptStores
+pub mod Longer
+pub mod NamedArguments
+pub mod FoundSolutions
+pub mod TakenSolutions
+pub mod MoreFuel
+mod NeverExamples
+mod ConjunctionExamples
+mod PauseExamples

@@ -1,0 +1,5 @@
+use Rattle.pull_bounds.proofs.Bound.{bound_comes}
+use Rattle.pull_bounds.proofs.bound_goals_come.Goals as goal
+
+pub returns : goal.returns
+returns c = bound_comes
