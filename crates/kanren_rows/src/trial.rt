@@ -1,6 +1,6 @@
 //! Cases, tried: what the top call puts and answers, beside what it must.
 
-ghost use Rattle.std.specs.Prelude.{◌≤◌, IfOk};
+ghost use Rattle.std.specs.Prelude.{◌≡◌, ◌≤◌, ◌↔◌, IsTrue, IfOk};
 
 use crate::braces::expand;
 use crate::build::build;
@@ -113,6 +113,13 @@ fn turns(alloc: Global, lines: &[Line<'_>]) -> Result<Vec<String>, Fault> {
     Ok(turns)
 }
 
+// Whether all came that must, and nothing else.
+fn agrees(case: &Case, seen: &Seen) -> bool
+    ensures { IsTrue result ↔ ((seen.now.status ≡ case.now.status) × (seen.now.output.items ≡ case.now.output.items)) }
+{
+    seen.status == case.status && seen.output.as_slice() == case.output.as_slice()
+}
+
 // Tries a case once.
 fn try_turn<S: Source>(
     alloc: Global,
@@ -123,7 +130,7 @@ fn try_turn<S: Source>(
     let number = written.number;
     let case = build(alloc, folder, number, &written.lines, &turn)?;
     let seen = see(alloc, &case).map_err(|fault| Misfit { number, fault })?;
-    if seen.status == case.status && seen.output == case.output {
+    if agrees(&case, &seen) {
         Ok(Verdict::Passed)
     } else {
         Ok(Verdict::Differs(turn, case, seen))
