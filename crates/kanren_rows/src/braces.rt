@@ -81,7 +81,13 @@ fn byte_of(inner: &[u8]) -> Option<u8> {
 }
 
 // Adds what a part stands for that repeats nothing. `turn` is the number of the repetition around it.
-fn add_part(part: &Part, each: &str, turn: Option<u32>, to: &mut Vec<u8>) -> Result<(), Fault> {
+fn add_part(
+    alloc: Global,
+    part: &Part,
+    each: &str,
+    turn: Option<u32>,
+    to: &mut Vec<u8>,
+) -> Result<(), Fault> {
     let inner = match part {
         Part::Plain(bytes) => {
             to.extend_from_slice(bytes)?;
@@ -94,34 +100,21 @@ fn add_part(part: &Part, each: &str, turn: Option<u32>, to: &mut Vec<u8>) -> Res
     } else if inner == b"each".as_slice() {
         to.extend_from_slice(each.as_bytes())?;
     } else {
-        add_turn(inner, turn, to)?;
+        add_turn(alloc, inner, turn, to)?;
     }
     Ok(())
 }
 
 // Adds the number of a repetition.
-fn add_turn(inner: &[u8], turn: Option<u32>, to: &mut Vec<u8>) -> Result<(), Fault> {
+fn add_turn(alloc: Global, inner: &[u8], turn: Option<u32>, to: &mut Vec<u8>) -> Result<(), Fault> {
     let Some(turn) = turn else {
         return Err(Fault::Wrong("what stands in the braces is unknown"));
     };
     if inner != b"turn".as_slice() {
         return Err(Fault::Wrong("what stands in the inner braces is unknown"));
     }
-    add_number(turn, to)
-}
-
-// Adds a number in decimal.
-fn add_number(number: u32, to: &mut Vec<u8>) -> Result<(), Fault> {
-    let mut power = 1_000_000_000;
-    let mut begun = false;
-    for _ in 0..10 {
-        let digit = (number / power) % 10;
-        begun = begun || digit != 0 || power == 1;
-        if begun {
-            to.push(b'0' + digit as u8)?;
-        }
-        power = (power / 10).max(1);
-    }
+    let number = format!(in alloc; "{turn}")?;
+    to.extend_from_slice(number.as_bytes())?;
     Ok(())
 }
 
@@ -142,7 +135,7 @@ fn add_repeated(
     let parts = parts_of(alloc, piece.as_bytes())?;
     for turn in 0..count {
         for part in &parts {
-            add_part(part, each, Some(turn), to)?;
+            add_part(alloc, part, each, Some(turn), to)?;
         }
     }
     Ok(())
@@ -156,7 +149,7 @@ pub(crate) fn expand(alloc: Global, line: &str, each: &str) -> Result<Vec<u8>, F
             Part::Braced(inner) if let Some((count, piece)) = repeated(inner) => {
                 add_repeated(alloc, count, piece, each, &mut bytes)?;
             }
-            _ => add_part(part, each, None, &mut bytes)?,
+            _ => add_part(alloc, part, each, None, &mut bytes)?,
         }
     }
     Ok(bytes)

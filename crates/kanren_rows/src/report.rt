@@ -20,15 +20,40 @@ fn shown(bytes: &[u8]) -> &str {
     std::str::from_utf8(bytes).unwrap_or("(bytes that are no text)")
 }
 
-// Prints the first line in which two outputs differ.
-fn print_difference(rt: &impl Print, wanted: &str, seen: &str) -> io::Result<()> {
-    for (line, other) in wanted.lines().zip(seen.lines()) {
-        if line != other {
-            return println!(rt; "  put: {other}\n  must be: {line}");
+// How many lines two outputs begin alike with.
+fn lines_alike(wanted: &[u8], seen: &[u8]) -> u64 {
+    let mut lines = 0u64;
+    for (byte, other) in wanted.iter().zip(seen.iter()) {
+        if byte != other {
+            return lines;
+        }
+        if *byte == b'\n' {
+            lines = lines.saturating_add(1);
         }
     }
-    let (bytes, others) = (wanted.len(), seen.len());
-    println!(rt; "  put: {others} bytes\n  must be: {bytes}, which begin alike")
+    lines
+}
+
+// The line of a text behind so many others.
+fn line_behind(text: &str, lines: u64) -> &str {
+    let mut passed = 0u64;
+    for line in text.lines() {
+        if passed == lines {
+            return line;
+        }
+        passed = passed.saturating_add(1);
+    }
+    "(nothing)"
+}
+
+// Prints the first line in which two outputs differ.
+fn print_difference(rt: &impl Print, wanted: &[u8], seen: &[u8]) -> io::Result<()> {
+    let lines = lines_alike(wanted, seen);
+    let (line, other) = (
+        line_behind(shown(wanted), lines),
+        line_behind(shown(seen), lines),
+    );
+    println!(rt; "  put behind {lines} lines: {other}\n  must be: {line}")
 }
 
 // Prints how what came of a case differs from what must.
@@ -41,7 +66,7 @@ fn print_failure(rt: &impl Print, turn: &str, case: &Case, seen: &Seen) -> io::R
         println!(rt; "  status: {status:?}\n  must be: {wanted:?}")?;
     }
     if seen.output != case.output {
-        print_difference(rt, shown(&case.output), shown(&seen.output))?;
+        print_difference(rt, &case.output, &seen.output)?;
     }
     Ok(())
 }

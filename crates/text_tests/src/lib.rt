@@ -1,9 +1,6 @@
-//! Tests of what no clause says of texts: that places are read, and that worked texts have the data and the programs that
-//! they must.
+//! Tests of what no clause says of texts: that worked texts have the data and the programs that they must.
 #![tactic(auto)]
 
-#[cfg(test)]
-mod places;
 #[cfg(test)]
 mod printing;
 #[cfg(test)]
