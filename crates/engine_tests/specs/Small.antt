@@ -1,0 +1,12 @@
+-- The small program that the tests run.
+use Rattle.std.specs.Prelude.{[], ◌∷◌}
+use Rattle.kan_model.specs.Programs.Tables.{Tables, TermEntry, GoalEntry}
+
+-- a pair of two slots, and a relation without arguments that always holds
+unfoldable pub small_tables : Tables
+small_tables = record {
+  terms = TermEntry.slot 0 ∷ TermEntry.slot 1 ∷ TermEntry.pair 0 1 ∷ [];
+  arguments = 2 ∷ [];
+  goals = GoalEntry.succeed ∷ [];
+  relations = record { name = 0; params = 0; body = 0 } ∷ [];
+}

@@ -1,0 +1,137 @@
+//! Suspensions over a table: what was forced is kept, and deep ones are forced.
+
+ghost use Rattle.std.specs.Prelude.{◌≡◌, ◌≤◌, ◌^◌, IfOk};
+ghost use Rattle.kan_model.specs.Streams.Bounds.{top};
+ghost use Rattle.kan_model.specs.Programs.Closed as programs;
+ghost use Rattle.stream_core.specs.Standing.{Grows};
+ghost use Rattle.engine_tests.specs.Small.{small_tables};
+
+use crate::programs::small_program;
+use kan_model::{Env, PlainStore, Program, Store};
+use kan_terms::{ListOf, Memory};
+use std::alloc::Global;
+use std::process::Abort;
+use std::test::Fail;
+use stream_core::{Nodes, PlainNodes, Stream, Thunk, force};
+
+// The suspension of a call that holds.
+fn suspended_call<N: Nodes<St>, St: Store>(
+    alloc: Global,
+    program: &Program,
+    nodes: &mut N,
+) -> Result<N::Id, Memory>
+    requires goals { N.serves nodes.old ≡ programs.meaning program.now }
+    requires tables { programs.tables program.now ≡ small_tables }
+    ensures belongs { IfOk result (N.belongs nodes.new) }
+    ensures room { IfOk result (λ id. top (N.tree nodes.new id) ≤ 2 ^ 22) }
+    ensures same { N.serves nodes.new ≡ N.serves nodes.old }
+{
+    let store = St::empty(alloc)?;
+    let args = Env::of(program, Vec::new(alloc));
+    let id = nodes.suspend(Thunk::Call {
+        rel: 0,
+        args,
+        store,
+    })?;
+    Ok(id)
+}
+
+// What a suspension gives.
+fn forced<N: Nodes<St>, St: Store>(
+    alloc: Global,
+    program: &Program,
+    id: &N::Id,
+    nodes: &mut N,
+) -> Result<Stream<N::Id, St>, Memory>
+    requires goals { N.serves nodes.old ≡ programs.meaning program.now }
+    requires tables { programs.tables program.now ≡ small_tables }
+    requires belongs { N.belongs nodes.old id.now }
+    requires room { top (N.tree nodes.old id.now) ≤ 2 ^ 22 }
+    ensures older { Grows (N.belongs nodes.old) (N.tree nodes.old) (N.belongs nodes.new) (N.tree nodes.new) }
+{
+    let stream = force(alloc, program, id, nodes)?;
+    Ok(stream)
+}
+
+// Demands that a stream is one store and an end.
+fn expect_one<I, St>(rt: &impl Abort, stream: &Stream<I, St>) {
+    assert_eq!(rt; stream.heads.len(), 1);
+    assert!(rt; stream.tail.is_none());
+}
+
+// Demands that nothing is kept for a suspension before it is forced, and then what it gave.
+fn expect_kept<N: Nodes<St>, St: Store>(
+    rt: &(impl Abort + Alloc<A = Global>),
+    program: &Program,
+    nodes: &mut N,
+) -> Result<(), Fail>
+    requires goals { N.serves nodes.old ≡ programs.meaning program.now }
+    requires tables { programs.tables program.now ≡ small_tables }
+{
+    let alloc = rt.alloc();
+    let id = suspended_call(alloc, program, nodes)?;
+    let copy = nodes.again(&id)?;
+    assert!(rt; nodes.found(alloc, &id)?.is_none());
+    let stream = forced(alloc, program, &id, nodes)?;
+    expect_one(rt, &stream);
+    let found = nodes.found(alloc, &copy)?.ok_or("nothing is kept")?;
+    expect_one(rt, &found);
+    Ok(())
+}
+
+#[test]
+fn what_was_forced_is_kept(rt: HostRuntime) -> Result<(), Fail> {
+    let program = small_program(rt.alloc())?;
+    let mut nodes: PlainNodes<PlainStore> = PlainNodes::new(rt.alloc(), &program);
+    expect_kept(&rt, &program, &mut nodes)
+}
+
+// A suspension that waits for another one, with nothing behind it.
+fn around<N: Nodes<St>, St: Store>(
+    alloc: Global,
+    inner: N::Id,
+    nodes: &mut N,
+) -> Result<N::Id, Memory>
+    requires { N.belongs nodes.old inner }
+    ensures belongs { IfOk result (N.belongs nodes.new) }
+    ensures room { IfOk result (λ id. top (N.tree nodes.new id) ≡ top (N.tree nodes.old inner)) }
+    ensures same { N.serves nodes.new ≡ N.serves nodes.old }
+{
+    let id = nodes.suspend(Thunk::Swap {
+        heads: ListOf::new(alloc),
+        tail: None,
+        inner,
+    })?;
+    Ok(id)
+}
+
+// So many suspensions around one.
+fn nested<N: Nodes<St>, St: Store>(
+    alloc: Global,
+    inner: N::Id,
+    count: u32,
+    nodes: &mut N,
+) -> Result<N::Id, Memory>
+    requires { N.belongs nodes.old inner }
+    ensures belongs { IfOk result (N.belongs nodes.new) }
+    ensures room { IfOk result (λ id. top (N.tree nodes.new id) ≡ top (N.tree nodes.old inner)) }
+    ensures same { N.serves nodes.new ≡ N.serves nodes.old }
+{
+    let mut id = inner;
+    for _ in 0..count {
+        id = around(alloc, id, nodes)?;
+    }
+    Ok(id)
+}
+
+#[test]
+fn a_deep_suspension_is_forced(rt: HostRuntime) -> Result<(), Fail> {
+    let alloc = rt.alloc();
+    let program = small_program(alloc)?;
+    let mut nodes: PlainNodes<PlainStore> = PlainNodes::new(alloc, &program);
+    let inner = suspended_call(alloc, &program, &mut nodes)?;
+    let id = nested(alloc, inner, 100_000, &mut nodes)?;
+    let stream = forced(alloc, &program, &id, &mut nodes)?;
+    expect_one(&rt, &stream);
+    Ok(())
+}
