@@ -1,10 +1,10 @@
 //! The calls of stores, each made with ample memory.
 
 ghost use Rattle.std.specs.Prelude.{◌≡◌, true, IfOk};
-ghost use Rattle.kan_model.specs.Stores.Store.Store.{bare};
-ghost use Rattle.kan_model.specs.Stores.Store.Prims.{prim as primitive};
-ghost use Rattle.kan_model.specs.Programs.Closed.Scope.{sides_below};
-ghost use Rattle.kan_model.specs.Stores.Store.Calls.{is_equation};
+ghost use Rattle.kan_model.specs.Stores.Store.{bare};
+ghost use Rattle.kan_model.specs.Stores.Prims.{prim as primitive};
+ghost use Rattle.kan_model.specs.Programs.Scope.{sides_below};
+ghost use Rattle.kan_model.specs.Stores.Calls.{is_equation};
 
 use kan_model::{Prim, Store};
 use kan_plain::PlainStore;

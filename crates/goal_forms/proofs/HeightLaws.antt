@@ -16,7 +16,7 @@ use Rattle.kan_grammar.specs.Data.Printed.{pairs, pairs_within, atom_tree}
 use Rattle.kan_grammar.proofs.Data.Exactly.{reads_exactly}
 use Rattle.kan_grammar.specs.Texts.Sited.{Sited, with_sites, within_sites, atom_with_site, constant, is_proper}
 use Rattle.kan_grammar.specs.Texts.Language.{Word, head_word}
-use Rattle.kan_model.specs.Programs.Closed.Scope.{height}
+use Rattle.kan_model.specs.Programs.Scope.{height}
 use Rattle.kan_grammar.specs.Texts.Binders.{names_of, bound_names, binder}
 use Rattle.kan_grammar.specs.Texts.TermForms.{Use, bad_term, quote_form, term_form, cons_form, list_form, quasiquote_form, template_form, unquote_form}
 use Rattle.kan_grammar.specs.Texts.ProgramText.{slot_list}

@@ -2,13 +2,13 @@
 
 ghost use Rattle.goal_syntax.specs.Building.InContext.{list_goal, relation_at, relations_parsed, queries_parsed, names_parsed};
 ghost use Rattle.std.specs.Prelude.{◌≡◌, ◌&&◌, ◌<◌, ◌∷◌, ◌++◌, [], length, IfOk, OnOk};
-ghost use Rattle.kan_model.specs.Programs.Closed.Goals as model;
+ghost use Rattle.kan_model.specs.Programs.Goals as model;
 ghost use Rattle.kan_grammar.specs.Texts.TopForms.{head_name};
 ghost use Rattle.kan_grammar.specs.Texts.GoalForms.{goal_forms};
 ghost use Rattle.kan_grammar.specs.Texts.Resolved.{within};
-ghost use Rattle.kan_model.specs.Programs.Closed.Drafts.{tables};
-ghost use Rattle.kan_model.specs.Programs.Closed.Nodes.{relation_entry};
-ghost use Rattle.kan_model.specs.Programs.Closed.Tables.{with_relation};
+ghost use Rattle.kan_model.specs.Programs.Drafts.{tables};
+ghost use Rattle.kan_model.specs.Programs.Nodes.{relation_entry};
+ghost use Rattle.kan_model.specs.Programs.Tables.{with_relation};
 ghost use Rattle.goal_forms.specs.Contexts.{data_of, datum_at};
 ghost use Rattle.goal_syntax.specs.Building.CallsThere.{KeepsClosed, all_named, bodies_named, calls_named};
 ghost use Rattle.goal_syntax.specs.Building.FormsBuilt.{name_symbol, query_asked, AddsNames, AddsRelations, AddsForms};

@@ -4,9 +4,9 @@ ghost use Rattle.goal_syntax.specs.Building.InContext.{list_goal, goal_alone, ma
 ghost use Rattle.std.specs.Prelude.{List, ◌≡◌, ◌&&◌, ◌<◌, ◌≤◌, ◌+◌, ◌∷◌, ◌++◌, [], length, reverse, true, IfOk, OnOk};
 ghost use Rattle.kan_grammar.specs.Texts.GoalForms.{goal_forms};
 ghost use Rattle.kan_grammar.specs.Texts.Resolved.{Names, within};
-ghost use Rattle.kan_model.specs.Programs.Closed.Drafts.{tables};
+ghost use Rattle.kan_model.specs.Programs.Drafts.{tables};
 ghost use Rattle.goal_forms.specs.Contexts.{data_of, datum_at, binder_at};
-ghost use Rattle.kan_model.specs.Programs.Closed.Tables.{RelationEntry};
+ghost use Rattle.kan_model.specs.Programs.Tables.{RelationEntry};
 ghost use Rattle.goal_syntax.specs.Building.CallsThere.{are_there, calls_named};
 ghost use Rattle.goal_syntax.specs.Building.GoalsBuilt.{built, with_maybe};
 ghost use Rattle.goal_syntax.specs.Building.GrownTables.{HasGoal, Grows, HasRoom};

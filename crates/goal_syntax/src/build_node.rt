@@ -4,7 +4,7 @@ ghost use Rattle.goal_syntax.specs.Building.InContext.{goal_alone, KeepsLowIn};
 ghost use Rattle.std.specs.Prelude.{◌≡◌, IfOk, OnOk};
 ghost use Rattle.kan_grammar.specs.Texts.Binders.{tag as tag_of};
 ghost use Rattle.kan_grammar.specs.Texts.Resolved.{template_in};
-ghost use Rattle.kan_model.specs.Programs.Closed.Drafts.{tables};
+ghost use Rattle.kan_model.specs.Programs.Drafts.{tables};
 ghost use Rattle.goal_forms.specs.Contexts.{datum_at, term_at};
 ghost use Rattle.goal_syntax.specs.Building.GoalsBuilt.{StandsFor};
 ghost use Rattle.goal_syntax.specs.Building.GrownTables.{HasTemplate, Grows, HasRoom};

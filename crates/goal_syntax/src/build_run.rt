@@ -2,15 +2,15 @@
 
 ghost use Rattle.goal_syntax.specs.Building.InContext.{list_goal, goal_behind, run_goal, fresh_goal};
 ghost use Rattle.std.specs.Prelude.{true, ◌≤◌, ◌≡◌, ◌&&◌, ◌<◌, ◌^◌, ◌∷◌, [], List, length, IfOk, OnOk};
-ghost use Rattle.kan_model.specs.Programs.Closed.Goals as model;
+ghost use Rattle.kan_model.specs.Programs.Goals as model;
 ghost use Rattle.kan_grammar.specs.Texts.GoalForms.{goal_forms};
 ghost use Rattle.kan_grammar.specs.Texts.Resolved.{suspended_in, within};
-ghost use Rattle.kan_model.specs.Programs.Closed.Drafts.{tables, templates};
+ghost use Rattle.kan_model.specs.Programs.Drafts.{tables, templates};
 ghost use Rattle.goal_forms.specs.Contexts.{data_of};
 ghost use Rattle.goal_syntax.specs.Building.CallsThere.{KeepsClosed, are_there, calls_named};
 ghost use Rattle.std.specs.List.{list_all};
-ghost use Rattle.kan_model.specs.Programs.Closed.Scope.{is_low};
-ghost use Rattle.kan_model.specs.Programs.Closed.Tables.{RelationEntry};
+ghost use Rattle.kan_model.specs.Programs.Scope.{is_low};
+ghost use Rattle.kan_model.specs.Programs.Tables.{RelationEntry};
 ghost use Rattle.goal_syntax.specs.Building.GrownTables.{HasGoal, Grows, HasRoom};
 ghost use Rattle.goal_syntax.specs.Building.Equations.{is_equational, are_equational_entries, AddsEquational};
 ghost use Rattle.goal_syntax.specs.Building.FormsBuilt.{asked_equation};

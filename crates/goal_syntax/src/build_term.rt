@@ -4,11 +4,11 @@ ghost use Rattle.goal_syntax.specs.Building.InContext.{task_template, term_templ
 ghost use Rattle.std.specs.Prelude.{◌≡◌, ◌∷◌, ◌+◌, ◌<◌, ◌^◌, ◌≤◌, map, length, reverse, unwrap_or, true, IfOk, OnOk};
 ghost use Rattle.kan_grammar.specs.Texts.ProgramText.{slot_list};
 ghost use Rattle.kan_grammar.specs.Texts.Resolved.{template_in, slot_of};
-ghost use Rattle.kan_model.specs.Programs.Closed.Tables.{is_term_grown, template_at, template_of};
-ghost use Rattle.kan_model.specs.Programs.Closed.Nodes.{term_entry};
-ghost use Rattle.kan_model.specs.Programs.Closed.Drafts.{tables, templates};
+ghost use Rattle.kan_model.specs.Programs.Tables.{is_term_grown, template_at, template_of};
+ghost use Rattle.kan_model.specs.Programs.Nodes.{term_entry};
+ghost use Rattle.kan_model.specs.Programs.Drafts.{tables, templates};
 ghost use Rattle.std.specs.List.{list_all};
-ghost use Rattle.kan_model.specs.Programs.Closed.Scope.{is_low};
+ghost use Rattle.kan_model.specs.Programs.Scope.{is_low};
 ghost use Rattle.goal_forms.specs.Contexts.{data_of};
 ghost use Rattle.goal_syntax.specs.Building.TermHeights.{WorksLow, all_low};
 ghost use Rattle.goal_syntax.specs.Building.TermsLeft.{AddsTerms, HasTemplates, with_arguments, built, paired, finish, work_size, works_size};

@@ -2,8 +2,8 @@
 
 ghost use Rattle.std.specs.Prelude.{◌≡◌, ◌<◌, ◌^◌, length};
 ghost use Rattle.std.specs.List.{list_all};
-ghost use Rattle.kan_model.specs.Programs.Closed.Nodes.{term_entry, goal_entry};
-ghost use Rattle.kan_model.specs.Programs.Closed.Closed as programs;
+ghost use Rattle.kan_model.specs.Programs.Nodes.{term_entry, goal_entry};
+ghost use Rattle.kan_model.specs.Programs.Closed as programs;
 ghost use Rattle.goal_syntax.specs.Building.GrownTables.{HasRoom};
 ghost use Rattle.goal_syntax.specs.Compiling.SymbolNames as named;
 

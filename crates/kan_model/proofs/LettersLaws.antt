@@ -9,7 +9,7 @@ use Rattle.std.proofs.lemmas.List.Folds.{list_any-append}
 use Rattle.std.proofs.lemmas.Grind.{flat_map-append}
 use Rattle.kan_terms.specs.Tree.{occurs, term_eq}
 use Rattle.kan_terms.proofs.TreeLaws.{Decides-bool_eq, term_eq-true, eq-term_eq}
-use Rattle.kan_model.specs.Stores.Store.Solve.{Replacement, image, apply}
+use Rattle.kan_model.specs.Stores.Solve.{Replacement, image, apply}
 use Rattle.std.specs.Borrow.{Bor}
 use Rattle.kan_terms.specs.Tree.{Tree, Tm}
 use Rattle.kan_terms.specs.Terms.{tree}

@@ -33,11 +33,11 @@ impl Env {
     ghost use Rattle.std.specs.Prelude.{◌+◌, ◌≤◌, ◌^◌, [], ◌∷◌, ◌++◌, true, slice_get, OnOk};
     ghost use Rattle.std.specs.Option.{option_copied};
     ghost use Rattle.kan_terms.specs.Tree.{Tree};
-    ghost use Rattle.kan_model.specs.Streams.Stream.Running.{instance, variables};
+    ghost use Rattle.kan_model.specs.Streams.Running.{instance, variables};
     ghost use Rattle.kan_model.specs.Terms.Letters.{letter_of, spelling};
     ghost use Rattle.kan_model.specs.Terms.Flat.{letters_waiting};
-    ghost use Rattle.kan_model.specs.Programs.Closed.Closed as programs;
-    ghost use Rattle.kan_model.specs.Programs.Closed.Environments.{terms_of};
+    ghost use Rattle.kan_model.specs.Programs.Closed as programs;
+    ghost use Rattle.kan_model.specs.Programs.Environments.{terms_of};
 
     /// The environment of one slot, which stands for a variable.
     pub fn start(alloc: Global, var: u64) -> Result<Env, Memory>

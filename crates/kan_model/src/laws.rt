@@ -1,11 +1,11 @@
 //! Laws of the definitions. Each function has its law for its contract, and does nothing.
 
 ghost use Rattle.kan_model.specs.Meaning.Derivations.{SpelledOnce, TestIsFamily};
-ghost use Rattle.kan_model.specs.Answers.Answer.Decimals.{DecimalAsPrinted};
-ghost use Rattle.kan_model.specs.Answers.Answer.InForm.{AnswerInForm, FormIsSolved};
-ghost use Rattle.kan_model.specs.Streams.Stream.Stream.{AppendEmpty};
-ghost use Rattle.kan_model.specs.Stores.Store.Composition.{FreshIsKept, SolverGoesOn};
-ghost use Rattle.kan_model.specs.Stores.Store.Unifiers.{AnswerMostGeneral, AnswerUnifies, AppliedTwice, FactorsUnify, ReplacedIsGone};
+ghost use Rattle.kan_model.specs.Answers.Decimals.{DecimalAsPrinted};
+ghost use Rattle.kan_model.specs.Answers.InForm.{AnswerInForm, FormIsSolved};
+ghost use Rattle.kan_model.specs.Streams.Stream.{AppendEmpty};
+ghost use Rattle.kan_model.specs.Stores.Composition.{FreshIsKept, SolverGoesOn};
+ghost use Rattle.kan_model.specs.Stores.Unifiers.{AnswerMostGeneral, AnswerUnifies, AppliedTwice, FactorsUnify, ReplacedIsGone};
 
 /// What the solver answers is a unifier of its equations.
 #[tactic(auto, using(crate::proofs::Solving::UnifierLaws::answer_unifies))]

@@ -1,8 +1,8 @@
 //! Programs, which are complete drafts.
 
 ghost use Rattle.std.specs.Prelude.{IsTrue, []};
-ghost use Rattle.kan_model.specs.Programs.Closed.Tables.{are_closed};
-ghost use Rattle.kan_model.specs.Programs.Closed.Nodes.{tables_from};
+ghost use Rattle.kan_model.specs.Programs.Tables.{are_closed};
+ghost use Rattle.kan_model.specs.Programs.Nodes.{tables_from};
 
 use crate::draft::Draft;
 

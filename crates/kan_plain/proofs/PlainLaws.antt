@@ -7,25 +7,25 @@ use Rattle.kan_terms.specs.Tree.{Tree, Tm, term_eq}
 use Rattle.kan_terms.proofs.TreeLaws.{term_eq-true, eq-term_eq}
 use Rattle.std.proofs.lemmas.Bool.{eqb-true, eq-eqb}
 use Rattle.kan_terms.specs.declared.terms.TermPair.{TermPair}
-use Rattle.kan_model.specs.Programs.Closed.Goals.{Primitive}
-use Rattle.kan_model.specs.Stores.Store.Store.{Equation, equations}
-use Rattle.kan_model.specs.Stores.Store.Solve.{Replaced, Replacement, solve, apply, left_first}
-use Rattle.kan_model.specs.Programs.Closed.Scope.{all_below, sides_below}
+use Rattle.kan_model.specs.Programs.Goals.{Primitive}
+use Rattle.kan_model.specs.Stores.Store.{Equation, equations}
+use Rattle.kan_model.specs.Stores.Solve.{Replaced, Replacement, solve, apply, left_first}
+use Rattle.kan_model.specs.Programs.Scope.{all_below, sides_below}
 use Rattle.kan_model.proofs.Solving.SolveLaws.{solve_by-nothing}
 use Rattle.kan_model.proofs.Solving.ReplacedLaws.{applied_twice}
 use Rattle.kan_terms.specs.Terms.{tree}
 use Rattle.kan_terms.specs.declared.terms.Term.{Term}
 use Rattle.std.specs.Borrow.{Bor}
-use Rattle.kan_model.specs.Stores.Store.Prims.{prim as primitive}
+use Rattle.kan_model.specs.Stores.Prims.{prim as primitive}
 use Rattle.kan_model.specs.declared.prims.Asserted.{Asserted}
-use Rattle.kan_model.specs.Stores.Store.Kept.{is_kept, holds_with, holds_under, allows, gives_one_type, gives_type, has_type}
+use Rattle.kan_model.specs.Stores.Kept.{is_kept, holds_with, holds_under, allows, gives_one_type, gives_type, has_type}
 use Rattle.kan_model.specs.declared.prims.Kind.{Kind}
 use Rattle.kan_model.specs.declared.prims.Kind.TheVariants.{Symbol, Number, Text}
-use Rattle.kan_model.specs.Answers.Answer.Answer.{same_form, same_pair, has_absence}
-use Rattle.kan_model.specs.Stores.Store.Calls.{is_equation, is_answer, answer, kind_at, AreTags, AreDifferences, differences, IsFoundFor, WalksTo}
+use Rattle.kan_model.specs.Answers.Answer.{same_form, same_pair, has_absence}
+use Rattle.kan_model.specs.Stores.Calls.{is_equation, is_answer, answer, kind_at, AreTags, AreDifferences, differences, IsFoundFor, WalksTo}
 use Rattle.kan_plain.specs.Solving.{on_stack, IsImage}
 use Rattle.kan_model.proofs.Solving.FreshLaws.{equations-append}
-use Rattle.kan_model.specs.Stores.Store.Prims.{equation}
+use Rattle.kan_model.specs.Stores.Prims.{equation}
 use Rattle.kan_plain.proofs.SolvingSteps.{map-reverse}
 
 -- the equations of a list with one primitive more

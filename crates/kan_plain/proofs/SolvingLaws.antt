@@ -3,8 +3,8 @@ use Rattle.std.proofs.Common.{◌≡◌, ℕ, ◌+◌, ◌<◌, List, [], ◌∷
 use Rattle.std.specs.Prelude.{if◌then◌else◌}
 use Rattle.kan_terms.specs.Tree.{Tm}
 use Rattle.kan_terms.specs.Terms.{tree}
-use Rattle.kan_model.specs.Stores.Store.Solve.{Replacement, image, put_first}
-use Rattle.kan_model.specs.Stores.Store.Solve as spec
+use Rattle.kan_model.specs.Stores.Solve.{Replacement, image, put_first}
+use Rattle.kan_model.specs.Stores.Solve as spec
 use Rattle.std.proofs.lemmas.List.{map_push}
 use Rattle.kan_plain.specs.declared.solving.Replaced.{Replaced}
 use Rattle.kan_plain.specs.Solving.{replaced_by, put_all_first}

@@ -3,11 +3,11 @@ use Rattle.std.proofs.Common.{◌≡◌, ℕ, suc, Bool, ◌<◌, List, [], ◌�
 use Rattle.std.proofs.lemmas.List.{map_push, map-append, reverse-append}
 use Rattle.kan_terms.specs.Tree.{Tm}
 use Rattle.kan_terms.specs.declared.terms.TermPair.{TermPair}
-use Rattle.kan_model.specs.Stores.Store.Store.{Equation}
-use Rattle.kan_model.specs.Stores.Store.Solve.{Replacement, Work, Solves, work, put_first, replace_sides, solve, left_first}
+use Rattle.kan_model.specs.Stores.Store.{Equation}
+use Rattle.kan_model.specs.Stores.Solve.{Replacement, Work, Solves, work, put_first, replace_sides, solve, left_first}
 use Rattle.kan_plain.specs.Solving.{on_stack, put_all_first, StepTo}
-use Rattle.kan_model.specs.Stores.Store.Composition.{apply_sides}
-use Rattle.kan_model.specs.Stores.Store.Prims.{equation}
+use Rattle.kan_model.specs.Stores.Composition.{apply_sides}
+use Rattle.kan_model.specs.Stores.Prims.{equation}
 use Rattle.kan_model.proofs.Solving.SolveLaws.{solve_by-Solves, solve_by-identical, solve_by-parts, solve_by-substitute, solve_by-clash, solve_by-nothing}
 use Rattle.kan_plain.proofs.SolvingLaws.{finished-push}
 

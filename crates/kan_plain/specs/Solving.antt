@@ -5,9 +5,9 @@ use Rattle.kan_terms.specs.Tree.{Tree}
 use Rattle.kan_terms.specs.Terms.{tree}
 use Rattle.kan_terms.specs.declared.terms.Term.{Term}
 use Rattle.kan_terms.specs.declared.terms.TermPair.{TermPair}
-use Rattle.kan_model.specs.Stores.Store.Store.{Equation}
-use Rattle.kan_model.specs.Stores.Store.Prims.{equation}
-use Rattle.kan_model.specs.Stores.Store.Solve as spec
+use Rattle.kan_model.specs.Stores.Store.{Equation}
+use Rattle.kan_model.specs.Stores.Prims.{equation}
+use Rattle.kan_model.specs.Stores.Solve as spec
 use Rattle.kan_plain.specs.declared.solving.Replaced.{Replaced}
 use Rattle.kan_plain.specs.declared.solving.Work.{Work}
 use Rattle.kan_plain.specs.declared.solving.Work.TheVariants.{Identical, Parts, Substitute, Clash}

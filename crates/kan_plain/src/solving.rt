@@ -5,10 +5,10 @@ ghost use Rattle.std.specs.List.{flat_map};
 ghost use Rattle.kan_terms.specs.Terms.{tree};
 ghost use Rattle.kan_terms.specs.Tree.{Tree};
 ghost use Rattle.kan_model.specs.Terms.Letters.{spelling, splice};
-ghost use Rattle.kan_model.specs.Stores.Store.Solve as spec;
+ghost use Rattle.kan_model.specs.Stores.Solve as spec;
 ghost use Rattle.kan_plain.specs.Solving.{replaced_by, IsImage, work_of, put_all_first, on_stack, StepTo};
-ghost use Rattle.kan_model.specs.Stores.Store.Composition.{apply_sides};
-ghost use Rattle.kan_model.specs.Stores.Store.Prims.{equation};
+ghost use Rattle.kan_model.specs.Stores.Composition.{apply_sides};
+ghost use Rattle.kan_model.specs.Stores.Prims.{equation};
 
 use kan_model::{Letter, build, occurs_in, same_terms, spell};
 use kan_terms::{Memory, PairParts, Term, TermPair};

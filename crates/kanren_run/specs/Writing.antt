@@ -5,16 +5,16 @@ use Rattle.std.specs.Io.KnownBytes.{Appends}
 use Rattle.kan_base.specs.Faults.{one_more}
 use Rattle.kan_base.specs.Views.{SinkView}
 use Rattle.kan_base.specs.Writes.{PutsFront}
-use Rattle.kan_model.specs.Stores.Store.Store.{Store}
-use Rattle.kan_model.specs.Streams.Stream.Taking.{Taken}
-use Rattle.kan_model.specs.Programs.Closed.Scope.{is_small}
-use Rattle.kan_model.specs.Programs.Closed.Tables.{nothing_open}
-use Rattle.kan_model.specs.Programs.Closed.Nodes.{goal_place}
-use Rattle.kan_model.specs.Programs.Closed.Closed as programs
+use Rattle.kan_model.specs.Stores.Store.{Store}
+use Rattle.kan_model.specs.Streams.Taking.{Taken}
+use Rattle.kan_model.specs.Programs.Scope.{is_small}
+use Rattle.kan_model.specs.Programs.Tables.{nothing_open}
+use Rattle.kan_model.specs.Programs.Nodes.{goal_place}
+use Rattle.kan_model.specs.Programs.Closed as programs
 use Rattle.kan_model.specs.declared.program.Program.{Program}
 use Rattle.kan_model.specs.declared.nodes.Query.{Query}
-use Rattle.kan_model.specs.Answers.Answer.Text.{Table}
-use Rattle.kan_model.specs.Answers.Answer.Output.{answer_line, summary_line}
+use Rattle.kan_model.specs.Answers.Text.{Table}
+use Rattle.kan_model.specs.Answers.Output.{answer_line, summary_line}
 use Rattle.stream_core.specs.Tasks.{is_built}
 use Rattle.goal_syntax.specs.Building.Equations.{is_equational_body, is_equational_query}
 use Rattle.kan_search.specs.Batches.{ending_of, query_of}

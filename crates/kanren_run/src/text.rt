@@ -2,8 +2,8 @@
 
 ghost use Rattle.std.specs.Prelude.{◌≡◌, ◌+◌, ◌<◌, ◌≤◌, ◌^◌, [], length, map, List, ℕ};
 ghost use Rattle.kan_grammar.specs.Data.Faults.{read_text, data_are};
-ghost use Rattle.kan_model.specs.Programs.Closed.Nodes.{goal_entry};
-ghost use Rattle.kan_model.specs.Programs.Closed.Closed as programs;
+ghost use Rattle.kan_model.specs.Programs.Nodes.{goal_entry};
+ghost use Rattle.kan_model.specs.Programs.Closed as programs;
 ghost use Rattle.sexpr.specs.Seen.{written, as_kept};
 ghost use Rattle.goal_syntax.specs.Compiling.Compiles.{AreOfText, Compiles};
 ghost use Rattle.goal_syntax.specs.Building.Equations.{is_equational_entry, are_equational_entries};

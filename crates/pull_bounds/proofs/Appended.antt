@@ -1,10 +1,10 @@
 -- What comes of two streams that are appended.
 use Rattle.std.proofs.Common.{ℕ, suc, ◌+◌, ◌*◌, List, arith}
 use Rattle.std.proofs.lemmas.List.Elements.{Contains-append_left, Contains-append_right}
-use Rattle.kan_model.specs.Programs.Closed.Goals.{Program}
-use Rattle.kan_model.specs.Stores.Store.Store.{Store}
-use Rattle.kan_model.specs.Streams.Stream.Stream.{Stream, append}
-use Rattle.kan_model.specs.Streams.Stream.Running.{force}
+use Rattle.kan_model.specs.Programs.Goals.{Program}
+use Rattle.kan_model.specs.Stores.Store.{Store}
+use Rattle.kan_model.specs.Streams.Stream.{Stream, append}
+use Rattle.kan_model.specs.Streams.Running.{force}
 use Rattle.pull_bounds.specs.Coming.{LeftComes, RightComes}
 use Rattle.pull_bounds.proofs.Within.{Comes, Comes-within, within-Comes, Comes-more}
 

@@ -3,12 +3,12 @@ use Rattle.std.proofs.Common.{◌≡◌, ◌⊎◌, ℕ, zero, suc, ◌+◌, ◌
 use Rattle.std.proofs.Math.Nat.{mul-le-mul, le_trans, le_refl}
 use Rattle.std.proofs.Math.Pow.{pow_mono}
 use Rattle.kan_terms.specs.Tree.{Tm}
-use Rattle.kan_model.specs.Programs.Closed.Goals.{Goal, Program}
-use Rattle.kan_model.specs.Stores.Store.Store.{Store}
-use Rattle.kan_model.specs.Streams.Stream.Stream.{Stream, Thunk, empty, append, append_each, bind_all}
-use Rattle.kan_model.specs.Streams.Stream.Running.{run, force}
-use Rattle.kan_model.specs.Streams.Stream.Pulls.{both_pulls, answers_within}
-use Rattle.kan_model.specs.Streams.Stream.Taking.{stores_within}
+use Rattle.kan_model.specs.Programs.Goals.{Goal, Program}
+use Rattle.kan_model.specs.Stores.Store.{Store}
+use Rattle.kan_model.specs.Streams.Stream.{Stream, Thunk, empty, append, append_each, bind_all}
+use Rattle.kan_model.specs.Streams.Running.{run, force}
+use Rattle.kan_model.specs.Streams.Pulls.{both_pulls, answers_within}
+use Rattle.kan_model.specs.Streams.Taking.{stores_within}
 use Rattle.pull_bounds.specs.Coming.{ComesWithin, BoundComes, BothCome}
 use Rattle.pull_bounds.proofs.Numbers.{pow-suc_times, pow_times_more, heads_fit, later_fits}
 use Rattle.pull_bounds.proofs.Within.{Comes, Comes-within, within-Comes, Comes-more}

@@ -1,12 +1,12 @@
 -- A worked example of the bound: a conjunction whose first goal has answers at 0, 1 and 2 pulls.
 use Rattle.std.proofs.Common.{◌≡◌, ℕ, true, [], ◌∷◌, length, refl}
 use Rattle.kan_terms.specs.Tree.{Tree}
-use Rattle.kan_model.specs.Programs.Closed.Goals.{Primitive, Goal, Relation, Program}
-use Rattle.kan_model.specs.Stores.Store.Solve.{solve_by, rounds, steps}
-use Rattle.kan_model.specs.Streams.Stream.Running.{start}
-use Rattle.kan_model.specs.Streams.Stream.Pulls.{answers_within, pulls_for}
+use Rattle.kan_model.specs.Programs.Goals.{Primitive, Goal, Relation, Program}
+use Rattle.kan_model.specs.Stores.Solve.{solve_by, rounds, steps}
+use Rattle.kan_model.specs.Streams.Running.{start}
+use Rattle.kan_model.specs.Streams.Pulls.{answers_within, pulls_for}
 use Rattle.kan_model.specs.Meaning.Derivations.{Derivation, derives}
-use Rattle.kan_model.specs.Streams.Stream.Taking.{stores_within}
+use Rattle.kan_model.specs.Streams.Taking.{stores_within}
 
 abbrev pub is : ℕ → Goal
 is s = Goal.prim (Primitive.same (Tree.leaf 0) (Tree.sym s))

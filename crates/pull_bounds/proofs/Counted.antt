@@ -3,13 +3,13 @@ use Rattle.std.proofs.Common.{◌≡◌, ℕ, zero, suc, ◌+◌, ◌*◌, ◌�
 use Rattle.std.proofs.lemmas.List.{length-append}
 use Rattle.std.proofs.Math.Nat.{suc-mul, add-mul, mul-le-mul, le_trans, le_refl}
 use Rattle.kan_terms.specs.Tree.{Tm}
-use Rattle.kan_model.specs.Programs.Closed.Goals.{Goal, Program, Relation, on_sides}
-use Rattle.kan_model.specs.Stores.Store.Store.{Store, with_prim, with_fresh}
-use Rattle.kan_model.specs.Streams.Stream.Stream.{Stream, Thunk, empty, one, append, append_each, bind_all}
-use Rattle.kan_model.specs.Streams.Stream.Running.{run, enter, force, instance, instances, name_pairs, variables}
-use Rattle.kan_model.specs.Stores.Store.Kept.{is_kept}
-use Rattle.kan_model.specs.Streams.Stream.Pulls.{answers_by, answers_behind}
-use Rattle.kan_model.specs.Streams.Stream.Taking.{stores_within}
+use Rattle.kan_model.specs.Programs.Goals.{Goal, Program, Relation, on_sides}
+use Rattle.kan_model.specs.Stores.Store.{Store, with_prim, with_fresh}
+use Rattle.kan_model.specs.Streams.Stream.{Stream, Thunk, empty, one, append, append_each, bind_all}
+use Rattle.kan_model.specs.Streams.Running.{run, enter, force, instance, instances, name_pairs, variables}
+use Rattle.kan_model.specs.Stores.Kept.{is_kept}
+use Rattle.kan_model.specs.Streams.Pulls.{answers_by, answers_behind}
+use Rattle.kan_model.specs.Streams.Taking.{stores_within}
 use Rattle.pull_bounds.specs.Coming.{AnswersAreBounded}
 use Rattle.pull_bounds.proofs.Within.{within_ends, within_none, within_pull}
 

@@ -6,14 +6,14 @@ use Rattle.std.proofs.lemmas.List.{map-append}
 use Rattle.std.proofs.lemmas.List.Folds.{list_all-append}
 use Rattle.kan_terms.specs.Tree.{Tm, Gd}
 use Rattle.kan_terms.specs.Valuations.{value}
-use Rattle.kan_model.specs.Programs.Closed.Goals.{Primitive, Goal, Template, Relation, Program, on_sides}
-use Rattle.kan_model.specs.Stores.Store.Store.{Store, with_prim, with_fresh}
-use Rattle.kan_model.specs.Streams.Stream.Stream.{Stream, Thunk, one, append}
-use Rattle.kan_model.specs.Streams.Stream.Running.{run, force, enter, instance, instances, name_pairs, variables}
-use Rattle.kan_model.specs.Programs.Closed.Scope.{all_below, is_counted}
+use Rattle.kan_model.specs.Programs.Goals.{Primitive, Goal, Template, Relation, Program, on_sides}
+use Rattle.kan_model.specs.Stores.Store.{Store, with_prim, with_fresh}
+use Rattle.kan_model.specs.Streams.Stream.{Stream, Thunk, one, append}
+use Rattle.kan_model.specs.Streams.Running.{run, force, enter, instance, instances, name_pairs, variables}
+use Rattle.kan_model.specs.Programs.Scope.{all_below, is_counted}
 use Rattle.kan_model.specs.Meaning.Holds.{holds_at, IsSolution, BeginsWith}
 use Rattle.kan_model.specs.Meaning.Derivations.{Derivation, Derives, values}
-use Rattle.kan_model.specs.Streams.Stream.Pulls.{pulls_for, and_first}
+use Rattle.kan_model.specs.Streams.Pulls.{pulls_for, and_first}
 use Rattle.kan_model.proofs.Meaning.DerivationLaws.{Derives-from_test}
 use Rattle.pull_bounds.specs.Coming.{ComesWithin}
 use Rattle.pull_bounds.specs.Finding.{StandsAbove, DerivationIsFound}

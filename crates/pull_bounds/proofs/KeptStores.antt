@@ -6,15 +6,15 @@ use Rattle.std.proofs.lemmas.List.Folds.{list_all-append}
 use Rattle.kan_terms.specs.Tree.{Tree, Tm, Gd, has_symbol, term_eq, ground_eq}
 use Rattle.kan_terms.specs.Valuations.{value_at, value}
 use Rattle.kan_terms.proofs.TreeLaws.{term_eq-true, Decides-ground_eq, fill-has_symbol}
-use Rattle.kan_model.specs.Programs.Closed.Goals.{Primitive}
-use Rattle.kan_model.specs.Stores.Store.Store.{Store, equations, with_prim}
-use Rattle.kan_model.specs.Stores.Store.Solve.{Replacement, apply, left_first}
-use Rattle.kan_model.specs.Stores.Store.Unifiers.{Unifies, Factors}
-use Rattle.kan_model.specs.Stores.Store.Kept.{may_be, allows, is_variable, gives_type, has_type, lacks_type, gives_one_type, holds_under, holds_with, is_kept}
+use Rattle.kan_model.specs.Programs.Goals.{Primitive}
+use Rattle.kan_model.specs.Stores.Store.{Store, equations, with_prim}
+use Rattle.kan_model.specs.Stores.Solve.{Replacement, apply, left_first}
+use Rattle.kan_model.specs.Stores.Unifiers.{Unifies, Factors}
+use Rattle.kan_model.specs.Stores.Kept.{may_be, allows, is_variable, gives_type, has_type, lacks_type, gives_one_type, holds_under, holds_with, is_kept}
 use Rattle.kan_model.specs.declared.prims.Kind.{Kind}
 use Rattle.kan_model.specs.declared.prims.Kind.TheVariants.{Symbol, Number, Text}
 use Rattle.kan_model.specs.Meaning.Holds.{is_symbol, is_number, is_string, holds_at}
-use Rattle.kan_model.specs.Streams.Stream.Stream.{one, empty}
+use Rattle.kan_model.specs.Streams.Stream.{one, empty}
 use Rattle.kan_model.proofs.Solving.UnifierLaws.{fill-apply, answer_most_general}
 use Rattle.pull_bounds.specs.Finding.{SolvedIsKept, HoldingIsAdded}
 

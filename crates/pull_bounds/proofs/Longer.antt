@@ -6,9 +6,9 @@ use Rattle.std.proofs.lemmas.List.{length-append, append-nil}
 use Rattle.kan_terms.specs.Tree.{Tree, Tm, Gd}
 use Rattle.kan_terms.specs.Valuations.{value_at, value}
 use Rattle.kan_terms.proofs.ValuationLaws.{value_at-append}
-use Rattle.kan_model.specs.Programs.Closed.Goals.{Primitive, Template, on_sides}
-use Rattle.kan_model.specs.Programs.Closed.Scope.{all_below, sides_below}
-use Rattle.kan_model.specs.Streams.Stream.Running.{slot, instance, instances, variables}
+use Rattle.kan_model.specs.Programs.Goals.{Primitive, Template, on_sides}
+use Rattle.kan_model.specs.Programs.Scope.{all_below, sides_below}
+use Rattle.kan_model.specs.Streams.Running.{slot, instance, instances, variables}
 use Rattle.kan_model.specs.Meaning.Holds.{holds, holds_at, BeginsWith}
 use Rattle.kan_model.specs.Meaning.Derivations.{values}
 

@@ -1,10 +1,10 @@
 -- With more fuel the same stores are taken first.
 use Rattle.std.proofs.Common.{◌≡◌, ℕ, zero, suc, ◌≤◌, List, [], ◌∷◌, ◌++◌, Option, Some, None, refl, ap, arith}
-use Rattle.kan_model.specs.Programs.Closed.Goals.{Program}
-use Rattle.kan_model.specs.Stores.Store.Store.{Store}
-use Rattle.kan_model.specs.Streams.Stream.Stream.{Stream}
-use Rattle.kan_model.specs.Streams.Stream.Running.{force}
-use Rattle.kan_model.specs.Streams.Stream.Taking.{Taken, Ending, nothing_more, with_pull, give, take}
+use Rattle.kan_model.specs.Programs.Goals.{Program}
+use Rattle.kan_model.specs.Stores.Store.{Store}
+use Rattle.kan_model.specs.Streams.Stream.{Stream}
+use Rattle.kan_model.specs.Streams.Running.{force}
+use Rattle.kan_model.specs.Streams.Taking.{Taken, Ending, nothing_more, with_pull, give, take}
 use Rattle.pull_bounds.specs.Finding.{MoreFuelAddsBehind}
 
 -- the stores of the second begin with those of the first

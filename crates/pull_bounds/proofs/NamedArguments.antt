@@ -7,10 +7,10 @@ use Rattle.std.proofs.lemmas.List.Folds.{list_all-append}
 use Rattle.kan_terms.specs.Tree.{Tree, Tm, Gd}
 use Rattle.kan_terms.specs.Valuations.{value_at, value}
 use Rattle.kan_terms.proofs.TreeLaws.{Decides-ground_eq}
-use Rattle.kan_model.specs.Programs.Closed.Goals.{Primitive}
-use Rattle.kan_model.specs.Stores.Store.Store.{Store, with_prim, with_fresh}
-use Rattle.kan_model.specs.Programs.Closed.Scope.{all_below, sides_below, is_counted}
-use Rattle.kan_model.specs.Streams.Stream.Running.{Arguments, and_value, named_store, name_pairs}
+use Rattle.kan_model.specs.Programs.Goals.{Primitive}
+use Rattle.kan_model.specs.Stores.Store.{Store, with_prim, with_fresh}
+use Rattle.kan_model.specs.Programs.Scope.{all_below, sides_below, is_counted}
+use Rattle.kan_model.specs.Streams.Running.{Arguments, and_value, named_store, name_pairs}
 use Rattle.kan_model.specs.Meaning.Holds.{holds_at, IsSolution, BeginsWith}
 use Rattle.pull_bounds.specs.Finding.{StandsAbove}
 use Rattle.pull_bounds.proofs.Longer.{BeginsWith-self, BeginsWith-trans, BeginsWith-length, value-longer, values-longer, all-hold_longer, below-more, all-below_more, all-sides_more, value_at-next}

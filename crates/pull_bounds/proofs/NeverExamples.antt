@@ -1,13 +1,13 @@
 -- Worked examples of the bound: an answer behind one, two and three goals that never answer.
 use Rattle.std.proofs.Common.{◌≡◌, true, [], ◌∷◌, refl}
 use Rattle.kan_terms.specs.Tree.{Tree, Gd}
-use Rattle.kan_model.specs.Programs.Closed.Goals.{Primitive, Goal, Relation, Program}
-use Rattle.kan_model.specs.Stores.Store.Store.{Store, bare, with_prim}
-use Rattle.kan_model.specs.Stores.Store.Solve.{solve_by, rounds, steps}
-use Rattle.kan_model.specs.Streams.Stream.Running.{start}
-use Rattle.kan_model.specs.Streams.Stream.Pulls.{pulls_for}
+use Rattle.kan_model.specs.Programs.Goals.{Primitive, Goal, Relation, Program}
+use Rattle.kan_model.specs.Stores.Store.{Store, bare, with_prim}
+use Rattle.kan_model.specs.Stores.Solve.{solve_by, rounds, steps}
+use Rattle.kan_model.specs.Streams.Running.{start}
+use Rattle.kan_model.specs.Streams.Pulls.{pulls_for}
 use Rattle.kan_model.specs.Meaning.Derivations.{Derivation, derives}
-use Rattle.kan_model.specs.Streams.Stream.Taking.{stores_within}
+use Rattle.kan_model.specs.Streams.Taking.{stores_within}
 
 -- a relation that only calls itself
 abbrev pub nevero : Relation

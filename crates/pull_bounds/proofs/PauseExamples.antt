@@ -1,12 +1,12 @@
 -- Worked examples of the bound where goals pause: the same goals behind a pause, whose bounds are one more.
 use Rattle.std.proofs.Common.{◌≡◌, true, [], ◌∷◌, length, refl}
 use Rattle.kan_terms.specs.Tree.{Tree}
-use Rattle.kan_model.specs.Programs.Closed.Goals.{Goal}
-use Rattle.kan_model.specs.Stores.Store.Solve.{solve_by, rounds, steps}
-use Rattle.kan_model.specs.Streams.Stream.Running.{start}
-use Rattle.kan_model.specs.Streams.Stream.Pulls.{answers_within, pulls_for}
+use Rattle.kan_model.specs.Programs.Goals.{Goal}
+use Rattle.kan_model.specs.Stores.Solve.{solve_by, rounds, steps}
+use Rattle.kan_model.specs.Streams.Running.{start}
+use Rattle.kan_model.specs.Streams.Pulls.{answers_within, pulls_for}
 use Rattle.kan_model.specs.Meaning.Derivations.{Derivation, derives}
-use Rattle.kan_model.specs.Streams.Stream.Taking.{stores_within}
+use Rattle.kan_model.specs.Streams.Taking.{stores_within}
 use Rattle.pull_bounds.proofs.NeverExamples.{program, one, two, three, a, answer, to_one, to_two, to_three}
 use Rattle.pull_bounds.proofs.ConjunctionExamples.{is}
 

@@ -3,12 +3,12 @@ use Rattle.std.proofs.Common.{◌≡◌, ◌⊎◌, ℕ, zero, suc, ◌<◌, Lis
 use Rattle.std.proofs.lemmas.Bool.{cases_lt}
 use Rattle.kan_terms.specs.Tree.{Tree}
 use Rattle.kan_terms.specs.Valuations.{value_at}
-use Rattle.kan_model.specs.Programs.Closed.Goals.{Program}
-use Rattle.kan_model.specs.Stores.Store.Store.{Store, bare}
-use Rattle.kan_model.specs.Streams.Stream.Stream.{Stream}
-use Rattle.kan_model.specs.Streams.Stream.Running.{force, start}
-use Rattle.kan_model.specs.Streams.Stream.Pulls.{pulls_for}
-use Rattle.kan_model.specs.Streams.Stream.Taking.{Taken, Ending, nothing_more, with_answer, with_pull, give, take, take_query}
+use Rattle.kan_model.specs.Programs.Goals.{Program}
+use Rattle.kan_model.specs.Stores.Store.{Store, bare}
+use Rattle.kan_model.specs.Streams.Stream.{Stream}
+use Rattle.kan_model.specs.Streams.Running.{force, start}
+use Rattle.kan_model.specs.Streams.Pulls.{pulls_for}
+use Rattle.kan_model.specs.Streams.Taking.{Taken, Ending, nothing_more, with_answer, with_pull, give, take, take_query}
 use Rattle.kan_model.proofs.Meaning.DerivationLaws.{Derives-from_test}
 use Rattle.pull_bounds.specs.Coming.{ComesWithin}
 use Rattle.pull_bounds.specs.Finding.{IsSolvedAt, IsTaken, IsCutBefore, WhatComesIsTaken, NoneIsMissed, EndHasAll}

@@ -2,11 +2,11 @@
 use Rattle.std.proofs.Common.{◌≡◌, ℕ, zero, suc, ◌≤◌, List, [], ◌∷◌, ◌++◌, Option, None, Contains, inl, inr, refl, sym, ap, subst, ◌∙◌, arith}
 use Rattle.std.proofs.lemmas.List.{append-nil}
 use Rattle.std.proofs.lemmas.List.Elements.{Contains-append_left, Contains-append_right, Contains-append_cases}
-use Rattle.kan_model.specs.Programs.Closed.Goals.{Program}
-use Rattle.kan_model.specs.Stores.Store.Store.{Store}
-use Rattle.kan_model.specs.Streams.Stream.Stream.{Stream, Thunk}
-use Rattle.kan_model.specs.Streams.Stream.Running.{force}
-use Rattle.kan_model.specs.Streams.Stream.Taking.{Taken, Ending, nothing_more, with_pull, give, take, stores_within}
+use Rattle.kan_model.specs.Programs.Goals.{Program}
+use Rattle.kan_model.specs.Stores.Store.{Store}
+use Rattle.kan_model.specs.Streams.Stream.{Stream, Thunk}
+use Rattle.kan_model.specs.Streams.Running.{force}
+use Rattle.kan_model.specs.Streams.Taking.{Taken, Ending, nothing_more, with_pull, give, take, stores_within}
 use Rattle.pull_bounds.specs.Coming.{ComesWithin}
 
 -- heads that no limit stops are all given

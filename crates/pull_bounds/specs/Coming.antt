@@ -1,12 +1,12 @@
 -- Which stores a stream gives within some pulls, and what appending, running and binding keep of that.
 use Rattle.std.specs.Prelude.{ℕ, ◌+◌, ◌*◌, ◌≤◌, List, length, Contains}
 use Rattle.kan_terms.specs.Tree.{Tm}
-use Rattle.kan_model.specs.Programs.Closed.Goals.{Goal, Program}
-use Rattle.kan_model.specs.Stores.Store.Store.{Store}
-use Rattle.kan_model.specs.Streams.Stream.Stream.{Stream, append, bind_all}
-use Rattle.kan_model.specs.Streams.Stream.Running.{run}
-use Rattle.kan_model.specs.Streams.Stream.Taking.{stores_within}
-use Rattle.kan_model.specs.Streams.Stream.Pulls.{answers_within, both_pulls, and_first}
+use Rattle.kan_model.specs.Programs.Goals.{Goal, Program}
+use Rattle.kan_model.specs.Stores.Store.{Store}
+use Rattle.kan_model.specs.Streams.Stream.{Stream, append, bind_all}
+use Rattle.kan_model.specs.Streams.Running.{run}
+use Rattle.kan_model.specs.Streams.Taking.{stores_within}
+use Rattle.kan_model.specs.Streams.Pulls.{answers_within, both_pulls, and_first}
 
 -- a store is among those that a stream gives within some pulls
 abbrev pub ComesWithin : Program → ℕ → Stream → Store → Type 0

@@ -3,16 +3,16 @@ use Rattle.std.specs.Prelude.{◌≡◌, ◌⊎◌, ℕ, ◌<◌, ◌≤◌, tru
 use Rattle.std.specs.List.{list_all}
 use Rattle.kan_terms.specs.Tree.{Tm, Gd}
 use Rattle.kan_terms.specs.Valuations.{value_at, value}
-use Rattle.kan_model.specs.Programs.Closed.Goals.{Primitive, Goal, Program, Query}
-use Rattle.kan_model.specs.Stores.Store.Store.{Store, with_prim}
-use Rattle.kan_model.specs.Stores.Store.Kept.{is_kept}
-use Rattle.kan_model.specs.Streams.Stream.Stream.{Stream, one}
-use Rattle.kan_model.specs.Streams.Stream.Running.{run, assert}
-use Rattle.kan_model.specs.Programs.Closed.Scope.{all_below, is_counted}
+use Rattle.kan_model.specs.Programs.Goals.{Primitive, Goal, Program, Query}
+use Rattle.kan_model.specs.Stores.Store.{Store, with_prim}
+use Rattle.kan_model.specs.Stores.Kept.{is_kept}
+use Rattle.kan_model.specs.Streams.Stream.{Stream, one}
+use Rattle.kan_model.specs.Streams.Running.{run, assert}
+use Rattle.kan_model.specs.Programs.Scope.{all_below, is_counted}
 use Rattle.kan_model.specs.Meaning.Holds.{holds_at, IsSolution, BeginsWith}
 use Rattle.kan_model.specs.Meaning.Derivations.{Derivation, derives, IsRunSolution}
-use Rattle.kan_model.specs.Streams.Stream.Pulls.{pulls_for}
-use Rattle.kan_model.specs.Streams.Stream.Taking.{Ending, Taken, take, take_query}
+use Rattle.kan_model.specs.Streams.Pulls.{pulls_for}
+use Rattle.kan_model.specs.Streams.Taking.{Ending, Taken, take, take_query}
 use Rattle.pull_bounds.specs.Coming.{ComesWithin}
 
 -- a store with a solution is kept

@@ -7,7 +7,7 @@ use Rattle.std.proofs.lemmas.Str.{encode_ascii}
 use lib.Utf8.{encode}
 use lib.Dec.{ltb}
 use Rattle.kan_terms.specs.Table.{is_string_byte}
-use Rattle.kan_model.specs.Answers.Answer.Text.{string_byte_text}
+use Rattle.kan_model.specs.Answers.Text.{string_byte_text}
 use Rattle.kan_grammar.specs.Data.Strings.{Role, role, begins_escape, escape_meaning, length_by, string_length, byte_meaning, string_meaning}
 use Rattle.sexpr.specs.Strings.{character_meaning, character_text}
 

@@ -2,7 +2,7 @@
 use Rattle.std.specs.Prelude.{ℕ, ◌+◌, List, [], ◌∷◌, ◌++◌, map, Option, None, Some}
 use Rattle.std.specs.Borrow.{Bor}
 use Rattle.std.specs.Option.{option_map, option_copied}
-use Rattle.kan_model.specs.Answers.Answer.Text.{in_quotes, print_rest}
+use Rattle.kan_model.specs.Answers.Text.{in_quotes, print_rest}
 use Rattle.kan_grammar.specs.Data.Written.{Written, Within, single, list, prefixed, close, dotted, element}
 use Rattle.kan_grammar.specs.Data.Printed.{Named, label_text, named_text, pairs, pairs_within}
 use Rattle.sexpr.specs.Seen.{inner_of, written}

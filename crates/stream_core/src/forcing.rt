@@ -2,12 +2,12 @@
 
 ghost use Rattle.std.specs.Prelude.{◌≡◌, ◌≤◌, ◌^◌, true, slice_get, IfOk, IfSome};
 ghost use Rattle.std.specs.List.{list_all};
-ghost use Rattle.kan_model.specs.Streams.Stream.Stream as model;
-ghost use Rattle.kan_model.specs.Streams.Stream.Running as running;
-ghost use Rattle.kan_model.specs.Programs.Closed.Scope.{is_small};
-ghost use Rattle.kan_model.specs.Streams.Stream.Bounds.{top, floor};
-ghost use Rattle.kan_model.specs.Programs.Closed.Environments.{terms_of};
-ghost use Rattle.kan_model.specs.Programs.Closed.Closed as programs;
+ghost use Rattle.kan_model.specs.Streams.Stream as model;
+ghost use Rattle.kan_model.specs.Streams.Running as running;
+ghost use Rattle.kan_model.specs.Programs.Scope.{is_small};
+ghost use Rattle.kan_model.specs.Streams.Bounds.{top, floor};
+ghost use Rattle.kan_model.specs.Programs.Environments.{terms_of};
+ghost use Rattle.kan_model.specs.Programs.Closed as programs;
 ghost use Rattle.stream_core.specs.Fitting.{TailFits};
 ghost use Rattle.stream_core.specs.Forcing.{inner_of, MayForce, IsInside};
 ghost use Rattle.stream_core.specs.Standing as standing;

@@ -4,11 +4,11 @@ use Rattle.std.specs.Prelude.{Bool, true, false, ◌==◌, Option, Some, None, o
 use Rattle.std.specs.List.{list_all, flat_map}
 use Rattle.std.proofs.lemmas.Bool.{eqb-true, eq-eqb, and_from, and_parts}
 use Rattle.std.proofs.lemmas.Option.{slice_get-map}
-use Rattle.kan_model.specs.Programs.Closed.Goals.{Goal, Relation}
+use Rattle.kan_model.specs.Programs.Goals.{Goal, Relation}
 use Rattle.kan_grammar.specs.declared.dialect.Dialect.{Dialect}
 use Rattle.kan_grammar.specs.declared.dialect.Dialect.TheVariants.{Book, All}
 use Rattle.kan_grammar.specs.Data.Faults.{fault}
-use Rattle.kan_model.specs.Programs.Closed.Scope.{takes, calls_there}
+use Rattle.kan_model.specs.Programs.Scope.{takes, calls_there}
 use Rattle.kan_grammar.specs.Texts.GoalForms.{GoalForm, GoalForms, none, more}
 use Rattle.kan_grammar.specs.Texts.TopForms.{Defined}
 use Rattle.kan_grammar.specs.Texts.Resolved.{Names, relation_number, arity, conjunction, disjunction, suspended_in, within, goal_in, goals_in, template_in}

@@ -10,8 +10,8 @@ use Rattle.kan_terms.specs.Tree.{Tree}
 use Rattle.kan_terms.specs.Table.{Table}
 use Rattle.kan_grammar.specs.declared.dialect.Dialect.{Dialect}
 use Rattle.kan_grammar.specs.Texts.Sited.{Sited, is_proper}
-use Rattle.kan_model.specs.Programs.Closed.Goals.{Goal, Primitive, Relation, Query}
-use Rattle.kan_model.specs.Programs.Closed.Scope.{all_below, in_scope, calls_there, body_in_scope}
+use Rattle.kan_model.specs.Programs.Goals.{Goal, Primitive, Relation, Query}
+use Rattle.kan_model.specs.Programs.Scope.{all_below, in_scope, calls_there, body_in_scope}
 use Rattle.kan_grammar.specs.Texts.Language.{Word, head_word}
 use Rattle.kan_grammar.specs.Texts.Binders.{Checked, binder, binder_faults}
 use Rattle.kan_grammar.specs.Texts.GoalForms.{GoalForms, goal_forms}

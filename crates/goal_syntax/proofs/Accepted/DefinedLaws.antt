@@ -6,7 +6,7 @@ use Rattle.kan_terms.specs.Table.{Table}
 use Rattle.kan_grammar.specs.declared.dialect.Dialect.{Dialect}
 use Rattle.kan_grammar.specs.Data.Faults.{fault}
 use Rattle.kan_grammar.specs.Texts.Sited.{Sited, elements, is_proper}
-use Rattle.kan_model.specs.Programs.Closed.Goals.{Relation}
+use Rattle.kan_model.specs.Programs.Goals.{Relation}
 use Rattle.kan_grammar.specs.Texts.Language.{Word, word, head_word, is_other}
 use Rattle.kan_grammar.specs.Texts.Binders.{Checked, bound_names, names_faults, binder_faults}
 use Rattle.kan_grammar.specs.Texts.GoalForms.{goal_forms}

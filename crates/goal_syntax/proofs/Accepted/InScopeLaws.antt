@@ -6,11 +6,11 @@ use Rattle.std.proofs.lemmas.Bool.{lt-ltb, and_from, and_parts}
 use Rattle.std.proofs.lemmas.Grind.{flat_map-append}
 use Rattle.std.proofs.lemmas.List.{length-map}
 use Rattle.kan_terms.specs.Tree.{Tree, leaves}
-use Rattle.kan_model.specs.Programs.Closed.Goals.{Goal}
+use Rattle.kan_model.specs.Programs.Goals.{Goal}
 use Rattle.kan_grammar.specs.declared.dialect.Dialect.{Dialect}
 use Rattle.kan_grammar.specs.declared.dialect.Dialect.TheVariants.{Book, All}
 use Rattle.kan_grammar.specs.Data.Faults.{fault}
-use Rattle.kan_model.specs.Programs.Closed.Scope.{all_below, in_scope}
+use Rattle.kan_model.specs.Programs.Scope.{all_below, in_scope}
 use Rattle.kan_grammar.specs.Texts.TermForms.{Use, variable, misshapen, TermForm}
 use Rattle.kan_grammar.specs.Texts.GoalForms.{GoalForm, GoalForms, none, more}
 use Rattle.kan_grammar.specs.Texts.TopForms.{Defined}

@@ -4,8 +4,8 @@ use Rattle.std.specs.Prelude.{Bool, true, false, ◌&&◌, None}
 use Rattle.std.specs.List.{list_all}
 use Rattle.std.proofs.lemmas.List.Folds.{list_all-append}
 use Rattle.kan_terms.specs.Table.{Table}
-use Rattle.kan_model.specs.Programs.Closed.Goals.{Goal}
-use Rattle.kan_model.specs.Programs.Closed.Scope.{is_low}
+use Rattle.kan_model.specs.Programs.Goals.{Goal}
+use Rattle.kan_model.specs.Programs.Scope.{is_low}
 use Rattle.kan_grammar.specs.declared.dialect.Dialect.{Dialect}
 use Rattle.kan_grammar.specs.declared.dialect.Dialect.TheVariants.{Book, All}
 use Rattle.kan_grammar.specs.Texts.Sited.{Sited}
@@ -13,7 +13,7 @@ use Rattle.kan_grammar.specs.Texts.Binders.{binder}
 use Rattle.kan_grammar.specs.Texts.ProgramText.{relations_in, relations_of, queries_in, queries_of}
 use Rattle.kan_grammar.specs.Texts.Resolved.{Names, conjunction, goals_in, suspended_in, within}
 use Rattle.kan_grammar.specs.Texts.GoalForms.{GoalForms}
-use Rattle.kan_model.specs.Programs.Closed.Tables.{RelationEntry, Tables, templates_of, with_relation}
+use Rattle.kan_model.specs.Programs.Tables.{RelationEntry, Tables, templates_of, with_relation}
 use Rattle.kan_grammar.specs.Texts.TopForms.{Defined, form}
 use Rattle.goal_syntax.specs.Building.Equations.{is_equational}
 use Rattle.goal_syntax.specs.Building.FormsBuilt.{asked_equation, asked_fresh}

@@ -5,9 +5,9 @@ use Rattle.std.specs.List.{list_all}
 use Rattle.std.proofs.lemmas.Bool.{and_from, and_parts, ltb-true, lt-ltb}
 use Rattle.std.proofs.lemmas.List.{map-append}
 use Rattle.std.proofs.lemmas.List.Folds.{list_all-append}
-use Rattle.kan_model.specs.Programs.Closed.Goals as model
-use Rattle.kan_model.specs.Programs.Closed.Goals.{Template, Goal}
-use Rattle.kan_model.specs.Programs.Closed.Tables.{Tables, RelationEntry, goals_of, with_relation}
+use Rattle.kan_model.specs.Programs.Goals as model
+use Rattle.kan_model.specs.Programs.Goals.{Template, Goal}
+use Rattle.kan_model.specs.Programs.Tables.{Tables, RelationEntry, goals_of, with_relation}
 use Rattle.kan_grammar.specs.declared.dialect.Dialect.{Dialect}
 use Rattle.kan_grammar.specs.Texts.GoalForms.{GoalForms}
 use Rattle.kan_grammar.specs.Texts.TopForms.{Defined}

@@ -6,7 +6,7 @@ use Rattle.std.proofs.lemmas.List.{reverse-append}
 use Rattle.kan_terms.specs.Table.{Table}
 use Rattle.kan_grammar.specs.declared.dialect.Dialect.{Dialect}
 use Rattle.kan_grammar.specs.Texts.Sited.{Sited, site, is_proper}
-use Rattle.kan_model.specs.Programs.Closed.Goals.{Goal}
+use Rattle.kan_model.specs.Programs.Goals.{Goal}
 use Rattle.kan_grammar.specs.Texts.GoalForms.{GoalForm, all_of, misshapen, none, more, goal_forms, clause_forms}
 use Rattle.kan_grammar.specs.Texts.TopForms.{Defined}
 use Rattle.kan_grammar.specs.Texts.Binders.{binder}

@@ -7,10 +7,10 @@ use Rattle.std.proofs.lemmas.List.{reverse-append}
 use Rattle.std.proofs.lemmas.List.Folds.{list_all-append}
 use Rattle.kan_terms.specs.Tree.{Tree}
 use Rattle.kan_terms.specs.Table.{Table}
-use Rattle.kan_model.specs.Programs.Closed.Goals.{Template}
+use Rattle.kan_model.specs.Programs.Goals.{Template}
 use Rattle.kan_grammar.specs.Texts.Sited.{Sited}
-use Rattle.kan_model.specs.Programs.Closed.Scope.{height, is_low}
-use Rattle.kan_model.specs.Programs.Closed.Tables.{TermEntry, Tables, template_at, template_of, templates_of, with_term}
+use Rattle.kan_model.specs.Programs.Scope.{height, is_low}
+use Rattle.kan_model.specs.Programs.Tables.{TermEntry, Tables, template_at, template_of, templates_of, with_term}
 use Rattle.kan_grammar.specs.Texts.Resolved.{Names, template_in}
 use Rattle.kan_model.proofs.Programs.TableLaws.{templates-more}
 use Rattle.goal_syntax.specs.Building.TermsLeft.{built, paired, finish}

@@ -7,9 +7,9 @@ use Rattle.std.proofs.lemmas.List.{reverse-append, map-append, length-map, take_
 use Rattle.std.proofs.Math.Seq.{drop-append_seam, take-length}
 use Rattle.kan_terms.specs.Tree.{Tree}
 use Rattle.kan_terms.specs.Table.{Table}
-use Rattle.kan_model.specs.Programs.Closed.Goals.{Template}
+use Rattle.kan_model.specs.Programs.Goals.{Template}
 use Rattle.kan_grammar.specs.Texts.Sited.{Sited}
-use Rattle.kan_model.specs.Programs.Closed.Tables.{TermEntry, Tables, template_at, template_of, templates_of, is_term_grown, with_argument}
+use Rattle.kan_model.specs.Programs.Tables.{TermEntry, Tables, template_at, template_of, templates_of, is_term_grown, with_argument}
 use Rattle.kan_grammar.specs.Texts.TermForms.{term_form}
 use Rattle.kan_grammar.specs.Texts.GoalForms.{term_forms}
 use Rattle.kan_grammar.specs.Texts.ProgramText.{slot_list}

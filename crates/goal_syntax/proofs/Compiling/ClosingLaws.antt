@@ -10,13 +10,13 @@ use Rattle.kan_terms.specs.Table.{Table}
 use Rattle.kan_grammar.specs.declared.dialect.Dialect.{Dialect}
 use Rattle.kan_grammar.specs.Texts.Sited.{Sited, with_sites}
 use Rattle.kan_grammar.specs.Data.Faults as faults
-use Rattle.kan_model.specs.Programs.Closed.Goals as model
-use Rattle.kan_model.specs.Programs.Closed.Goals.{Goal}
-use Rattle.kan_model.specs.Programs.Closed.Calls.{entry_takes}
-use Rattle.kan_model.specs.Programs.Closed.Nodes.{goal_place}
+use Rattle.kan_model.specs.Programs.Goals as model
+use Rattle.kan_model.specs.Programs.Goals.{Goal}
+use Rattle.kan_model.specs.Programs.Calls.{entry_takes}
+use Rattle.kan_model.specs.Programs.Nodes.{goal_place}
 use Rattle.kan_grammar.specs.Texts.ProgramText.{relations_in, relations_of, queries_of, text_meaning}
-use Rattle.kan_model.specs.Programs.Closed.Scope.{is_low, takes, calls_there, in_scope, body_in_scope, is_closed}
-use Rattle.kan_model.specs.Programs.Closed.Tables.{RelationEntry, Tables, goal_at, goals_of, templates_of, program_of, is_grown, are_closed}
+use Rattle.kan_model.specs.Programs.Scope.{is_low, takes, calls_there, in_scope, body_in_scope, is_closed}
+use Rattle.kan_model.specs.Programs.Tables.{RelationEntry, Tables, goal_at, goals_of, templates_of, program_of, is_grown, are_closed}
 use Rattle.kan_grammar.specs.Texts.TextFaults.{faults_of, least, IsAccepted}
 use Rattle.kan_grammar.specs.Texts.TopForms.{Defined, form, definitions, definitions_of}
 use Rattle.kan_model.specs.declared.nodes.Query.{Query}

@@ -10,15 +10,15 @@ use Rattle.std.proofs.lemmas.List.Folds.{list_all-append, list_all_at}
 use Rattle.kan_terms.specs.Table.{Table}
 use Rattle.kan_grammar.specs.declared.dialect.Dialect.{Dialect}
 use Rattle.kan_grammar.specs.Texts.Sited.{Sited}
-use Rattle.kan_model.specs.Programs.Closed.Goals as model
-use Rattle.kan_model.specs.Programs.Closed.Goals.{Goal}
-use Rattle.kan_model.specs.Programs.Closed.Measures.{noted_width}
+use Rattle.kan_model.specs.Programs.Goals as model
+use Rattle.kan_model.specs.Programs.Goals.{Goal}
+use Rattle.kan_model.specs.Programs.Measures.{noted_width}
 use Rattle.kan_grammar.specs.Texts.ProgramText.{relations_in, relations_of, queries_in, queries_of, text_meaning}
-use Rattle.kan_model.specs.Programs.Closed.Scope.{is_narrow, is_small}
-use Rattle.kan_model.specs.Programs.Closed.Nodes.{goal_place}
-use Rattle.kan_model.specs.Programs.Closed.Closed as programs
+use Rattle.kan_model.specs.Programs.Scope.{is_narrow, is_small}
+use Rattle.kan_model.specs.Programs.Nodes.{goal_place}
+use Rattle.kan_model.specs.Programs.Closed as programs
 use Rattle.kan_model.specs.declared.program.Program.{Program}
-use Rattle.kan_model.specs.Programs.Closed.Tables.{Tables, goals_of, are_closed}
+use Rattle.kan_model.specs.Programs.Tables.{Tables, goals_of, are_closed}
 use Rattle.kan_grammar.specs.Texts.TopForms.{Defined, form, definitions, definitions_of}
 use Rattle.kan_model.specs.declared.nodes.Query.{Query}
 use Rattle.goal_syntax.specs.Building.FormsBuilt.{AddsNames, Means, entry_names, names_in, query_made, relation_made, relation_names}

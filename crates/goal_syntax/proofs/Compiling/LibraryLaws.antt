@@ -5,7 +5,7 @@ use Rattle.std.specs.List.{list_all, flat_map}
 use Rattle.std.proofs.lemmas.Bool.{and_from}
 use Rattle.kan_terms.specs.Table.{Table, number_of, interned}
 use Rattle.kan_terms.proofs.TableLaws.{number_of-push, number_of-interned}
-use Rattle.kan_model.specs.Programs.Closed.Goals.{Query}
+use Rattle.kan_model.specs.Programs.Goals.{Query}
 use Rattle.kan_grammar.specs.declared.dialect.Dialect.{Dialect}
 use Rattle.kan_grammar.specs.Data.Printed.{prefix_name}
 use Rattle.kan_grammar.specs.Data.Words.{quote, quasiquote, unquote}

@@ -1,8 +1,8 @@
 -- Goals whose only constraints are equations.
 use Rattle.std.specs.Prelude.{◌≡◌, Bool, true, false, ◌&&◌, List}
 use Rattle.std.specs.List.{list_all}
-use Rattle.kan_model.specs.Programs.Closed.Goals.{Primitive, Goal, Relation, Query}
-use Rattle.kan_model.specs.Programs.Closed.Tables.{GoalEntry, Tables}
+use Rattle.kan_model.specs.Programs.Goals.{Primitive, Goal, Relation, Query}
+use Rattle.kan_model.specs.Programs.Tables.{GoalEntry, Tables}
 
 -- a primitive is an equation
 abbrev pub is_equation : {X : Type 0} → Primitive X → Bool

@@ -3,12 +3,12 @@ use Rattle.std.specs.Prelude.{◌≡◌, ℕ, Bool, true, ◌&&◌, List, ◌∷
 use Rattle.kan_terms.specs.Table.{Table}
 use Rattle.kan_grammar.specs.declared.dialect.Dialect.{Dialect}
 use Rattle.kan_grammar.specs.Texts.Sited.{Sited}
-use Rattle.kan_model.specs.Programs.Closed.Goals.{Goal}
+use Rattle.kan_model.specs.Programs.Goals.{Goal}
 use Rattle.kan_grammar.specs.Texts.TopForms.{Defined}
 use Rattle.kan_grammar.specs.Texts.Resolved.{Names, goal_in}
-use Rattle.kan_model.specs.Programs.Closed.Calls.{call_there}
-use Rattle.kan_model.specs.Programs.Closed.Tables.{GoalEntry, RelationEntry, Tables, templates_of, goal_at, goals_of, goal_of, is_goal_grown}
-use Rattle.kan_model.specs.Programs.Closed.Nodes.{goal_entry}
+use Rattle.kan_model.specs.Programs.Calls.{call_there}
+use Rattle.kan_model.specs.Programs.Tables.{GoalEntry, RelationEntry, Tables, templates_of, goal_at, goals_of, goal_of, is_goal_grown}
+use Rattle.kan_model.specs.Programs.Nodes.{goal_entry}
 use Rattle.kan_model.specs.declared.nodes.GoalNode.{GoalNode}
 use Rattle.goal_syntax.specs.Building.Equations.{is_equational, is_equational_entry, are_equational_entries}
 use Rattle.goal_syntax.specs.Building.CallsThere.{calls_named, are_there}

@@ -3,12 +3,12 @@ use Rattle.std.specs.Prelude.{ℕ, ◌+◌, true, false, List, [], ◌∷◌, le
 use Rattle.kan_terms.specs.Table.{Table}
 use Rattle.kan_grammar.specs.declared.dialect.Dialect.{Dialect}
 use Rattle.kan_grammar.specs.Texts.Sited.{Sited, site, is_proper}
-use Rattle.kan_model.specs.Programs.Closed.Goals.{Goal}
+use Rattle.kan_model.specs.Programs.Goals.{Goal}
 use Rattle.kan_grammar.specs.Texts.Binders.{binder}
 use Rattle.kan_grammar.specs.Texts.GoalForms.{GoalForm, GoalForms, all_of, misshapen, goal_form, goal_forms, clause_forms}
 use Rattle.kan_grammar.specs.Texts.TopForms.{Defined}
 use Rattle.kan_grammar.specs.Texts.Resolved.{Names, conjunction, disjunction, goal_in, goals_in}
-use Rattle.kan_model.specs.Programs.Closed.Tables.{GoalEntry}
+use Rattle.kan_model.specs.Programs.Tables.{GoalEntry}
 use Rattle.goal_forms.specs.Parts.{site_at}
 use Rattle.goal_forms.specs.TermSteps.{site_size}
 use Rattle.goal_syntax.specs.Building.GoalsBuilt.{Built, with_goal}

@@ -1,8 +1,8 @@
 -- What the forms in a context are built to.
 use Rattle.std.specs.Prelude.{ℕ, List, ◌∷◌, [], Option, map}
-use Rattle.kan_model.specs.Programs.Closed.Goals as model
-use Rattle.kan_model.specs.Programs.Closed.Goals.{Goal, Template}
-use Rattle.kan_model.specs.Programs.Closed.Drafts.{tables}
+use Rattle.kan_model.specs.Programs.Goals as model
+use Rattle.kan_model.specs.Programs.Goals.{Goal, Template}
+use Rattle.kan_model.specs.Programs.Drafts.{tables}
 use Rattle.kan_model.specs.declared.draft.Draft.{Draft}
 use Rattle.kan_grammar.specs.Texts.Resolved.{Names, conjunction, goals_in, template_in}
 use Rattle.kan_grammar.specs.Texts.ProgramText.{relations_in, queries_in, relations_of, queries_of}

@@ -2,8 +2,8 @@
 use Rattle.std.specs.Prelude.{◌≡◌, true, List}
 use Rattle.std.specs.List.{list_all}
 use Rattle.kan_grammar.specs.Texts.Sited.{Sited}
-use Rattle.kan_model.specs.Programs.Closed.Scope.{is_low}
-use Rattle.kan_model.specs.Programs.Closed.Tables.{Tables, templates_of}
+use Rattle.kan_model.specs.Programs.Scope.{is_low}
+use Rattle.kan_model.specs.Programs.Tables.{Tables, templates_of}
 use Rattle.goal_forms.specs.Heights.{AreLow}
 
 -- templates that came to tables are low where the data that they are of are, if those before them are

@@ -2,9 +2,9 @@
 use Rattle.std.specs.Prelude.{◌≡◌, ℕ, Bool, true, ◌&&◌, List, [], ◌∷◌}
 use Rattle.std.specs.List.{list_all}
 use Rattle.kan_terms.specs.Table.{Table}
-use Rattle.kan_model.specs.Programs.Closed.Goals.{Template}
+use Rattle.kan_model.specs.Programs.Goals.{Template}
 use Rattle.kan_grammar.specs.Texts.Sited.{Sited}
-use Rattle.kan_model.specs.Programs.Closed.Scope.{is_low}
+use Rattle.kan_model.specs.Programs.Scope.{is_low}
 use Rattle.kan_grammar.specs.Texts.Resolved.{Names, template_in}
 use Rattle.goal_syntax.specs.Building.TermsLeft.{built, paired}
 use Rattle.goal_forms.specs.TermSteps.{task_form}

@@ -6,10 +6,10 @@ use Rattle.kan_terms.specs.Table.{Table}
 use Rattle.kan_grammar.specs.Texts.Sited.{Sited}
 use Rattle.kan_grammar.specs.Texts.TextFaults.{faults_of, least}
 use Rattle.kan_grammar.specs.Texts.ProgramText.{Meant, text_meaning}
-use Rattle.kan_model.specs.Programs.Closed.Scope.{is_small}
-use Rattle.kan_model.specs.Programs.Closed.Tables.{are_closed}
-use Rattle.kan_model.specs.Programs.Closed.Nodes.{goal_place}
-use Rattle.kan_model.specs.Programs.Closed.Closed as programs
+use Rattle.kan_model.specs.Programs.Scope.{is_small}
+use Rattle.kan_model.specs.Programs.Tables.{are_closed}
+use Rattle.kan_model.specs.Programs.Nodes.{goal_place}
+use Rattle.kan_model.specs.Programs.Closed as programs
 use Rattle.kan_model.specs.declared.program.Program.{Program}
 use Rattle.kan_model.specs.declared.nodes.Query.{Query}
 use Rattle.goal_syntax.specs.Compiling.SymbolNames.{are_named}

@@ -2,11 +2,11 @@
 use Rattle.std.specs.Prelude.{◌≡◌, ◌≤◌, ◌^◌, ℕ, ◌++◌, [], List, map, length, true, false, Bool, Option, Some, None, Result, Ok, Err}
 use Rattle.std.specs.List.{list_all}
 use Rattle.kan_terms.specs.Table.{Table}
-use Rattle.kan_model.specs.Programs.Closed.Goals as model
-use Rattle.kan_model.specs.Programs.Closed.Scope.{is_small}
-use Rattle.kan_model.specs.Programs.Closed.Tables.{are_closed}
-use Rattle.kan_model.specs.Programs.Closed.Nodes.{goal_place}
-use Rattle.kan_model.specs.Programs.Closed.Closed as programs
+use Rattle.kan_model.specs.Programs.Goals as model
+use Rattle.kan_model.specs.Programs.Scope.{is_small}
+use Rattle.kan_model.specs.Programs.Tables.{are_closed}
+use Rattle.kan_model.specs.Programs.Nodes.{goal_place}
+use Rattle.kan_model.specs.Programs.Closed as programs
 use Rattle.kan_model.specs.declared.program.Program.{Program}
 use Rattle.kan_model.specs.declared.nodes.Query.{Query}
 use Rattle.kan_grammar.specs.declared.dialect.Dialect.{Dialect}

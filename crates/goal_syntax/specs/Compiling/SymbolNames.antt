@@ -2,7 +2,7 @@
 use Rattle.std.specs.Prelude.{ℕ, Bool, true, ◌&&◌, is_some}
 use Rattle.std.specs.List.{list_all}
 use Rattle.kan_terms.specs.Table.{name_of, Table}
-use Rattle.kan_model.specs.Programs.Closed.Tables.{TermEntry, GoalEntry, RelationEntry, Tables}
+use Rattle.kan_model.specs.Programs.Tables.{TermEntry, GoalEntry, RelationEntry, Tables}
 
 -- a symbol has a name in a table
 abbrev pub has_name : Table → ℕ → Bool

@@ -1,7 +1,7 @@
 -- What texts mean, each form and term once.
 use Rattle.std.specs.Prelude.{◌≡◌, [], ◌∷◌, Some, None, pos, true, refl}
 use Rattle.kan_terms.specs.Tree.{Tree}
-use Rattle.kan_model.specs.Programs.Closed.Goals.{Template, Primitive, Goal}
+use Rattle.kan_model.specs.Programs.Goals.{Template, Primitive, Goal}
 use Rattle.kan_grammar.specs.Texts.ProgramText.{Meant}
 use Rattle.kan_grammar.proofs.Texts.TextExamples.{meaning, meaning_in_all}
 use lib.Chars.{codes}

@@ -1,7 +1,7 @@
 -- What data mean, read as pairs, and the texts that printing gives.
 use Rattle.std.specs.Prelude.{ℕ, List, []}
 use Rattle.kan_terms.specs.Tree.{Tree, leaf, num, truth, nil, pair}
-use Rattle.kan_model.specs.Answers.Answer.Text.{print, in_quotes}
+use Rattle.kan_model.specs.Answers.Text.{print, in_quotes}
 use Rattle.kan_terms.specs.Table.{no_names}
 use Rattle.kan_grammar.specs.Data.Words.{Atom, symbol, string, number, truth as truth_value, out_of_range, reserved, Prefix, quote, quasiquote, unquote}
 use Rattle.kan_grammar.specs.Data.Written.{Written, Within, single, list, prefixed, close, dotted, element}

@@ -1,6 +1,6 @@
 -- The names of the language.
 use Rattle.std.specs.Prelude.{ℕ, Bool, true, false, List, [], ◌∷◌, if◌then◌else◌, bytes_eq}
-use Rattle.kan_model.specs.Answers.Answer.Text.{symbol_text}
+use Rattle.kan_model.specs.Answers.Text.{symbol_text}
 use Rattle.kan_terms.specs.Table.{Table}
 use Rattle.kan_grammar.specs.Texts.Sited.{Sited}
 use lib.Chars.{codes}

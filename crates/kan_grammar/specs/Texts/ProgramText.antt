@@ -2,7 +2,7 @@
 use Rattle.std.specs.Prelude.{ℕ, suc, List, [], ◌∷◌, ◌++◌, None, map, length}
 use Rattle.std.specs.List.{flat_map}
 use Rattle.kan_terms.specs.Tree.{Tree}
-use Rattle.kan_model.specs.Programs.Closed.Goals.{Template, Primitive, Goal, Relation, Program, Query}
+use Rattle.kan_model.specs.Programs.Goals.{Template, Primitive, Goal, Relation, Program, Query}
 use Rattle.kan_terms.specs.Table.{Table}
 use Rattle.kan_grammar.specs.declared.dialect.Dialect.{Dialect}
 use Rattle.kan_grammar.specs.Data.Written.{Written}

@@ -1,7 +1,7 @@
 -- What names stand for: the slots of variables, the numbers of relations, and the goals that goals as they are written stand for.
 use Rattle.std.specs.Prelude.{ℕ, suc, Bool, false, ◌==◌, List, [], ◌∷◌, ◌++◌, Option, Some, None, map, length, option_map, unwrap_or, if◌then◌else◌}
 use Rattle.kan_terms.specs.Tree.{Tree, fill}
-use Rattle.kan_model.specs.Programs.Closed.Goals.{Template, Primitive, Goal}
+use Rattle.kan_model.specs.Programs.Goals.{Template, Primitive, Goal}
 use Rattle.kan_grammar.specs.declared.dialect.Dialect.{Dialect}
 use Rattle.kan_grammar.specs.declared.dialect.Dialect.TheVariants.{Book, All}
 use Rattle.kan_grammar.specs.Texts.TermForms.{Use, variable, misshapen, TermForm}

@@ -3,9 +3,9 @@ use Rattle.std.proofs.Common.{◌≡◌, ℕ, true, false, refl, sym, List, [], 
 use Rattle.kan_terms.specs.Tree.{Tree, Tm, Gd}
 use Rattle.kan_terms.specs.Valuations.{value}
 use Rattle.kan_terms.specs.Table.{Table}
-use Rattle.kan_model.specs.Answers.Answer.Answer.{Answer}
-use Rattle.kan_model.specs.Answers.Answer.InForm.{in_form}
-use Rattle.kan_model.specs.Answers.Answer.Covers.{Covers, meets}
+use Rattle.kan_model.specs.Answers.Answer.{Answer}
+use Rattle.kan_model.specs.Answers.InForm.{in_form}
+use Rattle.kan_model.specs.Answers.Covers.{Covers, meets}
 
 abbrev table : Table
 table = record { symbols = codes "b" ∷ codes "a" ∷ []; strings = [] }

@@ -4,18 +4,18 @@ use Rattle.std.specs.List.{list_all, list_any}
 use Rattle.std.proofs.lemmas.Bool.{and_from, and_parts, or_cases, eqb-true, eqb-false, ltb-true, both_ways, false_from_ne_true, not_from_false, not-true, true≢false}
 use Rattle.kan_terms.specs.Tree.{Tree, Tm, term_eq}
 use Rattle.kan_terms.proofs.TreeLaws.{eq-term_eq}
-use Rattle.kan_model.specs.Programs.Closed.Goals.{Primitive}
-use Rattle.kan_model.specs.Stores.Store.Store.{Store, Equation}
-use Rattle.kan_model.specs.Answers.Answer.Order.{each_once, in_order}
-use Rattle.kan_model.specs.Stores.Store.Solve.{Replacement, image, apply, solve_store}
-use Rattle.kan_model.specs.Stores.Store.Kept.{allows, is_variable, gives_type, has_type, lacks_type, gives_one_type, holds_under, holds_with}
+use Rattle.kan_model.specs.Programs.Goals.{Primitive}
+use Rattle.kan_model.specs.Stores.Store.{Store, Equation}
+use Rattle.kan_model.specs.Answers.Order.{each_once, in_order}
+use Rattle.kan_model.specs.Stores.Solve.{Replacement, image, apply, solve_store}
+use Rattle.kan_model.specs.Stores.Kept.{allows, is_variable, gives_type, has_type, lacks_type, gives_one_type, holds_under, holds_with}
 use Rattle.kan_model.specs.declared.prims.Kind.{Kind}
 use Rattle.kan_model.specs.declared.prims.Kind.TheVariants.{Symbol, Number, Text}
 use Rattle.kan_terms.specs.Table.{Table}
-use Rattle.kan_model.specs.Answers.Answer.Text.{symbol_text}
-use Rattle.kan_model.specs.Answers.Answer.Answer.{NamedPair, Absence, may_have_tag, named_variables, in_names, rank, ranks_lower, solved_form, in_rank, all_named, can_be_equal, if_written, and_form, forms_of, same_form, is_weaker, strongest, form_in_names, names_where, has_absence, tags_of, absence_of, has_names, tag_le, absences_of}
-use Rattle.kan_model.specs.Answers.Answer.AnswerText.{difference_text, difference_le, answer_under, answer_by}
-use Rattle.kan_model.specs.Answers.Answer.InForm.{counts_up, ascends, is_filled, difference_in_form, equal_pairs, all_different, names_in_form, apart, absence_in_form, tag_before, in_form, TextsDiffer, AnswerInForm}
+use Rattle.kan_model.specs.Answers.Text.{symbol_text}
+use Rattle.kan_model.specs.Answers.Answer.{NamedPair, Absence, may_have_tag, named_variables, in_names, rank, ranks_lower, solved_form, in_rank, all_named, can_be_equal, if_written, and_form, forms_of, same_form, is_weaker, strongest, form_in_names, names_where, has_absence, tags_of, absence_of, has_names, tag_le, absences_of}
+use Rattle.kan_model.specs.Answers.AnswerText.{difference_text, difference_le, answer_under, answer_by}
+use Rattle.kan_model.specs.Answers.InForm.{counts_up, ascends, is_filled, difference_in_form, equal_pairs, all_different, names_in_form, apart, absence_in_form, tag_before, in_form, TextsDiffer, AnswerInForm}
 use Rattle.kan_model.proofs.Solving.SolveLaws.{solve_by-Solves}
 use Rattle.kan_model.proofs.Solving.UnifierLaws.{answer_unifies}
 use Rattle.kan_model.proofs.Solving.ReplacedLaws.{apply-kept, answer_clean}

@@ -4,7 +4,7 @@ use Rattle.std.specs.Prelude.{eqb}
 use Rattle.std.specs.Fmt.{digits_onto, digits, digit_glyph}
 use Rattle.std.proofs.lemmas.Bool.{eq-eqb}
 use Rattle.std.proofs.Math.Nat.{div-lt_iff_lt-mul, div-eq_of_lt, pow-suc}
-use Rattle.kan_model.specs.Answers.Answer.Decimals.{decimal_text, DecimalAsPrinted}
+use Rattle.kan_model.specs.Answers.Decimals.{decimal_text, DecimalAsPrinted}
 
 -- one digit, and what follows it where that isn't the last one
 digit_first : (k n : ℕ) (acc : List ℕ) (b : Bool) → eqb (n / 10) 0 ≡ b →

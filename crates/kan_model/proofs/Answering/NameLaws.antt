@@ -5,10 +5,10 @@ use Rattle.std.proofs.lemmas.Bool.{and_from, and_parts, eq-eqb, eqb-true, eqb-fa
 use Rattle.std.proofs.lemmas.List.{length-map, map-append}
 use Rattle.std.proofs.lemmas.List.Folds.{list_all-append, list_any-append}
 use Rattle.kan_terms.specs.Tree.{Tree, Tm, fill, leaves}
-use Rattle.kan_model.specs.Answers.Answer.Order.{each_once, place_of, stands_in}
-use Rattle.kan_model.specs.Programs.Closed.Scope.{all_below}
-use Rattle.kan_model.specs.Answers.Answer.Answer.{named_variables, in_names, names_where}
-use Rattle.kan_model.specs.Answers.Answer.InForm.{counts_up, ascends, names_in_form, apart}
+use Rattle.kan_model.specs.Answers.Order.{each_once, place_of, stands_in}
+use Rattle.kan_model.specs.Programs.Scope.{all_below}
+use Rattle.kan_model.specs.Answers.Answer.{named_variables, in_names, names_where}
+use Rattle.kan_model.specs.Answers.InForm.{counts_up, ascends, names_in_form, apart}
 use Rattle.kan_model.proofs.ListLaws.{Each, EachTwo, Each-like, each_once_apart}
 
 eqb_turn : (a b : ℕ) (c : Bool) → eqb a b ≡ c → eqb b a ≡ c

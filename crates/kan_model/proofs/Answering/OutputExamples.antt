@@ -2,10 +2,10 @@
 use Rattle.std.proofs.Common.{◌≡◌, ℕ, refl, List, [], ◌∷◌, ◌++◌, None, pos, codes}
 use Rattle.kan_terms.specs.Tree.{Tree}
 use Rattle.kan_terms.specs.Table.{Table, no_names}
-use Rattle.kan_model.specs.Programs.Closed.Goals.{Primitive, Goal, Program, Template}
-use Rattle.kan_model.specs.Stores.Store.Solve.{solve_by, rounds, steps}
-use Rattle.kan_model.specs.Answers.Answer.Decimals.{decimal_text}
-use Rattle.kan_model.specs.Answers.Answer.Output.{runs_output, line}
+use Rattle.kan_model.specs.Programs.Goals.{Primitive, Goal, Program, Template}
+use Rattle.kan_model.specs.Stores.Solve.{solve_by, rounds, steps}
+use Rattle.kan_model.specs.Answers.Decimals.{decimal_text}
+use Rattle.kan_model.specs.Answers.Output.{runs_output, line}
 
 abbrev no_relations : Program
 no_relations = record { relations = []; goals = [] }

@@ -4,12 +4,12 @@ use Rattle.std.specs.List.{list_all}
 use Rattle.std.proofs.lemmas.Bool.{and_parts, ne_eqb, eq-eqb, eqb-true, or_cases, ltb-true, not-true, both_ways, false_from_ne_true, true≢false}
 use Rattle.kan_terms.specs.Tree.{Tree, Tm, occurs, term_eq}
 use Rattle.kan_terms.proofs.TreeLaws.{term_eq-true, fill-absent_leaf}
-use Rattle.kan_model.specs.Stores.Store.Store.{Equation}
-use Rattle.kan_model.specs.Stores.Store.Solve.{Work, work, work_apart, unless_inside, apply, replace, replace_sides, Solves, solve_by}
-use Rattle.kan_model.specs.Stores.Store.Unifiers.{replaces}
-use Rattle.kan_model.specs.Answers.Answer.Answer.{NamedPair}
-use Rattle.kan_model.specs.Programs.Closed.Scope.{all_below}
-use Rattle.kan_model.specs.Answers.Answer.InForm.{ascends, replaces_lower, pair_in_form, is_replaced, name_before, is_filled, pair_equations, pair_replacement, FormIsSolved}
+use Rattle.kan_model.specs.Stores.Store.{Equation}
+use Rattle.kan_model.specs.Stores.Solve.{Work, work, work_apart, unless_inside, apply, replace, replace_sides, Solves, solve_by}
+use Rattle.kan_model.specs.Stores.Unifiers.{replaces}
+use Rattle.kan_model.specs.Answers.Answer.{NamedPair}
+use Rattle.kan_model.specs.Programs.Scope.{all_below}
+use Rattle.kan_model.specs.Answers.InForm.{ascends, replaces_lower, pair_in_form, is_replaced, name_before, is_filled, pair_equations, pair_replacement, FormIsSolved}
 use Rattle.kan_model.proofs.Solving.SolveLaws.{solve_by-Solves, Solves-one_answer}
 use Rattle.kan_model.proofs.Solving.ReplacedLaws.{apply-kept}
 use Rattle.kan_model.proofs.ListLaws.{Each, Each-like, Each-both, Each-from_list_all}

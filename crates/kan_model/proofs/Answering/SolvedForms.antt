@@ -3,11 +3,11 @@ use Rattle.std.proofs.Common.{◌≡◌, ◌≢◌, ℕ, ◌+◌, ◌<◌, ◌�
 use Rattle.std.proofs.lemmas.Bool.{eq-eqb, eqb-true, eqb-false, ne_eqb, ltb-true, ltb-false, or_left, or_right, both_ways, false_from_ne_true, true≢false}
 use Rattle.kan_terms.specs.Tree.{Tree, Tm, occurs, term_eq}
 use Rattle.kan_terms.proofs.TreeLaws.{eq-term_eq}
-use Rattle.kan_model.specs.Stores.Store.Store.{Equation}
-use Rattle.kan_model.specs.Answers.Answer.Order.{place_of, stands_in}
-use Rattle.kan_model.specs.Stores.Store.Solve.{Replacement, Work, work, work_apart, unless_inside, image, apply, replace_sides, put_first, Solves}
-use Rattle.kan_model.specs.Stores.Store.Unifiers.{replaces}
-use Rattle.kan_model.specs.Answers.Answer.Answer.{rank}
+use Rattle.kan_model.specs.Stores.Store.{Equation}
+use Rattle.kan_model.specs.Answers.Order.{place_of, stands_in}
+use Rattle.kan_model.specs.Stores.Solve.{Replacement, Work, work, work_apart, unless_inside, image, apply, replace_sides, put_first, Solves}
+use Rattle.kan_model.specs.Stores.Unifiers.{replaces}
+use Rattle.kan_model.specs.Answers.Answer.{rank}
 use Rattle.kan_model.proofs.Solving.WorkLaws.{work_explained}
 use Rattle.kan_model.proofs.Solving.VariableCount.{stands, replaced_gone}
 use Rattle.kan_model.proofs.Solving.ReplacedLaws.{Clean, Gone, Solves-clean}

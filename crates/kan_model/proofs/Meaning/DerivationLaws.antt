@@ -2,7 +2,7 @@
 use Rattle.std.proofs.Common.{◌≡◌, true, eqb, List, [], ◌∷◌, ◌++◌, length, Option, Some, None, slice_get, refl, sym, ap, subst, ◌∙◌, append_assoc}
 use Rattle.std.proofs.lemmas.Bool.{and_parts, and_from, eqb-true, eq-eqb, true≢false}
 use Rattle.kan_terms.specs.Tree.{Gd}
-use Rattle.kan_model.specs.Programs.Closed.Goals.{Goal, Relation, Program}
+use Rattle.kan_model.specs.Programs.Goals.{Goal, Relation, Program}
 use Rattle.kan_model.specs.Meaning.Derivations.{Derivation, Step, steps_of, values, derives, Derives, TestIsFamily, SpelledOnce}
 
 module _ (program : Program) where

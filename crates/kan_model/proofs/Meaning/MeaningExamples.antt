@@ -1,15 +1,15 @@
 -- Worked examples of what goals mean: solutions, derivations, their bounds, scope, and the trees of tables.
 use Rattle.std.proofs.Common.{◌≡◌, true, false, refl, sym, ◌∙◌, [], ◌∷◌, pos, append-nil, true≢false}
 use Rattle.kan_terms.specs.Tree.{Tree, Gd}
-use Rattle.kan_model.specs.Programs.Closed.Goals.{Template, Primitive, Goal, Program}
-use Rattle.kan_model.specs.Stores.Store.Store.{Store}
-use Rattle.kan_model.specs.Streams.Stream.Stream.{Stream, Thunk}
+use Rattle.kan_model.specs.Programs.Goals.{Template, Primitive, Goal, Program}
+use Rattle.kan_model.specs.Stores.Store.{Store}
+use Rattle.kan_model.specs.Streams.Stream.{Stream, Thunk}
 use Rattle.kan_model.specs.Meaning.Holds.{IsSolution}
-use Rattle.kan_model.specs.Programs.Closed.Scope.{width, is_small, in_scope, is_closed}
+use Rattle.kan_model.specs.Programs.Scope.{width, is_small, in_scope, is_closed}
 use Rattle.kan_model.specs.Meaning.Derivations.{Derivation, Step, steps_of, derives, AreSteps, InMeaning}
-use Rattle.kan_model.specs.Streams.Stream.Pulls.{answers_within, pulls_for}
-use Rattle.kan_model.specs.Streams.Stream.Bounds.{top, floor}
-use Rattle.kan_model.specs.Programs.Closed.Tables.{TermEntry, GoalEntry, Tables, is_grown, are_closed, program_of}
+use Rattle.kan_model.specs.Streams.Pulls.{answers_within, pulls_for}
+use Rattle.kan_model.specs.Streams.Bounds.{top, floor}
+use Rattle.kan_model.specs.Programs.Tables.{TermEntry, GoalEntry, Tables, is_grown, are_closed, program_of}
 use Rattle.kan_model.proofs.Meaning.DerivationLaws.{spelled_once}
 
 abbrev q : Template

@@ -4,8 +4,8 @@ use Rattle.std.specs.Prelude.{nat_lt, slice_get, unwrap_or, Some, None, Option}
 use Rattle.std.proofs.lemmas.Bool.{and_parts, ltb-true}
 use Rattle.std.proofs.lemmas.List.{length-append}
 use Rattle.kan_terms.specs.Tree.{Tree}
-use Rattle.kan_model.specs.Programs.Closed.Goals.{Template, Goal}
-use Rattle.kan_model.specs.Programs.Closed.Tables.{TermEntry, GoalEntry, Tables, template_at, goal_at, template_of, templates_after, templates_of, goal_of, goals_after, goals_of, is_term_grown, terms_grown, is_goal_grown, goals_grown, is_grown}
+use Rattle.kan_model.specs.Programs.Goals.{Template, Goal}
+use Rattle.kan_model.specs.Programs.Tables.{TermEntry, GoalEntry, Tables, template_at, goal_at, template_of, templates_after, templates_of, goal_of, goals_after, goals_of, is_term_grown, terms_grown, is_goal_grown, goals_grown, is_grown}
 use Rattle.kan_model.proofs.Programs.TableLaws.{template_at-more, grown-parts, templates-length, goals-length}
 use Rattle.std.proofs.lemmas.Option.{slice_get_past}
 

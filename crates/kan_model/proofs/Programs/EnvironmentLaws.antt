@@ -9,16 +9,16 @@ use Rattle.kan_terms.specs.Tree.{Tree, Tm}
 use Rattle.kan_terms.specs.Terms.{tree}
 use Rattle.kan_terms.specs.declared.terms.Term.{Term}
 use Rattle.kan_terms.specs.declared.terms.Term.TheVariants.{Var}
-use Rattle.kan_model.specs.Programs.Closed.Goals.{Template}
-use Rattle.kan_model.specs.Streams.Stream.Running.{slot, instance, variables}
+use Rattle.kan_model.specs.Programs.Goals.{Template}
+use Rattle.kan_model.specs.Streams.Running.{slot, instance, variables}
 use Rattle.kan_model.specs.Terms.Letters.{letter_of, spelling}
 use Rattle.kan_model.specs.Terms.Flat.{is_flat, letters_waiting}
-use Rattle.kan_model.specs.Programs.Closed.Tables.{TermEntry, template_of}
+use Rattle.kan_model.specs.Programs.Tables.{TermEntry, template_of}
 use Rattle.kan_model.specs.declared.letters.Letter.{Letter}
 use Rattle.kan_model.specs.declared.letters.Letter.TheVariants.{Nil as NilLetter}
 use Rattle.kan_model.specs.declared.nodes.TermNode.{TermNode}
 use Rattle.kan_model.specs.declared.nodes.TermNode.TheVariants.{Slot, Sym, Str, Num, Truth, Nil, Pair}
-use Rattle.kan_model.specs.Programs.Closed.Nodes.{term_entry}
+use Rattle.kan_model.specs.Programs.Nodes.{term_entry}
 
 -- the letter of what may be a term
 abbrev pub letter_found : Option Term → Letter

@@ -5,9 +5,9 @@ use Rattle.std.proofs.lemmas.List.{map-append, length-map}
 use Rattle.std.proofs.lemmas.Option.{unwrap_or-slice_get, slice_get-map}
 use Rattle.std.proofs.lemmas.List.{take_more}
 use Rattle.kan_terms.specs.Tree.{Tree}
-use Rattle.kan_model.specs.Programs.Closed.Goals.{Template, Goal}
-use Rattle.kan_model.specs.Programs.Closed.Measures.{slots, most_slots, goal_slots, noted_height}
-use Rattle.kan_model.specs.Programs.Closed.Tables.{template_at, goal_at}
+use Rattle.kan_model.specs.Programs.Goals.{Template, Goal}
+use Rattle.kan_model.specs.Programs.Measures.{slots, most_slots, goal_slots, noted_height}
+use Rattle.kan_model.specs.Programs.Tables.{template_at, goal_at}
 
 -- an element of a list of numbers that is made from another list
 picked : {X : Type 0} (f : X → ℕ) (xs : List X) (i : ℕ) (d : X) (e : ℕ) → i < length xs → get_or (map f xs) i e ≡ f (get_or xs i d)

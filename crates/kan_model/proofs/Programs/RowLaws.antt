@@ -2,10 +2,10 @@
 use Rattle.std.proofs.Common.{◌≡◌, ℕ, Bool, true, false, List, [], ◌∷◌, ◌++◌, length, map, sym, ◌∙◌, ap, subst, if◌then◌else◌}
 use Rattle.std.specs.Prelude.{IsTrue}
 use Rattle.std.proofs.lemmas.List.{map-append}
-use Rattle.kan_model.specs.Programs.Closed.Measures.{slots, goal_slots, noted_height, noted_width}
-use Rattle.kan_model.specs.Programs.Closed.Tables.{Tables, template_of, goal_of, templates_of, goals_of, is_term_grown, is_goal_grown, is_grown, with_term, with_goal}
-use Rattle.kan_model.specs.Programs.Closed.Nodes.{term_entry, goal_entry, term_entries, goal_entries, tables_from}
-use Rattle.kan_model.specs.Programs.Closed.Rows.{HeightsNoted, SlotsNoted, WidthsNoted, GoalSlotsNoted}
+use Rattle.kan_model.specs.Programs.Measures.{slots, goal_slots, noted_height, noted_width}
+use Rattle.kan_model.specs.Programs.Tables.{Tables, template_of, goal_of, templates_of, goals_of, is_term_grown, is_goal_grown, is_grown, with_term, with_goal}
+use Rattle.kan_model.specs.Programs.Nodes.{term_entry, goal_entry, term_entries, goal_entries, tables_from}
+use Rattle.kan_model.specs.Programs.Rows.{HeightsNoted, SlotsNoted, WidthsNoted, GoalSlotsNoted}
 use Rattle.kan_model.proofs.Programs.TableLaws.{templates-more, goals-more, goals-with_term, grown-with_term, grown-with_goal}
 use Rattle.kan_model.proofs.Programs.NoteLaws.{noted-more}
 use Rattle.kan_model.specs.declared.nodes.TermRow.{TermRow}

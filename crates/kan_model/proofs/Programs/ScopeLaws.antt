@@ -7,11 +7,11 @@ use Rattle.std.proofs.lemmas.List.{length-map}
 use Rattle.std.proofs.lemmas.List.Folds.{list_all-append, list_all-map}
 use Rattle.std.proofs.lemmas.Option.{slice_get-map, slice_get_within}
 use Rattle.kan_terms.specs.Tree.{Tree}
-use Rattle.kan_model.specs.Programs.Closed.Goals.{Template, Goal, Primitive, Relation}
-use Rattle.kan_model.specs.Programs.Closed.Scope.{height, is_low, all_below, sides_below, in_scope, takes, calls_there, body_in_scope, is_closed}
-use Rattle.kan_model.specs.Programs.Closed.Measures.{slots, most_slots, sides_slots, goal_slots, noted_height}
-use Rattle.kan_model.specs.Programs.Closed.Calls.{call_there, entry_takes}
-use Rattle.kan_model.specs.Programs.Closed.Tables.{GoalEntry, RelationEntry, Tables, template_at, goal_at, templates_of, goals_of, goal_of, goals_after, arguments_at, program_of, is_grown, is_goal_grown, goals_grown, are_closed}
+use Rattle.kan_model.specs.Programs.Goals.{Template, Goal, Primitive, Relation}
+use Rattle.kan_model.specs.Programs.Scope.{height, is_low, all_below, sides_below, in_scope, takes, calls_there, body_in_scope, is_closed}
+use Rattle.kan_model.specs.Programs.Measures.{slots, most_slots, sides_slots, goal_slots, noted_height}
+use Rattle.kan_model.specs.Programs.Calls.{call_there, entry_takes}
+use Rattle.kan_model.specs.Programs.Tables.{GoalEntry, RelationEntry, Tables, template_at, goal_at, templates_of, goals_of, goal_of, goals_after, arguments_at, program_of, is_grown, is_goal_grown, goals_grown, are_closed}
 use Rattle.kan_model.proofs.Programs.NoteLaws.{found-needs}
 use Rattle.kan_model.proofs.Programs.TableLaws.{grown-parts}
 

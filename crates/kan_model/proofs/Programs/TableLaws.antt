@@ -8,8 +8,8 @@ use Rattle.std.proofs.lemmas.List.Folds.{list_all-append}
 use Rattle.std.proofs.lemmas.Option.{unwrap_or-slice_get}
 use Rattle.std.proofs.Math.ListN.{get_or-append}
 use Rattle.kan_terms.specs.Tree.{Tree}
-use Rattle.kan_model.specs.Programs.Closed.Goals.{Template, Goal, Primitive}
-use Rattle.kan_model.specs.Programs.Closed.Tables.{TermEntry, GoalEntry, RelationEntry, Tables, template_at, template_of, templates_after, templates_of, goal_of, goals_after, goals_of, arguments_at, is_term_grown, terms_grown, is_goal_grown, goals_grown, is_grown, with_term, with_argument, with_goal, with_relation}
+use Rattle.kan_model.specs.Programs.Goals.{Template, Goal, Primitive}
+use Rattle.kan_model.specs.Programs.Tables.{TermEntry, GoalEntry, RelationEntry, Tables, template_at, template_of, templates_after, templates_of, goal_of, goals_after, goals_of, arguments_at, is_term_grown, terms_grown, is_goal_grown, goals_grown, is_grown, with_term, with_argument, with_goal, with_relation}
 
 -- the templates of a table with one entry more
 pub templates-more : (ts : List Template) (es : List TermEntry) (e : TermEntry) →

@@ -3,9 +3,9 @@ use Rattle.std.proofs.Common.{◌≡◌, ℕ, Bool, true, false, eqb, List, [], 
 use Rattle.std.proofs.lemmas.List.{map-append}
 use Rattle.kan_terms.specs.Tree.{Tm}
 use Rattle.kan_terms.proofs.TreeLaws.{fill-fill, fill-same, fill-leaf}
-use Rattle.kan_model.specs.Stores.Store.Store.{Equation}
-use Rattle.kan_model.specs.Stores.Store.Solve.{Replacement, image, apply, replace_sides, put_first, Solves, solve_by}
-use Rattle.kan_model.specs.Stores.Store.Composition.{apply_sides, compose, ComposeIsBoth, go_on, SolverGoesOn}
+use Rattle.kan_model.specs.Stores.Store.{Equation}
+use Rattle.kan_model.specs.Stores.Solve.{Replacement, image, apply, replace_sides, put_first, Solves, solve_by}
+use Rattle.kan_model.specs.Stores.Composition.{apply_sides, compose, ComposeIsBoth, go_on, SolverGoesOn}
 use Rattle.kan_model.proofs.Solving.SolveLaws.{solve_by-Solves, Solves-one_answer}
 use Rattle.kan_model.proofs.Solving.UnifierLaws.{apply-put_first}
 

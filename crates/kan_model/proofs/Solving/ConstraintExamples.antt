@@ -1,10 +1,10 @@
 -- Worked examples of constraints: which answers they leave, and how they are written.
 use Rattle.std.proofs.Common.{◌≡◌, ℕ, refl, List, [], ◌∷◌, ◌++◌, None, pos, codes}
 use Rattle.kan_terms.specs.Tree.{Tree}
-use Rattle.kan_model.specs.Programs.Closed.Goals.{Primitive, Goal, Template}
-use Rattle.kan_model.specs.Stores.Store.Solve.{solve_by, rounds, steps}
-use Rattle.kan_model.specs.Answers.Answer.Decimals.{decimal_text}
-use Rattle.kan_model.specs.Answers.Answer.Output.{runs_output, line}
+use Rattle.kan_model.specs.Programs.Goals.{Primitive, Goal, Template}
+use Rattle.kan_model.specs.Stores.Solve.{solve_by, rounds, steps}
+use Rattle.kan_model.specs.Answers.Decimals.{decimal_text}
+use Rattle.kan_model.specs.Answers.Output.{runs_output, line}
 
 abbrev q : Template
 q = Tree.leaf 0

@@ -4,13 +4,13 @@ use Rattle.std.specs.List.{list_all}
 use Rattle.std.proofs.lemmas.Bool.{and_from, and_parts, or_cases, both_ways, ltb-true, eqb-true, ne_eqb, false_from_ne_true, true≢false}
 use Rattle.kan_terms.specs.Tree.{Tree, Tm, occurs}
 use Rattle.kan_terms.proofs.TreeLaws.{fill-leaf}
-use Rattle.kan_model.specs.Programs.Closed.Goals.{Primitive}
-use Rattle.kan_model.specs.Programs.Closed.Scope.{all_below, sides_below}
-use Rattle.kan_model.specs.Stores.Store.Store.{equations}
-use Rattle.kan_model.specs.Stores.Store.Solve.{Replacement, Work, apply, work, Solves, left_first, solve, solve_store}
-use Rattle.kan_model.specs.Stores.Store.Kept.{allows, is_variable, gives_type, has_type, lacks_type, gives_one_type, holds_under, holds_with}
-use Rattle.kan_model.specs.Stores.Store.Composition.{apply_sides, compose, go_on, FreshIsKept}
-use Rattle.kan_model.specs.Stores.Store.Unifiers.{replaces}
+use Rattle.kan_model.specs.Programs.Goals.{Primitive}
+use Rattle.kan_model.specs.Programs.Scope.{all_below, sides_below}
+use Rattle.kan_model.specs.Stores.Store.{equations}
+use Rattle.kan_model.specs.Stores.Solve.{Replacement, Work, apply, work, Solves, left_first, solve, solve_store}
+use Rattle.kan_model.specs.Stores.Kept.{allows, is_variable, gives_type, has_type, lacks_type, gives_one_type, holds_under, holds_with}
+use Rattle.kan_model.specs.Stores.Composition.{apply_sides, compose, go_on, FreshIsKept}
+use Rattle.kan_model.specs.Stores.Unifiers.{replaces}
 use Rattle.kan_model.specs.declared.prims.Kind.{Kind}
 use Rattle.kan_model.specs.declared.prims.Kind.TheVariants.{Symbol, Number, Text}
 use Rattle.kan_model.proofs.Solving.VariableCount.{stands}

@@ -3,9 +3,9 @@ use Rattle.std.proofs.Common.{◌≡◌, ◌⊎◌, ℕ, Bool, true, false, eqb,
 use Rattle.std.proofs.lemmas.Bool.{eqb-true, eqb-false, or_cases, or_right, or_parts, both_ways, false_from_ne_true, true≢false}
 use Rattle.kan_terms.specs.Tree.{Tree, Tm, occurs}
 use Rattle.kan_terms.proofs.TreeLaws.{fill-leaf, fill-same_occurs, occurs-fill}
-use Rattle.kan_model.specs.Stores.Store.Store.{Equation}
-use Rattle.kan_model.specs.Stores.Store.Solve.{Replacement, Work, image, apply, replace_sides, put_first, Solves, solve_by}
-use Rattle.kan_model.specs.Stores.Store.Unifiers.{replaces, ReplacedIsGone, AppliedTwice}
+use Rattle.kan_model.specs.Stores.Store.{Equation}
+use Rattle.kan_model.specs.Stores.Solve.{Replacement, Work, image, apply, replace_sides, put_first, Solves, solve_by}
+use Rattle.kan_model.specs.Stores.Unifiers.{replaces, ReplacedIsGone, AppliedTwice}
 use Rattle.kan_model.proofs.Solving.WorkLaws.{OneIs, work_explained}
 use Rattle.kan_model.proofs.Solving.VariableCount.{stands, stands_in_sides, replaced_gone}
 use Rattle.kan_model.proofs.Solving.SolveLaws.{solve_by-Solves, after_stand, term_stands, replaced_stands, parts_stand}

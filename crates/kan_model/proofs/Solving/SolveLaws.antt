@@ -3,8 +3,8 @@ use Rattle.std.proofs.Common.{◌≡◌, ℕ, zero, suc, ◌<◌, ◌≤◌, Boo
 use Rattle.std.proofs.lemmas.Bool.{or_left, or_right, eq-eqb}
 use Rattle.kan_terms.specs.Tree.{Tree, Tm, occurs}
 use Rattle.kan_terms.proofs.TreeLaws.{size-positive}
-use Rattle.kan_model.specs.Stores.Store.Store.{Equation}
-use Rattle.kan_model.specs.Stores.Store.Solve.{Replacement, Work, work, replace_sides, put_first, Solves, sizes, above_all, steps, rounds, solve_by}
+use Rattle.kan_model.specs.Stores.Store.{Equation}
+use Rattle.kan_model.specs.Stores.Solve.{Replacement, Work, work, replace_sides, put_first, Solves, sizes, above_all, steps, rounds, solve_by}
 use Rattle.kan_model.proofs.Solving.WorkLaws.{OneIs, work_explained}
 use Rattle.kan_model.proofs.Solving.VariableCount.{stands_in_sides, stands, count, Below, count_bounded, count_le, count_lt, above_stands, stands_replaced, replaced_gone}
 

@@ -3,9 +3,9 @@ use Rattle.std.proofs.Common.{◌≡◌, ℕ, Bool, true, false, eqb, List, [], 
 use Rattle.std.proofs.lemmas.Bool.{eq-eqb, eqb-true}
 use Rattle.kan_terms.specs.Tree.{Tree, Tm, fill, occurs}
 use Rattle.kan_terms.proofs.TreeLaws.{fill-fill, fill-same, fill-absent}
-use Rattle.kan_model.specs.Stores.Store.Store.{Equation}
-use Rattle.kan_model.specs.Stores.Store.Solve.{Replacement, Work, image, apply, replace, replace_sides, put_first, Solves, solve_by}
-use Rattle.kan_model.specs.Stores.Store.Unifiers.{Unifies, Factors, AnswerUnifies, AnswerMostGeneral, FactorsUnify}
+use Rattle.kan_model.specs.Stores.Store.{Equation}
+use Rattle.kan_model.specs.Stores.Solve.{Replacement, Work, image, apply, replace, replace_sides, put_first, Solves, solve_by}
+use Rattle.kan_model.specs.Stores.Unifiers.{Unifies, Factors, AnswerUnifies, AnswerMostGeneral, FactorsUnify}
 use Rattle.kan_model.proofs.Solving.WorkLaws.{OneIs, work_explained}
 use Rattle.kan_model.proofs.Solving.SolveLaws.{solve_by-Solves}
 

@@ -3,8 +3,8 @@ use Rattle.std.proofs.Common.{◌≡◌, ◌≢◌, ◌⊎◌, ℕ, ◌<◌, Boo
 use Rattle.std.proofs.lemmas.Bool.{ne_eqb, or_cases, eqb-true, true≢false}
 use Rattle.kan_terms.specs.Tree.{Tree, Tm, fill, occurs, term_eq, size}
 use Rattle.kan_terms.proofs.TreeLaws.{term_eq-true, eq-term_eq, size-fill}
-use Rattle.kan_model.specs.Stores.Store.Store.{Equation}
-use Rattle.kan_model.specs.Stores.Store.Solve.{Work, work, work_apart, unless_inside}
+use Rattle.kan_model.specs.Stores.Store.{Equation}
+use Rattle.kan_model.specs.Stores.Solve.{Work, work, work_apart, unless_inside}
 
 -- one of two sides is a variable, and the other one the term
 abbrev pub OneIs : ℕ → Tm → Tm → Tm → Type 0

@@ -1,10 +1,10 @@
 -- Worked examples of runs over relations: fair turns, the fuel, and the end.
 use Rattle.std.proofs.Common.{◌≡◌, ℕ, refl, List, [], ◌∷◌, ◌++◌, Option, None, Some, codes}
 use Rattle.kan_terms.specs.Tree.{Tree}
-use Rattle.kan_model.specs.Programs.Closed.Goals.{Primitive, Goal, Relation, Program, Template}
-use Rattle.kan_model.specs.Stores.Store.Solve.{solve_by, rounds, steps}
-use Rattle.kan_model.specs.Answers.Answer.Decimals.{decimal_text}
-use Rattle.kan_model.specs.Answers.Answer.Output.{runs_output, line}
+use Rattle.kan_model.specs.Programs.Goals.{Primitive, Goal, Relation, Program, Template}
+use Rattle.kan_model.specs.Stores.Solve.{solve_by, rounds, steps}
+use Rattle.kan_model.specs.Answers.Decimals.{decimal_text}
+use Rattle.kan_model.specs.Answers.Output.{runs_output, line}
 
 abbrev q : Template
 q = Tree.leaf 0

@@ -1,6 +1,6 @@
 -- Laws of streams.
 use Rattle.std.proofs.Common.{refl}
-use Rattle.kan_model.specs.Streams.Stream.Stream.{Stream, AppendEmpty}
+use Rattle.kan_model.specs.Streams.Stream.{Stream, AppendEmpty}
 
 -- the empty stream in front changes nothing
 pub append_empty : AppendEmpty

@@ -3,13 +3,13 @@ use Rattle.std.specs.Prelude.{ℕ, suc, ◌+◌, Bool, true, false, ◌&&◌, no
 use Rattle.std.specs.List.{list_all, list_any}
 use Rattle.kan_terms.specs.Tree.{Tree, Tm, fill, leaves, occurs, term_eq}
 use Rattle.kan_terms.specs.Table.{Table}
-use Rattle.kan_model.specs.Programs.Closed.Goals.{Primitive}
-use Rattle.kan_model.specs.Stores.Store.Store.{Store}
-use Rattle.kan_model.specs.Stores.Store.Solve.{Replaced, Replacement, apply, solve_by}
-use Rattle.kan_model.specs.Stores.Store.Kept.{is_kept, has_type}
+use Rattle.kan_model.specs.Programs.Goals.{Primitive}
+use Rattle.kan_model.specs.Stores.Store.{Store}
+use Rattle.kan_model.specs.Stores.Solve.{Replaced, Replacement, apply, solve_by}
+use Rattle.kan_model.specs.Stores.Kept.{is_kept, has_type}
 use Rattle.kan_model.specs.declared.prims.Kind.TheVariants.{Number, Text}
-use Rattle.kan_model.specs.Answers.Answer.Order.{bytes_le, in_order, each_once, place_of, stands_in}
-use Rattle.kan_model.specs.Answers.Answer.Text.{symbol_text}
+use Rattle.kan_model.specs.Answers.Order.{bytes_le, in_order, each_once, place_of, stands_in}
+use Rattle.kan_model.specs.Answers.Text.{symbol_text}
 
 -- a pair of a disequality over names: a name, and the term that would make it false
 pub record NamedPair : Type 0 where

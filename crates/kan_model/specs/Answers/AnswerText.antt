@@ -1,13 +1,13 @@
 -- The answer of a store, with its lists in the order in which they are written, and its text.
 use Rattle.std.specs.Prelude.{ℕ, Bool, List, [], ◌∷◌, ◌++◌, map, unwrap_or, codes}
-use Rattle.kan_model.specs.Stores.Store.Store.{Store}
-use Rattle.kan_model.specs.Stores.Store.Solve.{Replacement, image, solve_store}
-use Rattle.kan_model.specs.Stores.Store.Kept.{has_type}
+use Rattle.kan_model.specs.Stores.Store.{Store}
+use Rattle.kan_model.specs.Stores.Solve.{Replacement, image, solve_store}
+use Rattle.kan_model.specs.Stores.Kept.{has_type}
 use Rattle.kan_model.specs.declared.prims.Kind.TheVariants.{Symbol, Number, Text}
-use Rattle.kan_model.specs.Answers.Answer.Order.{bytes_le, in_order}
+use Rattle.kan_model.specs.Answers.Order.{bytes_le, in_order}
 use Rattle.kan_terms.specs.Table.{Table}
-use Rattle.kan_model.specs.Answers.Answer.Text.{symbol_text, name_text, term_text, with_spaces}
-use Rattle.kan_model.specs.Answers.Answer.Answer.{NamedPair, Absence, Answer, named_variables, in_names, forms_of, strongest, form_in_names, names_where, absences_of}
+use Rattle.kan_model.specs.Answers.Text.{symbol_text, name_text, term_text, with_spaces}
+use Rattle.kan_model.specs.Answers.Answer.{NamedPair, Absence, Answer, named_variables, in_names, forms_of, strongest, form_in_names, names_where, absences_of}
 
 -- a pair of a disequality: the name, and what it must not be
 abbrev pub pair_text : Table → NamedPair → List ℕ

@@ -4,7 +4,7 @@ use Rattle.std.specs.List.{list_all}
 use Rattle.kan_terms.specs.Tree.{Gd, has_symbol, ground_eq}
 use Rattle.kan_terms.specs.Valuations.{value_at, value}
 use Rattle.kan_model.specs.Meaning.Holds.{is_symbol, is_number, is_string}
-use Rattle.kan_model.specs.Answers.Answer.Answer.{NamedPair, Absence, Answer}
+use Rattle.kan_model.specs.Answers.Answer.{NamedPair, Absence, Answer}
 
 -- a pair's name has the value of its term
 abbrev pub pair_met : List Gd → NamedPair → Bool

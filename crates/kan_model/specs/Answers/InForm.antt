@@ -2,15 +2,15 @@
 use Rattle.std.specs.Prelude.{◌≡◌, ℕ, suc, ◌<◌, ◌^◌, pos, negsuc, Bool, true, false, ◌&&◌, not, eqb, nat_lt, List, [], ◌∷◌, ◌++◌, length, map, Some}
 use Rattle.std.specs.List.{list_all, list_any}
 use Rattle.kan_terms.specs.Tree.{Tree, Tm, occurs, term_eq}
-use Rattle.kan_model.specs.Stores.Store.Store.{Store, Equation}
-use Rattle.kan_model.specs.Stores.Store.Solve.{Replacement, solve_by}
-use Rattle.kan_model.specs.Stores.Store.Kept.{is_kept}
-use Rattle.kan_model.specs.Answers.Answer.Order.{stands_in}
-use Rattle.kan_model.specs.Programs.Closed.Scope.{all_below}
+use Rattle.kan_model.specs.Stores.Store.{Store, Equation}
+use Rattle.kan_model.specs.Stores.Solve.{Replacement, solve_by}
+use Rattle.kan_model.specs.Stores.Kept.{is_kept}
+use Rattle.kan_model.specs.Answers.Order.{stands_in}
+use Rattle.kan_model.specs.Programs.Scope.{all_below}
 use Rattle.kan_terms.specs.Table.{Table}
-use Rattle.kan_model.specs.Answers.Answer.Text.{symbol_text}
-use Rattle.kan_model.specs.Answers.Answer.Answer.{NamedPair, Absence, Answer, named_variables, tag_le, tags_of}
-use Rattle.kan_model.specs.Answers.Answer.AnswerText.{difference_le, answer_of}
+use Rattle.kan_model.specs.Answers.Text.{symbol_text}
+use Rattle.kan_model.specs.Answers.Answer.{NamedPair, Absence, Answer, named_variables, tag_le, tags_of}
+use Rattle.kan_model.specs.Answers.AnswerText.{difference_le, answer_of}
 
 -- numbers that count up from n
 abbrev pub counts_up : ℕ → List ℕ → Bool

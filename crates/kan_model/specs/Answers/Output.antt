@@ -1,12 +1,12 @@
 -- What is written for a program and its runs: a line for each answer, and after each run its summary line.
 use Rattle.std.specs.Prelude.{ℕ, List, [], ◌∷◌, ◌++◌, length, codes}
 use Rattle.std.specs.List.{flat_map}
-use Rattle.kan_model.specs.Programs.Closed.Goals.{Program, Query}
-use Rattle.kan_model.specs.Stores.Store.Store.{Store}
-use Rattle.kan_model.specs.Streams.Stream.Taking.{Ending, Taken, take_query}
+use Rattle.kan_model.specs.Programs.Goals.{Program, Query}
+use Rattle.kan_model.specs.Stores.Store.{Store}
+use Rattle.kan_model.specs.Streams.Taking.{Ending, Taken, take_query}
 use Rattle.kan_terms.specs.Table.{Table}
-use Rattle.kan_model.specs.Answers.Answer.Decimals.{decimal_text}
-use Rattle.kan_model.specs.Answers.Answer.AnswerText.{answer_of, answer_text}
+use Rattle.kan_model.specs.Answers.Decimals.{decimal_text}
+use Rattle.kan_model.specs.Answers.AnswerText.{answer_of, answer_text}
 
 -- a text with the line feed that ends it
 abbrev pub line : List ℕ → List ℕ

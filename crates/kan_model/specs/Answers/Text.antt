@@ -3,7 +3,7 @@ use Rattle.std.specs.Prelude.{ℕ, Bool, true, false, eqb, List, [], ◌∷◌, 
 use Rattle.std.specs.List.{flat_map}
 use Rattle.kan_terms.specs.Tree.{Tree, Tm}
 use Rattle.kan_terms.specs.Table.{Table, name_of}
-use Rattle.kan_model.specs.Answers.Answer.Decimals.{decimal_text, number_text}
+use Rattle.kan_model.specs.Answers.Decimals.{decimal_text, number_text}
 
 abbrev pub symbol_text : Table → ℕ → List ℕ
 symbol_text table s = unwrap_or (name_of table.symbols s) []

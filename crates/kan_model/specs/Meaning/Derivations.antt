@@ -2,7 +2,7 @@
 use Rattle.std.specs.Prelude.{◌≡◌, Decides, ℕ, Bool, true, false, ◌&&◌, eqb, List, [], ◌∷◌, ◌++◌, length, Some, None, slice_get}
 use Rattle.kan_terms.specs.Tree.{Gd}
 use Rattle.kan_terms.specs.Valuations.{value}
-use Rattle.kan_model.specs.Programs.Closed.Goals.{Primitive, Goal, Template, Relation, Program}
+use Rattle.kan_model.specs.Programs.Goals.{Primitive, Goal, Template, Relation, Program}
 use Rattle.kan_model.specs.Meaning.Holds.{holds_at}
 
 -- one leaf for what holds by itself, and one node for each goal that is built of others

@@ -3,8 +3,8 @@ use Rattle.std.specs.Prelude.{◌≡◌, Bool, true, false, not, List, length, �
 use Rattle.std.specs.List.{list_all}
 use Rattle.kan_terms.specs.Tree.{Tree, Tm, Gd, has_symbol, ground_eq}
 use Rattle.kan_terms.specs.Valuations.{value}
-use Rattle.kan_model.specs.Programs.Closed.Goals.{Primitive, on_sides}
-use Rattle.kan_model.specs.Stores.Store.Store.{Store}
+use Rattle.kan_model.specs.Programs.Goals.{Primitive, on_sides}
+use Rattle.kan_model.specs.Stores.Store.{Store}
 
 abbrev pub is_symbol : Gd → Bool
 is_symbol (Tree.sym s) = true

@@ -1,6 +1,6 @@
 -- Which entries of the table of goals are calls that relations answer.
 use Rattle.std.specs.Prelude.{ℕ, Bool, true, false, eqb, List, Option, Some, None, slice_get}
-use Rattle.kan_model.specs.Programs.Closed.Tables.{GoalEntry, RelationEntry}
+use Rattle.kan_model.specs.Programs.Tables.{GoalEntry, RelationEntry}
 
 -- a relation is there, and takes so many arguments
 abbrev pub entry_takes : Option RelationEntry → ℕ → Bool

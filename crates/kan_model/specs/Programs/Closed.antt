@@ -1,10 +1,10 @@
 -- What a program of the code stands for.
 use Rattle.std.specs.Prelude.{◌≡◌, ℕ, List, true, false, Result, Ok, Err}
-use Rattle.kan_model.specs.Programs.Closed.Goals as model
-use Rattle.kan_model.specs.Programs.Closed.Goals.{Template, Goal}
-use Rattle.kan_model.specs.Programs.Closed.Tables as facts
-use Rattle.kan_model.specs.Programs.Closed.Tables.{Tables, program_of, are_closed}
-use Rattle.kan_model.specs.Programs.Closed.Drafts as drafts
+use Rattle.kan_model.specs.Programs.Goals as model
+use Rattle.kan_model.specs.Programs.Goals.{Template, Goal}
+use Rattle.kan_model.specs.Programs.Tables as facts
+use Rattle.kan_model.specs.Programs.Tables.{Tables, program_of, are_closed}
+use Rattle.kan_model.specs.Programs.Drafts as drafts
 use Rattle.kan_model.specs.declared.draft.Draft.{Draft}
 use Rattle.kan_model.specs.declared.nodes.Query.{Query}
 use Rattle.kan_model.specs.declared.program.Program.{Program}

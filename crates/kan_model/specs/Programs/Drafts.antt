@@ -1,8 +1,8 @@
 -- What a draft stands for.
 use Rattle.std.specs.Prelude.{List}
-use Rattle.kan_model.specs.Programs.Closed.Goals.{Template, Goal}
-use Rattle.kan_model.specs.Programs.Closed.Tables.{Tables, templates_of, goals_of}
-use Rattle.kan_model.specs.Programs.Closed.Nodes.{tables_from}
+use Rattle.kan_model.specs.Programs.Goals.{Template, Goal}
+use Rattle.kan_model.specs.Programs.Tables.{Tables, templates_of, goals_of}
+use Rattle.kan_model.specs.Programs.Nodes.{tables_from}
 use Rattle.kan_model.specs.declared.draft.Draft.{Draft}
 
 abbrev pub tables : Draft → Tables

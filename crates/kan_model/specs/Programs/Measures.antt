@@ -1,8 +1,8 @@
 -- How many slots must be in scope for a template and for a goal, and the heights and widths that tables note.
 use Rattle.std.specs.Prelude.{ℕ, ◌+◌, ◌-◌, ◌^◌, min, max, List, [], ◌∷◌}
 use Rattle.kan_terms.specs.Tree.{Tree}
-use Rattle.kan_model.specs.Programs.Closed.Goals.{Template, Primitive, Goal}
-use Rattle.kan_model.specs.Programs.Closed.Scope.{height, width}
+use Rattle.kan_model.specs.Programs.Goals.{Template, Primitive, Goal}
+use Rattle.kan_model.specs.Programs.Scope.{height, width}
 
 -- one more than the greatest slot of a template
 abbrev pub slots : Template → ℕ

@@ -1,6 +1,6 @@
 -- What the nodes and rows of the code stand for: entries of tables.
 use Rattle.std.specs.Prelude.{ℕ, List, map}
-use Rattle.kan_model.specs.Programs.Closed.Tables.{TermEntry, GoalEntry, RelationEntry, Tables}
+use Rattle.kan_model.specs.Programs.Tables.{TermEntry, GoalEntry, RelationEntry, Tables}
 use Rattle.kan_model.specs.declared.nodes.TermNode.{TermNode}
 use Rattle.kan_model.specs.declared.nodes.TermNode.TheVariants.{Slot, Sym, Str, Num, Truth, Nil, Pair}
 use Rattle.kan_model.specs.declared.nodes.GoalNode.{GoalNode}

@@ -1,7 +1,7 @@
 -- What the rows of tables note of the trees that they stand for.
 use Rattle.std.specs.Prelude.{◌≡◌, List, map}
-use Rattle.kan_model.specs.Programs.Closed.Goals.{Template, Goal}
-use Rattle.kan_model.specs.Programs.Closed.Measures.{slots, goal_slots, noted_height, noted_width}
+use Rattle.kan_model.specs.Programs.Goals.{Template, Goal}
+use Rattle.kan_model.specs.Programs.Measures.{slots, goal_slots, noted_height, noted_width}
 use Rattle.kan_model.specs.declared.nodes.TermRow.{TermRow}
 use Rattle.kan_model.specs.declared.nodes.GoalRow.{GoalRow}
 

@@ -2,8 +2,8 @@
 use Rattle.std.specs.Prelude.{ℕ, suc, ◌+◌, ◌^◌, max, Bool, true, false, ◌&&◌, eqb, nat_lt, nat_le, List, length, Option, Some, None, slice_get}
 use Rattle.std.specs.List.{list_all}
 use Rattle.kan_terms.specs.Tree.{Tree}
-use Rattle.kan_model.specs.Programs.Closed.Goals.{Template, Primitive, Goal, Relation, Program}
-use Rattle.kan_model.specs.Stores.Store.Store.{Store}
+use Rattle.kan_model.specs.Programs.Goals.{Template, Primitive, Goal, Relation, Program}
+use Rattle.kan_model.specs.Stores.Store.{Store}
 
 -- the width of a goal: how many variables it can take before its calls are forced, those that name a call's arguments among them
 abbrev pub width : Goal → ℕ

@@ -2,8 +2,8 @@
 use Rattle.std.specs.List.{list_all}
 use Rattle.std.specs.Prelude.{ℕ, suc, ◌+◌, ℤ, Bool, true, ◌&&◌, nat_lt, nat_le, List, [], ◌∷◌, ◌++◌, length, map, take, drop, slice_get, unwrap_or}
 use Rattle.kan_terms.specs.Tree.{Tree}
-use Rattle.kan_model.specs.Programs.Closed.Goals.{Template, Primitive, Goal, Program}
-use Rattle.kan_model.specs.Programs.Closed.Scope.{is_closed}
+use Rattle.kan_model.specs.Programs.Goals.{Template, Primitive, Goal, Program}
+use Rattle.kan_model.specs.Programs.Scope.{is_closed}
 
 -- an entry of the table of templates
 pub data TermEntry : Type 0 where

@@ -3,11 +3,11 @@ use Rattle.std.specs.Prelude.{◌≡◌, ℕ, Bool, true, false, List, [], ◌�
 use Rattle.std.specs.List.{list_all}
 use Rattle.kan_terms.specs.Tree.{Tree, Tm, Gd, ground_eq}
 use Rattle.kan_terms.specs.Valuations.{value}
-use Rattle.kan_model.specs.Programs.Closed.Goals.{Primitive}
-use Rattle.kan_model.specs.Stores.Store.Store.{Store, Equation, equations}
-use Rattle.kan_model.specs.Stores.Store.Solve.{Replacement, image, apply, solve, solve_store}
-use Rattle.kan_model.specs.Stores.Store.Kept.{is_kept, has_type}
-use Rattle.kan_model.specs.Answers.Answer.Answer.{has_absence, same_form}
+use Rattle.kan_model.specs.Programs.Goals.{Primitive}
+use Rattle.kan_model.specs.Stores.Store.{Store, Equation, equations}
+use Rattle.kan_model.specs.Stores.Solve.{Replacement, image, apply, solve, solve_store}
+use Rattle.kan_model.specs.Stores.Kept.{is_kept, has_type}
+use Rattle.kan_model.specs.Answers.Answer.{has_absence, same_form}
 use Rattle.kan_model.specs.declared.prims.Kind.{Kind}
 use Rattle.kan_model.specs.declared.prims.Kind.TheVariants.{Symbol, Number, Text}
 

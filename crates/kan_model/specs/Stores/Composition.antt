@@ -1,11 +1,11 @@
 -- How the solver goes on with further equations behind an answer; the equation of a new variable is always kept.
 use Rattle.std.specs.Prelude.{◌≡◌, ℕ, Bool, true, List, ◌++◌, map, Option, Some, None, option_map}
 use Rattle.kan_terms.specs.Tree.{Tree, Tm}
-use Rattle.kan_model.specs.Programs.Closed.Goals.{Primitive}
-use Rattle.kan_model.specs.Programs.Closed.Scope.{all_below, is_counted}
-use Rattle.kan_model.specs.Stores.Store.Store.{Store, Equation, with_prim, with_fresh}
-use Rattle.kan_model.specs.Stores.Store.Solve.{Replaced, Replacement, apply, solve_by}
-use Rattle.kan_model.specs.Stores.Store.Kept.{is_kept}
+use Rattle.kan_model.specs.Programs.Goals.{Primitive}
+use Rattle.kan_model.specs.Programs.Scope.{all_below, is_counted}
+use Rattle.kan_model.specs.Stores.Store.{Store, Equation, with_prim, with_fresh}
+use Rattle.kan_model.specs.Stores.Solve.{Replaced, Replacement, apply, solve_by}
+use Rattle.kan_model.specs.Stores.Kept.{is_kept}
 
 -- an equation under a replacement
 abbrev pub apply_sides : Replacement → Equation → Equation

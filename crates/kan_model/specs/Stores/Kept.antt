@@ -2,9 +2,9 @@
 use Rattle.std.specs.Prelude.{ℕ, Bool, true, false, ◌&&◌, not, eqb, List, Option, Some, None}
 use Rattle.std.specs.List.{list_all, list_any}
 use Rattle.kan_terms.specs.Tree.{Tree, Tm, has_symbol, term_eq}
-use Rattle.kan_model.specs.Programs.Closed.Goals.{Primitive}
-use Rattle.kan_model.specs.Stores.Store.Store.{Store}
-use Rattle.kan_model.specs.Stores.Store.Solve.{Replacement, apply, solve_store}
+use Rattle.kan_model.specs.Programs.Goals.{Primitive}
+use Rattle.kan_model.specs.Stores.Store.{Store}
+use Rattle.kan_model.specs.Stores.Solve.{Replacement, apply, solve_store}
 use Rattle.kan_model.specs.declared.prims.Kind.{Kind}
 use Rattle.kan_model.specs.declared.prims.Kind.TheVariants.{Symbol, Number, Text}
 

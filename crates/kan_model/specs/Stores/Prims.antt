@@ -2,8 +2,8 @@
 use Rattle.kan_terms.specs.Tree.{Tm}
 use Rattle.kan_terms.specs.Terms.{tree}
 use Rattle.kan_terms.specs.declared.terms.TermPair.{TermPair}
-use Rattle.kan_model.specs.Programs.Closed.Goals.{Primitive}
-use Rattle.kan_model.specs.Stores.Store.Store.{Equation}
+use Rattle.kan_model.specs.Programs.Goals.{Primitive}
+use Rattle.kan_model.specs.Stores.Store.{Equation}
 use Rattle.kan_model.specs.declared.prims.Asserted.{Asserted}
 use Rattle.kan_model.specs.declared.prims.Asserted.TheVariants.{Same, Differ, Symbol, Number, Text, Absent}
 

@@ -1,7 +1,7 @@
 -- Solving equations by replacing variables, and which stores are kept.
 use Rattle.std.specs.Prelude.{◌≡◌, ℕ, zero, suc, ◌+◌, max, Bool, true, eqb, List, [], ◌∷◌, map, Option, Some, None, option_map, if◌then◌else◌}
 use Rattle.kan_terms.specs.Tree.{Tree, Tm, fill, occurs, term_eq, size}
-use Rattle.kan_model.specs.Stores.Store.Store.{Store, Equation, equations}
+use Rattle.kan_model.specs.Stores.Store.{Store, Equation, equations}
 
 -- a replacement is a list of variables with the terms that replace them
 pub record Replaced : Type 0 where

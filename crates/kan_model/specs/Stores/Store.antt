@@ -1,7 +1,7 @@
 -- Stores: the primitives that were added, in the order of assertion, and a counter above all their variables.
 use Rattle.std.specs.Prelude.{ℕ, ◌+◌, List, [], ◌∷◌, ◌++◌}
 use Rattle.kan_terms.specs.Tree.{Tm}
-use Rattle.kan_model.specs.Programs.Closed.Goals.{Primitive}
+use Rattle.kan_model.specs.Programs.Goals.{Primitive}
 
 pub record Store : Type 0 where
   pub prims : List (Primitive Tm)

@@ -2,8 +2,8 @@
 use Rattle.std.specs.Prelude.{◌≡◌, ℕ, Bool, true, false, eqb, List, [], ◌∷◌, Some}
 use Rattle.std.specs.List.{list_any}
 use Rattle.kan_terms.specs.Tree.{Tree, Tm, Gd, fill, occurs}
-use Rattle.kan_model.specs.Stores.Store.Store.{Equation}
-use Rattle.kan_model.specs.Stores.Store.Solve.{Replacement, image, apply, solve_by}
+use Rattle.kan_model.specs.Stores.Store.{Equation}
+use Rattle.kan_model.specs.Stores.Solve.{Replacement, image, apply, solve_by}
 
 -- what f puts for variables makes the sides of each equation identical
 abbrev pub Unifies : {V : Type 0} → (ℕ → Tree V) → List Equation → Type 0

@@ -1,10 +1,10 @@
 -- Bounds on the counters of stores: the top and the floor of a thunk, and which thunks fit a program.
 use Rattle.std.specs.Prelude.{◌≡◌, ℕ, ◌+◌, ◌^◌, min, max, true, List, [], ◌∷◌, length, slice_get, Contains}
 use Rattle.std.specs.List.{list_all}
-use Rattle.kan_model.specs.Programs.Closed.Goals.{Program}
-use Rattle.kan_model.specs.Stores.Store.Store.{Store}
-use Rattle.kan_model.specs.Streams.Stream.Stream.{Stream, Thunk}
-use Rattle.kan_model.specs.Programs.Closed.Scope.{width, all_below, in_scope, takes}
+use Rattle.kan_model.specs.Programs.Goals.{Program}
+use Rattle.kan_model.specs.Stores.Store.{Store}
+use Rattle.kan_model.specs.Streams.Stream.{Stream, Thunk}
+use Rattle.kan_model.specs.Programs.Scope.{width, all_below, in_scope, takes}
 
 -- the greatest counter of stores, and at least n; the least one, and at most n
 abbrev pub highest : List Store → ℕ → ℕ

@@ -1,6 +1,6 @@
 -- How many answers a goal can have within a number of pulls, and within how many pulls the answer of a derivation comes.
 use Rattle.std.specs.Prelude.{ℕ, zero, suc, ◌+◌, ◌*◌, ◌^◌, Some, None, slice_get}
-use Rattle.kan_model.specs.Programs.Closed.Goals.{Goal, Program}
+use Rattle.kan_model.specs.Programs.Goals.{Goal, Program}
 use Rattle.kan_model.specs.Meaning.Derivations.{Derivation}
 
 -- a bound on the answers of a goal, where after_pull bounds those of a goal that is run behind one pull

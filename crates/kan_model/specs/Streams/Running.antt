@@ -1,10 +1,10 @@
 -- The stream of a goal, and of a suspension that is forced.
 use Rattle.std.specs.Prelude.{ℕ, zero, suc, true, false, List, [], ◌∷◌, ◌++◌, Option, Some, None, slice_get}
 use Rattle.kan_terms.specs.Tree.{Tree, Tm, fill}
-use Rattle.kan_model.specs.Programs.Closed.Goals.{Primitive, Goal, Template, Relation, Program, on_sides}
-use Rattle.kan_model.specs.Stores.Store.Store.{Store, bare, with_prim, with_fresh}
-use Rattle.kan_model.specs.Stores.Store.Kept.{is_kept}
-use Rattle.kan_model.specs.Streams.Stream.Stream.{Stream, Thunk, empty, one, append, bind_all}
+use Rattle.kan_model.specs.Programs.Goals.{Primitive, Goal, Template, Relation, Program, on_sides}
+use Rattle.kan_model.specs.Stores.Store.{Store, bare, with_prim, with_fresh}
+use Rattle.kan_model.specs.Stores.Kept.{is_kept}
+use Rattle.kan_model.specs.Streams.Stream.{Stream, Thunk, empty, one, append, bind_all}
 
 -- what a slot stands for in an environment
 abbrev pub slot : List Tm → ℕ → Tm

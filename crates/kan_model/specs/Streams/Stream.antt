@@ -1,8 +1,8 @@
 -- Streams as data: stores, and then the end or a suspension, which is a finite tree.
 use Rattle.std.specs.Prelude.{◌≡◌, ℕ, List, [], ◌∷◌, ◌++◌}
 use Rattle.kan_terms.specs.Tree.{Tm}
-use Rattle.kan_model.specs.Programs.Closed.Goals.{Goal}
-use Rattle.kan_model.specs.Stores.Store.Store.{Store}
+use Rattle.kan_model.specs.Programs.Goals.{Goal}
+use Rattle.kan_model.specs.Stores.Store.{Store}
 
 mutual
   -- a stream has stores for its heads, and then ends, or goes on with a thunk

@@ -1,9 +1,9 @@
 -- Taking answers from a stream, up to a limit of answers and a number of pulls, the fuel.
 use Rattle.std.specs.Prelude.{ℕ, zero, suc, List, [], ◌∷◌, Option, Some, None}
-use Rattle.kan_model.specs.Programs.Closed.Goals.{Program, Query}
-use Rattle.kan_model.specs.Stores.Store.Store.{Store}
-use Rattle.kan_model.specs.Streams.Stream.Stream.{Stream}
-use Rattle.kan_model.specs.Streams.Stream.Running.{force, start}
+use Rattle.kan_model.specs.Programs.Goals.{Program, Query}
+use Rattle.kan_model.specs.Stores.Store.{Store}
+use Rattle.kan_model.specs.Streams.Stream.{Stream}
+use Rattle.kan_model.specs.Streams.Running.{force, start}
 
 -- how a run ends
 pub data Ending : Type 0 where

@@ -1,5 +1,5 @@
 use Rattle.std.proofs.Common.{arith, ap, length}
-use Rattle.kan_model.specs.Programs.Closed.Drafts.{tables}
+use Rattle.kan_model.specs.Programs.Drafts.{tables}
 use Rattle.kan_grammar.specs.Texts.GoalForms.{goal_forms}
 use Rattle.goal_forms.specs.Parts.{sites, site_at}
 use Rattle.goal_forms.specs.RelationTables.{relations}

@@ -1,7 +1,7 @@
 use Rattle.goal_forms.specs.Parts.{sites}
 use Rattle.goal_syntax.proofs.Building.GoalsLeftLaws.{clause_falls}
 use Rattle.std.proofs.Common.{sym}
-use Rattle.kan_model.specs.Programs.Closed.Drafts.{tables}
+use Rattle.kan_model.specs.Programs.Drafts.{tables}
 use Rattle.goal_syntax.specs.Building.GoalsBuilt.{built}
 use Rattle.goal_forms.specs.RelationTables.{relations}
 use Rattle.goal_syntax.proofs.Building.GoalsLeftLaws.{clause_fails}

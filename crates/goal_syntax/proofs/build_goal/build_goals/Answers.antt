@@ -3,7 +3,7 @@ use Rattle.goal_forms.specs.RelationTables.{relations}
 use Rattle.goal_syntax.proofs.Building.TableLaws.{grows_on}
 use Rattle.goal_syntax.proofs.Building.GoalsLeftLaws.{work_done, work_falls}
 use Rattle.goal_syntax.proofs.Building.TermHeightLaws.{low_on}
-use Rattle.kan_model.specs.Programs.Closed.Drafts.{tables}
+use Rattle.kan_model.specs.Programs.Drafts.{tables}
 use Rattle.std.proofs.Common.{arith}
 use Rattle.goal_syntax.proofs.Building.GoalsBuiltLaws.{goal_called}
 use Rattle.goal_syntax.proofs.Building.GoalsLeftLaws.{works_done}

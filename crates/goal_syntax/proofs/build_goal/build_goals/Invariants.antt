@@ -1,5 +1,5 @@
 use Rattle.std.proofs.Common.{◌≡◌, [], reverse, length, true}
-use Rattle.kan_model.specs.Programs.Closed.Drafts.{tables}
+use Rattle.kan_model.specs.Programs.Drafts.{tables}
 use Rattle.kan_grammar.specs.Texts.GoalForms.{goal_forms}
 use Rattle.kan_grammar.specs.Texts.Resolved.{conjunction, goals_in}
 use Rattle.goal_syntax.specs.Building.GoalsBuilt.{built, with_goal}

@@ -1,5 +1,5 @@
 use Rattle.std.proofs.Common.{◌∙◌, ap}
-use Rattle.kan_model.specs.Programs.Closed.Drafts.{tables}
+use Rattle.kan_model.specs.Programs.Drafts.{tables}
 use Rattle.goal_forms.specs.Parts.{sites}
 use Rattle.goal_forms.specs.RelationTables.{relations}
 use Rattle.goal_syntax.specs.Building.GoalsBuilt.{own_goal, with_maybe}

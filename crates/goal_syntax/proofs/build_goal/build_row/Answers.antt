@@ -2,7 +2,7 @@ use Rattle.goal_forms.specs.Parts.{sites}
 use Rattle.goal_forms.specs.RelationTables.{relations}
 use Rattle.goal_syntax.proofs.Building.GoalsLeftLaws.{row_waits, row_falls}
 use Rattle.std.proofs.Common.{[], ◌∙◌, ap}
-use Rattle.kan_model.specs.Programs.Closed.Drafts.{tables}
+use Rattle.kan_model.specs.Programs.Drafts.{tables}
 use Rattle.goal_syntax.specs.Building.GoalsBuilt.{built, with_entry}
 use Rattle.goal_syntax.specs.Building.GoalsLeft.{empty_entry, row_goal}
 use Rattle.goal_syntax.proofs.Building.GoalsBuiltLaws.{stands_added, empty_stands}

@@ -1,6 +1,6 @@
 use Rattle.std.proofs.Common.{length}
 use Rattle.std.proofs.lemmas.Bool.{lt-ltb}
-use Rattle.kan_model.specs.Programs.Closed.Drafts.{tables}
+use Rattle.kan_model.specs.Programs.Drafts.{tables}
 use Rattle.goal_syntax.proofs.Building.TableLaws.{grows_on}
 use Rattle.std.proofs.Common.{ap, ◌∙◌}
 use Rattle.kan_grammar.specs.Texts.GoalForms.{goal_forms}

@@ -1,4 +1,4 @@
-use Rattle.kan_model.specs.Programs.Closed.Drafts.{tables}
+use Rattle.kan_model.specs.Programs.Drafts.{tables}
 use Rattle.goal_forms.specs.Parts.{sites}
 use Rattle.goal_syntax.proofs.Building.TableLaws.{grows_on}
 use Rattle.goal_syntax.proofs.Building.CallsThereLaws.{suspended_closed, suspended_equational}

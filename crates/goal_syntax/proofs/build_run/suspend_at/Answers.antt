@@ -1,7 +1,7 @@
 use Rattle.std.proofs.Common.{ap, ◌∙◌}
 use Rattle.std.proofs.lemmas.Bool.{lt-ltb}
-use Rattle.kan_model.specs.Programs.Closed.Drafts.{tables}
-use Rattle.kan_model.specs.Programs.Closed.Goals.{Goal}
+use Rattle.kan_model.specs.Programs.Drafts.{tables}
+use Rattle.kan_model.specs.Programs.Goals.{Goal}
 use Rattle.goal_syntax.proofs.build_run.suspend_at.Goals as goal
 
 pub returns-in_ok-later-in-All-clause-made : goal.returns-in_ok-later-in-All-clause-made

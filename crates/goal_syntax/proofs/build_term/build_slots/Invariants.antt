@@ -1,6 +1,6 @@
 use Rattle.std.proofs.Common.{◌≡◌, true, ◌+◌, ◌≤◌, drop, length}
-use Rattle.kan_model.specs.Programs.Closed.Drafts.{tables, templates}
-use Rattle.kan_model.specs.Programs.Closed.Scope.{is_low}
+use Rattle.kan_model.specs.Programs.Drafts.{tables, templates}
+use Rattle.kan_model.specs.Programs.Scope.{is_low}
 use Rattle.std.specs.List.{list_all}
 use Rattle.kan_grammar.specs.Texts.ProgramText.{slot_list}
 use Rattle.goal_syntax.specs.Building.TermsLeft.{AddsTerms}

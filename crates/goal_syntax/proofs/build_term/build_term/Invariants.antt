@@ -1,9 +1,9 @@
 use Rattle.std.proofs.Common.{◌≡◌, ◌∷◌, [], reverse, length, true}
-use Rattle.kan_model.specs.Programs.Closed.Drafts.{tables, templates}
+use Rattle.kan_model.specs.Programs.Drafts.{tables, templates}
 use Rattle.kan_grammar.specs.Texts.Resolved.{template_in}
 use Rattle.goal_syntax.specs.Building.TermsLeft.{AddsTerms, built, finish, works_size}
 use Rattle.std.specs.List.{list_all}
-use Rattle.kan_model.specs.Programs.Closed.Scope.{is_low}
+use Rattle.kan_model.specs.Programs.Scope.{is_low}
 use Rattle.goal_syntax.specs.Building.TermHeights.{WorksLow}
 use Rattle.goal_forms.specs.Heights.{AreLow}
 use Rattle.goal_forms.specs.Parts.{sites}

@@ -1,8 +1,8 @@
 use Rattle.std.proofs.Common.{◌≡◌, ◌++◌, map, length, true}
-use Rattle.kan_model.specs.Programs.Closed.Drafts.{tables, templates}
+use Rattle.kan_model.specs.Programs.Drafts.{tables, templates}
 use Rattle.kan_grammar.specs.Texts.GoalForms.{term_forms}
 use Rattle.kan_grammar.specs.Texts.Resolved.{template_in}
-use Rattle.kan_model.specs.Programs.Closed.Tables.{template_at}
+use Rattle.kan_model.specs.Programs.Tables.{template_at}
 use Rattle.goal_syntax.specs.Building.TermsLeft.{AddsTerms}
 use Rattle.goal_syntax.specs.Building.LowTemplates.{KeepsLow}
 use Rattle.goal_forms.specs.Parts.{sites, site_at}

@@ -1,5 +1,5 @@
 use Rattle.std.proofs.Common.{reverse}
-use Rattle.kan_model.specs.Programs.Closed.Drafts.{templates}
+use Rattle.kan_model.specs.Programs.Drafts.{templates}
 use Rattle.goal_forms.specs.Parts.{sites}
 use Rattle.goal_syntax.proofs.Building.TermHeightLaws.{joined_low}
 use Rattle.goal_syntax.proofs.build_term.build_work.Goals as goal

@@ -1,5 +1,5 @@
 use Rattle.std.proofs.Common.{arith}
-use Rattle.kan_model.specs.Programs.Closed.Closed as programs
+use Rattle.kan_model.specs.Programs.Closed as programs
 use Rattle.goal_syntax.proofs.Compiling.CompilingLaws.{narrow_next, wide_found, narrow_all}
 use Rattle.goal_syntax.proofs.compiler.are_narrow.Goals as goal
 

@@ -1,8 +1,8 @@
 use Rattle.std.proofs.Common.{◌≡◌, ◌++◌, List, map, take}
 use Rattle.std.specs.Prelude.{◌&&◌}
 use Rattle.std.specs.List.{list_all}
-use Rattle.kan_model.specs.Programs.Closed.Drafts.{tables}
-use Rattle.kan_model.specs.Programs.Closed.Goals as model
+use Rattle.kan_model.specs.Programs.Drafts.{tables}
+use Rattle.kan_model.specs.Programs.Goals as model
 use Rattle.kan_grammar.specs.Texts.ProgramText.{relations_of}
 use Rattle.kan_model.specs.declared.nodes.Query.{Query}
 use Rattle.goal_syntax.specs.Building.FormsBuilt.{AddsNames, Means, relation_names}

@@ -1,7 +1,7 @@
 use Rattle.std.proofs.Common.{◌≡◌, ◌++◌, List, map, take}
 use Rattle.std.specs.Prelude.{◌&&◌}
-use Rattle.kan_model.specs.Programs.Closed.Drafts.{tables}
-use Rattle.kan_model.specs.Programs.Closed.Goals as model
+use Rattle.kan_model.specs.Programs.Drafts.{tables}
+use Rattle.kan_model.specs.Programs.Goals as model
 use Rattle.kan_grammar.specs.Texts.ProgramText.{relations_of, queries_of}
 use Rattle.goal_syntax.specs.Building.FormsBuilt.{AddsNames, Means, relation_names}
 use Rattle.goal_syntax.specs.Building.CallsThere.{KeepsClosed, all_named}

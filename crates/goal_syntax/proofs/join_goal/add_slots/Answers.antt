@@ -1,6 +1,6 @@
 use Rattle.std.proofs.Common.{sym, ap, ◌∙◌, length}
 use Rattle.std.proofs.lemmas.Bool.{lt-ltb}
-use Rattle.kan_model.specs.Programs.Closed.Drafts.{tables}
+use Rattle.kan_model.specs.Programs.Drafts.{tables}
 use Rattle.goal_forms.specs.Places.{are_below}
 use Rattle.goal_forms.proofs.PlaceLaws.{below-split}
 use Rattle.goal_syntax.proofs.join_goal.add_slots.Goals as goal

@@ -1,6 +1,6 @@
 use Rattle.std.proofs.Common.{length}
-use Rattle.kan_model.specs.Programs.Closed.Drafts.{tables}
-use Rattle.kan_model.specs.Programs.Closed.Nodes.{goal_entry}
+use Rattle.kan_model.specs.Programs.Drafts.{tables}
+use Rattle.kan_model.specs.Programs.Nodes.{goal_entry}
 use Rattle.goal_syntax.proofs.Building.GoalsBuiltLaws.{top_two, join_grown}
 use Rattle.goal_syntax.proofs.Building.GoalsBuiltLaws.{two_joined}
 use Rattle.goal_syntax.proofs.join_goal.join_two.Goals as goal

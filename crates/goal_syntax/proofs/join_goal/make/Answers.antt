@@ -1,5 +1,5 @@
-use Rattle.kan_model.specs.Programs.Closed.Drafts.{tables}
-use Rattle.kan_model.specs.Programs.Closed.Nodes.{goal_entry}
+use Rattle.kan_model.specs.Programs.Drafts.{tables}
+use Rattle.kan_model.specs.Programs.Nodes.{goal_entry}
 use Rattle.goal_syntax.proofs.Building.GoalsBuiltLaws.{made_top, made_below}
 use Rattle.goal_syntax.proofs.join_goal.make.Goals as goal
 

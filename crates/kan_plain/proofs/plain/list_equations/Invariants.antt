@@ -1,7 +1,7 @@
 use Rattle.std.proofs.Common.{◌≡◌, map, take}
-use Rattle.kan_model.specs.Stores.Store.Store.{equations}
-use Rattle.kan_model.specs.Stores.Store.Prims.{prim as primitive}
-use Rattle.kan_model.specs.Stores.Store.Prims.{equation}
+use Rattle.kan_model.specs.Stores.Store.{equations}
+use Rattle.kan_model.specs.Stores.Prims.{prim as primitive}
+use Rattle.kan_model.specs.Stores.Prims.{equation}
 use Rattle.kan_plain.proofs.plain.list_equations.Given as goal
 
 abbrev pub invariant-loop-prim : goal.invariant-loop-prim

@@ -1,7 +1,7 @@
 use Rattle.std.proofs.Common.{◌∙◌, map}
 use Rattle.kan_terms.specs.Terms.{tree}
 use Rattle.kan_plain.specs.Solving.{replaced_by}
-use Rattle.kan_model.specs.Stores.Store.Solve.{apply}
+use Rattle.kan_model.specs.Stores.Solve.{apply}
 use Rattle.kan_model.proofs.LettersLaws.{applied_spells, spells_one, spelled_ok}
 use Rattle.kan_plain.proofs.solving.apply.Goals as goal
 

@@ -1,5 +1,5 @@
 use Rattle.std.proofs.Common.{◌∙◌, eq-eqb, ne_eqb, ap, map, drop_of_length-le}
-use Rattle.kan_model.specs.Stores.Store.Solve.{image}
+use Rattle.kan_model.specs.Stores.Solve.{image}
 use Rattle.kan_plain.specs.Solving.{replaced_by}
 use Rattle.kan_plain.proofs.SolvingLaws.{image_here, image_further}
 use Rattle.kan_plain.proofs.solving.found.Goals as goal

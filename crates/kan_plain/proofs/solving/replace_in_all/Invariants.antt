@@ -1,7 +1,7 @@
 use Rattle.std.proofs.Common.{◌≡◌, map, take}
 use Rattle.kan_plain.specs.Solving.{replaced_by}
-use Rattle.kan_model.specs.Stores.Store.Composition.{apply_sides}
-use Rattle.kan_model.specs.Stores.Store.Prims.{equation}
+use Rattle.kan_model.specs.Stores.Composition.{apply_sides}
+use Rattle.kan_model.specs.Stores.Prims.{equation}
 use Rattle.kan_plain.proofs.solving.replace_in_all.Given as goal
 
 abbrev pub invariant-loop-given : goal.invariant-loop-given

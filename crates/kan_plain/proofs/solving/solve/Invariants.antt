@@ -1,5 +1,5 @@
 use Rattle.std.proofs.Common.{◌≡◌, map}
-use Rattle.kan_model.specs.Stores.Store.Solve.{solve}
+use Rattle.kan_model.specs.Stores.Solve.{solve}
 use Rattle.kan_plain.specs.Solving.{replaced_by, put_all_first, on_stack}
 use Rattle.kan_plain.proofs.SolvingSteps.{steps_for}
 use Rattle.kan_plain.proofs.solving.solve.Given as goal

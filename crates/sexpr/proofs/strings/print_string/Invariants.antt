@@ -2,7 +2,7 @@
 use Rattle.std.proofs.Common.{◌≡◌, ◌∷◌, [], ◌++◌, IsUtf8, string_bytes}
 use Rattle.std.specs.List.{flat_map}
 use Rattle.std.specs.Str.Iter.{chars_rest}
-use Rattle.kan_model.specs.Answers.Answer.Text.{string_byte_text}
+use Rattle.kan_model.specs.Answers.Text.{string_byte_text}
 use Rattle.sexpr.proofs.strings.print_string.Given as goal
 
 abbrev pub invariant-loop-character : goal.invariant-loop-character

@@ -1,8 +1,8 @@
 use Rattle.std.specs.Prelude.{IsTrue}
-use Rattle.kan_model.specs.Programs.Closed.Tables.{is_grown, goals_of}
-use Rattle.kan_model.specs.Programs.Closed.Nodes.{tables_from}
-use Rattle.kan_model.specs.Programs.Closed.Rows.{WidthsNoted, GoalSlotsNoted}
-use Rattle.kan_model.specs.Programs.Closed.Drafts.{tables}
+use Rattle.kan_model.specs.Programs.Tables.{is_grown, goals_of}
+use Rattle.kan_model.specs.Programs.Nodes.{tables_from}
+use Rattle.kan_model.specs.Programs.Rows.{WidthsNoted, GoalSlotsNoted}
+use Rattle.kan_model.specs.Programs.Drafts.{tables}
 use Rattle.kan_model.proofs.Programs.TableLaws.{goals-with_argument, grown-with_argument}
 use Rattle.std.proofs.Common.{sym, subst}
 use Rattle.kan_model.proofs.Programs.RowLaws.{pushed}

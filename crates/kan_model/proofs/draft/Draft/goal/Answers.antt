@@ -1,7 +1,7 @@
 use Rattle.std.specs.Prelude.{IsTrue}
-use Rattle.kan_model.specs.Programs.Closed.Tables.{is_grown, goals_of}
-use Rattle.kan_model.specs.Programs.Closed.Nodes.{tables_from}
-use Rattle.kan_model.specs.Programs.Closed.Rows.{WidthsNoted, GoalSlotsNoted}
+use Rattle.kan_model.specs.Programs.Tables.{is_grown, goals_of}
+use Rattle.kan_model.specs.Programs.Nodes.{tables_from}
+use Rattle.kan_model.specs.Programs.Rows.{WidthsNoted, GoalSlotsNoted}
 use Rattle.kan_model.proofs.Programs.RowLaws.{pushed, goal-grown, goal-widths, goal-needs}
 use Rattle.kan_model.proofs.draft.Draft.goal.Goals as goal
 

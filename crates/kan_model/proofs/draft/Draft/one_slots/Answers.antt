@@ -1,6 +1,6 @@
 use Rattle.kan_terms.specs.Tree.{Tree}
-use Rattle.kan_model.specs.Programs.Closed.Measures.{slots}
-use Rattle.kan_model.specs.Programs.Closed.Drafts.{templates}
+use Rattle.kan_model.specs.Programs.Measures.{slots}
+use Rattle.kan_model.specs.Programs.Drafts.{templates}
 use Rattle.kan_model.proofs.Programs.NoteLaws.{noted}
 use Rattle.kan_model.proofs.draft.Draft.one_slots.Goals as goal
 

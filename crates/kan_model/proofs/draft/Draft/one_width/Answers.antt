@@ -1,6 +1,6 @@
-use Rattle.kan_model.specs.Programs.Closed.Goals.{Goal}
-use Rattle.kan_model.specs.Programs.Closed.Measures.{noted_width}
-use Rattle.kan_model.specs.Programs.Closed.Drafts.{goals}
+use Rattle.kan_model.specs.Programs.Goals.{Goal}
+use Rattle.kan_model.specs.Programs.Measures.{noted_width}
+use Rattle.kan_model.specs.Programs.Drafts.{goals}
 use Rattle.kan_model.proofs.Programs.NoteLaws.{noted}
 use Rattle.kan_model.proofs.draft.Draft.one_width.Goals as goal
 

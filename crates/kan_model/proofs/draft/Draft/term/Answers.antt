@@ -1,8 +1,8 @@
 use Rattle.std.specs.Prelude.{IsTrue}
 use Rattle.std.proofs.Common.{sym, subst}
-use Rattle.kan_model.specs.Programs.Closed.Tables.{is_grown, goals_of, templates_of}
-use Rattle.kan_model.specs.Programs.Closed.Nodes.{tables_from, term_entries}
-use Rattle.kan_model.specs.Programs.Closed.Rows.{HeightsNoted, SlotsNoted, WidthsNoted, GoalSlotsNoted}
+use Rattle.kan_model.specs.Programs.Tables.{is_grown, goals_of, templates_of}
+use Rattle.kan_model.specs.Programs.Nodes.{tables_from, term_entries}
+use Rattle.kan_model.specs.Programs.Rows.{HeightsNoted, SlotsNoted, WidthsNoted, GoalSlotsNoted}
 use Rattle.kan_model.proofs.Programs.RowLaws.{pushed, term-grown, term-heights, term-slots, term-goals}
 use Rattle.kan_model.proofs.draft.Draft.term.Goals as goal
 

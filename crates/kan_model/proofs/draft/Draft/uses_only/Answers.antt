@@ -2,10 +2,10 @@ use Rattle.std.proofs.Common.{ap, sym, ◌∙◌}
 use Rattle.std.specs.Prelude.{nat_le, nat_lt, ◌&&◌}
 use Rattle.std.specs.Option.{option_copied}
 use Rattle.std.proofs.lemmas.List.{length-map}
-use Rattle.kan_model.specs.Programs.Closed.Scope.{in_scope}
-use Rattle.kan_model.specs.Programs.Closed.Tables.{goal_at}
-use Rattle.kan_model.specs.Programs.Closed.Nodes.{goal_entry}
-use Rattle.kan_model.specs.Programs.Closed.Drafts as drafts
+use Rattle.kan_model.specs.Programs.Scope.{in_scope}
+use Rattle.kan_model.specs.Programs.Tables.{goal_at}
+use Rattle.kan_model.specs.Programs.Nodes.{goal_entry}
+use Rattle.kan_model.specs.Programs.Drafts as drafts
 use Rattle.kan_model.proofs.Programs.ScopeLaws.{row-uses}
 use Rattle.kan_model.proofs.draft.Draft.uses_only.Goals as goal
 

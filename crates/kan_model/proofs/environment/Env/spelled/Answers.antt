@@ -1,6 +1,6 @@
-use Rattle.kan_model.specs.Streams.Stream.Running.{instance}
-use Rattle.kan_model.specs.Programs.Closed.Closed as programs
-use Rattle.kan_model.specs.Programs.Closed.Environments.{terms_of}
+use Rattle.kan_model.specs.Streams.Running.{instance}
+use Rattle.kan_model.specs.Programs.Closed as programs
+use Rattle.kan_model.specs.Programs.Environments.{terms_of}
 use Rattle.kan_model.proofs.Programs.EnvironmentLaws.{spelled-step, fewer-wait}
 use Rattle.kan_model.proofs.environment.Env.spelled.Goals as goal
 

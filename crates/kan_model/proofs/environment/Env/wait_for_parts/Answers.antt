@@ -1,9 +1,9 @@
 use Rattle.std.proofs.Common.{ap, ◌∙◌}
-use Rattle.kan_model.specs.Streams.Stream.Running.{instance}
-use Rattle.kan_model.specs.Programs.Closed.Tables.{template_of}
-use Rattle.kan_model.specs.Programs.Closed.Nodes.{term_entry}
-use Rattle.kan_model.specs.Programs.Closed.Closed as programs
-use Rattle.kan_model.specs.Programs.Closed.Environments.{terms_of}
+use Rattle.kan_model.specs.Streams.Running.{instance}
+use Rattle.kan_model.specs.Programs.Tables.{template_of}
+use Rattle.kan_model.specs.Programs.Nodes.{term_entry}
+use Rattle.kan_model.specs.Programs.Closed as programs
+use Rattle.kan_model.specs.Programs.Environments.{terms_of}
 use Rattle.kan_model.proofs.Programs.EnvironmentLaws.{pair-waits, node-waits}
 use Rattle.kan_model.proofs.environment.Env.wait_for_parts.Goals as goal
 

@@ -1,8 +1,8 @@
 use Rattle.std.proofs.Common.{◌≡◌, ◌∙◌, ap, sym, map, Some}
 use Rattle.std.specs.Option.{option_map}
-use Rattle.kan_model.specs.Stores.Store.Store.{equations}
-use Rattle.kan_model.specs.Stores.Store.Prims.{prim as primitive}
-use Rattle.kan_model.specs.Stores.Store.Solve.{solve}
+use Rattle.kan_model.specs.Stores.Store.{equations}
+use Rattle.kan_model.specs.Stores.Prims.{prim as primitive}
+use Rattle.kan_model.specs.Stores.Solve.{solve}
 use Rattle.kan_plain.specs.Solving.{replaced_by}
 use Rattle.kan_plain.proofs.PlainLaws.{equations_kept, answer_is}
 use Rattle.kan_plain.proofs.plain.PlainStore.of.Goals as goal

@@ -1,6 +1,6 @@
 use Rattle.std.proofs.Common.{ap, map}
-use Rattle.kan_model.specs.Stores.Store.Prims.{prim as primitive}
-use Rattle.kan_model.specs.Stores.Store.Prims.{equation}
+use Rattle.kan_model.specs.Stores.Prims.{prim as primitive}
+use Rattle.kan_model.specs.Stores.Prims.{equation}
 use Rattle.kan_plain.proofs.PlainLaws.{nothing_differs}
 use Rattle.kan_plain.proofs.plain.PlainStoreStore.differences.Goals as goal
 

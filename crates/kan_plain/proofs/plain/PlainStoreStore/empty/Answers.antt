@@ -1,9 +1,9 @@
 use Rattle.std.proofs.Common.{◌≡◌, ap, map, refl, arith, []}
 use Rattle.std.specs.List.{list_all}
-use Rattle.kan_model.specs.Stores.Store.Kept.{is_kept}
-use Rattle.kan_model.specs.Programs.Closed.Scope.{is_counted}
-use Rattle.kan_model.specs.Stores.Store.Calls.{is_equation}
-use Rattle.kan_model.specs.Stores.Store.Prims.{prim as primitive}
+use Rattle.kan_model.specs.Stores.Kept.{is_kept}
+use Rattle.kan_model.specs.Programs.Scope.{is_counted}
+use Rattle.kan_model.specs.Stores.Calls.{is_equation}
+use Rattle.kan_model.specs.Stores.Prims.{prim as primitive}
 use Rattle.kan_plain.specs.Solving.{replaced_by}
 use Rattle.kan_plain.proofs.PlainLaws.{moved_test, moved_answer, nothing_answered, nothing_kept}
 use Rattle.kan_plain.proofs.plain.PlainStoreStore.empty.Goals as goal

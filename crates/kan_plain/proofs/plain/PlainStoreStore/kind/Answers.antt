@@ -1,5 +1,5 @@
 use Rattle.std.proofs.Common.{map}
-use Rattle.kan_model.specs.Stores.Store.Prims.{prim as primitive}
+use Rattle.kan_model.specs.Stores.Prims.{prim as primitive}
 use Rattle.kan_plain.proofs.PlainLaws.{no_kind}
 use Rattle.kan_plain.proofs.plain.PlainStoreStore.kind.Goals as goal
 

@@ -1,6 +1,6 @@
 use Rattle.std.proofs.Common.{ap, map}
 use Rattle.kan_terms.specs.Terms.{tree}
-use Rattle.kan_model.specs.Stores.Store.Prims.{prim as primitive}
+use Rattle.kan_model.specs.Stores.Prims.{prim as primitive}
 use Rattle.kan_plain.specs.Solving.{replaced_by}
 use Rattle.kan_plain.proofs.PlainLaws.{walked, moved_image, is_answer-true}
 use Rattle.kan_plain.proofs.plain.PlainStoreStore.walk.Goals as goal
