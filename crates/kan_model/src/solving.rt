@@ -9,7 +9,7 @@ ghost use Rattle.kan_model.specs.Solve as spec;
 ghost use Rattle.kan_model.specs.Solving.{equation, replaced_by, IsImage, work_of, apply_sides, finished, stacked, StepTo};
 
 use crate::letters::{Letter, build, occurs_in, same_terms, spell};
-use kan_terms::{Memory, Term, TermPair};
+use kan_terms::{PairParts, Memory, Term, TermPair};
 use std::alloc::Global;
 
 /// A variable with the term that replaces it.
@@ -119,8 +119,8 @@ fn unless_inside(alloc: Global, var: u64, term: &Term) -> Result<Work, Memory>
 }
 
 // The equations of the parts of two pairs.
-fn parts(left: &TermPair, right: &TermPair) -> Result<Work, Memory>
-    ensures { IfOk result (λ made. work_of made ≡ spec.work_apart spec.left_first (Tree.pair (tree left.now.first) (tree left.now.rest)) (Tree.pair (tree right.now.first) (tree right.now.rest))) }
+fn parts(left: &PairParts, right: &PairParts) -> Result<Work, Memory>
+    ensures { IfOk result (λ made. work_of made ≡ spec.work_apart spec.left_first (Tree.pair left.now.0 left.now.1) (Tree.pair right.now.0 right.now.1)) }
 {
     let first = TermPair {
         first: left.first.again()?,

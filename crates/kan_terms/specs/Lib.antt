@@ -1,6 +1,9 @@
 pub mod Bound
+pub mod Greatest
 pub mod Lists
 pub mod Memory
+pub mod PartsFall
+pub mod TermCode
 pub mod Reading
 pub mod Spelling
 pub mod Table

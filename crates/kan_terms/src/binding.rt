@@ -3,6 +3,7 @@
 ghost use Rattle.std.specs.Prelude.{◌≡◌, ℕ, List, [], ◌∷◌, None, IfOk};
 ghost use Rattle.std.specs.Option.{option_map};
 ghost use Rattle.kan_terms.specs.Bound.{bound_to};
+ghost use Rattle.kan_terms.specs.Greatest.{greatest_bound};
 ghost use Rattle.kan_terms.specs.Terms.{tree};
 ghost use Rattle.kan_terms.specs.Tree.{Tm};
 
@@ -27,6 +28,15 @@ pub trait Bindings: Sized + Drop {
     fn bind(&self, var: u64, term: &Term) -> Result<Self, Memory>
         requires { bound_to var (pairs self.now) ≡ None }
         ensures { IfOk result (λ made. pairs made ≡ (var, tree term.now) ∷ pairs self.now) };
+
+    /// The same bindings with one more, by value: they are changed in place where nobody else holds them.
+    fn bind_owned(self, var: u64, term: &Term) -> Result<Self, Memory>
+        requires { bound_to var (pairs self) ≡ None }
+        ensures { IfOk result (λ made. pairs made ≡ (var, tree term.now) ∷ pairs self) };
+
+    /// The greatest variable that stands in the bindings, on either side. It takes no memory.
+    fn greatest_variable(&self) -> Option<u64>
+        ensures { result ≡ greatest_bound (pairs self.now) };
 
     /// The same bindings once more.
     fn again(&self) -> Result<Self, Memory>

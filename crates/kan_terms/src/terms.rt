@@ -1,11 +1,13 @@
 //! Terms, whose pairs are shared behind `Arc`.
 
 ghost use Rattle.std.specs.Prelude.{◌≡◌, ⊤, IfOk};
+ghost use Rattle.kan_terms.specs.Greatest.{greater, greatest_in};
 ghost use Rattle.kan_terms.specs.Memory.{memory};
 ghost use Rattle.kan_terms.specs.Terms.{tree};
 ghost use Rattle.kan_terms.specs.Tree.{Tree};
 
 use std::alloc::{AllocError, AllocFailed, Global};
+use std::marker::Model;
 use std::sync::Arc;
 
 /// Want of memory: a call could not get the memory that its answer takes.
@@ -43,11 +45,54 @@ pub enum Term {
     /// The empty list.
     Nil,
     /// A pair, which may be shared with other terms.
-    Pair(Arc<TermPair>),
+    Pair(Arc<PairParts>),
 }
 
 /// The two parts of a pair.
 #[cycle(term)]
+#[derive(Drop)]
+pub struct PairParts {
+    /// The first part.
+    pub first: Term,
+    /// The rest.
+    pub rest: Term,
+    greatest: Option<u64>,
+}
+
+impl Model for PairParts {
+    ghost use Rattle.std.specs.Prelude.{◌+◌, ◌≡◌};
+    ghost use Rattle.kan_terms.specs.Tree.{Tm};
+    ghost use Rattle.kan_terms.specs.Tree as trees;
+    ghost use Rattle.kan_terms.specs.Greatest.{greater, greatest_in};
+    ghost use Rattle.kan_terms.specs.TermCode.{sides_code};
+
+    ghost Value = { Tm × Tm };
+
+    ghost coded = { sides_code };
+
+    ghost use Rattle.kan_terms.specs.Terms.{tree};
+
+    ghost view = { λ parts. (tree parts.first, tree parts.rest) };
+
+    ghost invariant = { λ parts. parts.greatest ≡ greater (greatest_in (tree parts.first)) (greatest_in (tree parts.rest)) };
+
+    ghost size = { λ sides. trees.size sides.0 + trees.size sides.1 };
+
+    ghost use Rattle.kan_terms.specs.PartsFall.{depth_le-size};
+
+    ghost size_decreases = { λ parts h. depth_le-size parts.first parts.rest };
+}
+
+impl PairParts {
+    /// The greatest variable that stands in the parts. It looks at neither.
+    pub fn greatest_variable(&self) -> Option<u64>
+        ensures { result ≡ greater (greatest_in self.now.0) (greatest_in self.now.1) }
+    {
+        self.greatest
+    }
+}
+
+/// Two terms.
 #[derive(Drop)]
 pub struct TermPair {
     /// The first part.
@@ -56,12 +101,40 @@ pub struct TermPair {
     pub rest: Term,
 }
 
+/// The greater of two variables, where there are any.
+pub fn greater_of(one: Option<u64>, other: Option<u64>) -> Option<u64>
+    ensures { result ≡ greater one other }
+{
+    match (one, other) {
+        (None, _) => other,
+        (Some(_), None) => one,
+        (Some(first), Some(second)) => Some(first.max(second)),
+    }
+}
+
 impl Term {
+    /// The greatest variable that stands in the term. It looks into no pair.
+    pub fn greatest_variable(&self) -> Option<u64>
+        ensures { result ≡ greatest_in (tree self.now) }
+    {
+        match self {
+            Term::Var(var) => Some(*var),
+            Term::Sym(_) | Term::Num(_) | Term::Truth(_) | Term::Nil => None,
+            Term::Pair(parts) => parts.greatest_variable(),
+        }
+    }
+
     /// The pair of two terms.
     pub fn pair(alloc: Global, first: Term, rest: Term) -> Result<Term, Memory>
         ensures { IfOk result (λ made. tree made ≡ Tree.pair (tree first) (tree rest)) }
     {
-        let parts = Arc::new(alloc, TermPair { first, rest })?;
+        let greatest = greater_of(first.greatest_variable(), rest.greatest_variable());
+        let parts = PairParts {
+            first,
+            rest,
+            greatest,
+        };
+        let parts = Arc::new(alloc, parts)?;
         Ok(Term::Pair(parts))
     }
 

@@ -4,7 +4,7 @@ use Rattle.kan_terms.specs.Tree.{Tree, Tm}
 use Rattle.kan_terms.specs.Bound.{bound_to}
 use Rattle.kan_terms.specs.Terms.{tree}
 use Rattle.kan_terms.specs.declared.terms.Term.{Term}
-use Rattle.kan_terms.specs.declared.terms.Term.TheVariants.{Var, Sym, Num, Truth, Nil, Pair'}
+use Rattle.kan_terms.specs.declared.terms.Term.TheVariants.{Var, Sym, Num, Truth, Nil, Pair}
 use Rattle.unify_core.specs.Walking.{Pairs, walked}
 use Rattle.unify_core.specs.Cycles.{HasNoCycle}
 use Rattle.unify_core.proofs.CycleLaws.{grown}
@@ -29,7 +29,7 @@ no_leaf (Sym s) other y e = cc
 no_leaf (Num n) other y e = cc
 no_leaf (Truth b) other y e = cc
 no_leaf Nil other y e = cc
-no_leaf (Pair' place first rest) other y e = cc
+no_leaf (Pair parts) other y e = cc
 
 -- and is the end
 pub walk_stops : (bound : Pairs) (t : Term) (whole : Tm) → ((v : ℕ) → t ≢ Var v) → walked bound (tree t) ≡ whole → tree t ≡ whole
