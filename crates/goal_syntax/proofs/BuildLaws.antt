@@ -6,14 +6,14 @@ use Rattle.std.proofs.lemmas.Bool.{ltb-true, lt-ltb, and_parts, and_from}
 use Rattle.std.proofs.lemmas.List.{reverse-append, map-append, length-map, take_more}
 use Rattle.std.proofs.Math.Seq.{drop-append_seam, take-length}
 use Rattle.kan_terms.specs.Tree.{Tree}
-use Rattle.kan_model.specs.Text.{Table}
-use Rattle.kan_model.specs.Goals.{Template}
-use Rattle.kan_model.specs.Sited.{Sited}
-use Rattle.kan_model.specs.Tables.{TermEntry, Tables, template_at, template_of, templates_of, is_term_grown, with_argument}
-use Rattle.kan_model.specs.TermForms.{term_form}
-use Rattle.kan_model.specs.GoalForms.{term_forms}
-use Rattle.kan_model.specs.ProgramText.{slot_list}
-use Rattle.kan_model.specs.Resolved.{Names, template_in}
+use Rattle.kan_model.specs.Answers.Text.{Table}
+use Rattle.kan_model.specs.Programs.Goals.{Template}
+use Rattle.kan_grammar.specs.Texts.Sited.{Sited}
+use Rattle.kan_model.specs.Programs.Tables.{TermEntry, Tables, template_at, template_of, templates_of, is_term_grown, with_argument}
+use Rattle.kan_grammar.specs.Texts.TermForms.{term_form}
+use Rattle.kan_grammar.specs.Texts.GoalForms.{term_forms}
+use Rattle.kan_grammar.specs.Texts.ProgramText.{slot_list}
+use Rattle.kan_grammar.specs.Texts.Resolved.{Names, template_in}
 use Rattle.goal_syntax.specs.Building.{AddsTerms, with_arguments, built, paired, finish, work_size, works_size}
 use Rattle.goal_syntax.specs.Drafting.{HasTemplate, HasArguments, Grows, HasRoom}
 use Rattle.goal_syntax.specs.Shapes.{parts}

@@ -6,17 +6,17 @@ use Rattle.std.proofs.lemmas.Bool.{and_from, and_parts, leb-true, le-leb}
 use Rattle.std.proofs.lemmas.List.{reverse-append}
 use Rattle.std.proofs.lemmas.List.Folds.{list_all-append}
 use Rattle.kan_terms.specs.Tree.{Tree}
-use Rattle.kan_model.specs.Text.{Table}
-use Rattle.kan_model.specs.Goals.{Template}
-use Rattle.kan_model.specs.Sited.{Sited}
-use Rattle.kan_model.specs.Scope.{height, is_low}
-use Rattle.kan_model.specs.Tables.{TermEntry, Tables, template_at, template_of, templates_of, with_term}
-use Rattle.kan_model.specs.Resolved.{Names, template_in}
-use Rattle.kan_model.proofs.TableLaws.{templates-more}
+use Rattle.kan_model.specs.Answers.Text.{Table}
+use Rattle.kan_model.specs.Programs.Goals.{Template}
+use Rattle.kan_grammar.specs.Texts.Sited.{Sited}
+use Rattle.kan_model.specs.Programs.Scope.{height, is_low}
+use Rattle.kan_model.specs.Programs.Tables.{TermEntry, Tables, template_at, template_of, templates_of, with_term}
+use Rattle.kan_grammar.specs.Texts.Resolved.{Names, template_in}
+use Rattle.kan_model.proofs.Programs.TableLaws.{templates-more}
 use Rattle.goal_syntax.specs.Building.{built, paired, finish}
 use Rattle.goal_syntax.specs.Drafting.{HasTemplate}
 use Rattle.goal_syntax.specs.Turning.{are_below, kept}
-use Rattle.kan_model.specs.ProgramText.{slot_list}
+use Rattle.kan_grammar.specs.Texts.ProgramText.{slot_list}
 use Rattle.goal_syntax.specs.BuildLow.{all_low, WorksLow}
 use Rattle.goal_syntax.specs.Low.{pairs_high, is_low_datum, AreLow, KeepsLow}
 use Rattle.goal_syntax.specs.Parts.{site_at}

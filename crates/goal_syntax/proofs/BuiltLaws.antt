@@ -3,11 +3,11 @@ use Rattle.std.proofs.Common.{◌≡◌, ℕ, ◌<◌, List, [], ◌∷◌, ◌+
 use Rattle.std.specs.Prelude.{Bool, true, false, ◌&&◌}
 use Rattle.std.proofs.lemmas.Bool.{and_from, and_parts, ltb-true, lt-ltb}
 use Rattle.std.proofs.lemmas.List.{reverse-append}
-use Rattle.kan_model.specs.Goals.{Goal}
-use Rattle.kan_model.specs.Nodes.{goal_entry}
+use Rattle.kan_model.specs.Programs.Goals.{Goal}
+use Rattle.kan_model.specs.Programs.Nodes.{goal_entry}
 use Rattle.kan_model.specs.declared.nodes.GoalNode.{GoalNode}
-use Rattle.kan_model.specs.Calls.{call_there}
-use Rattle.kan_model.specs.Tables.{Tables, GoalEntry, RelationEntry, goal_at, goals_of, is_goal_grown}
+use Rattle.kan_model.specs.Programs.Calls.{call_there}
+use Rattle.kan_model.specs.Programs.Tables.{Tables, GoalEntry, RelationEntry, goal_at, goals_of, is_goal_grown}
 use Rattle.goal_syntax.specs.Drafting.{HasGoal, Grows}
 use Rattle.goal_syntax.specs.Equational.{is_equational, is_equational_entry, are_equational_entries}
 use Rattle.goal_syntax.specs.Called.{calls_named, are_there}

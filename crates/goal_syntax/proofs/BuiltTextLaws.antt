@@ -5,12 +5,12 @@ use Rattle.std.specs.List.{list_all}
 use Rattle.std.proofs.lemmas.Bool.{and_from, and_parts, ltb-true, lt-ltb}
 use Rattle.std.proofs.lemmas.List.{map-append}
 use Rattle.std.proofs.lemmas.List.Folds.{list_all-append}
-use Rattle.kan_model.specs.Goals as model
-use Rattle.kan_model.specs.Goals.{Template, Goal}
-use Rattle.kan_model.specs.Tables.{Tables, RelationEntry, goals_of, with_relation}
-use Rattle.kan_model.specs.GoalForms.{GoalForms}
-use Rattle.kan_model.specs.TopForms.{Defined}
-use Rattle.kan_model.specs.Resolved.{conjunction, goals_in, within}
+use Rattle.kan_model.specs.Programs.Goals as model
+use Rattle.kan_model.specs.Programs.Goals.{Template, Goal}
+use Rattle.kan_model.specs.Programs.Tables.{Tables, RelationEntry, goals_of, with_relation}
+use Rattle.kan_grammar.specs.Texts.GoalForms.{GoalForms}
+use Rattle.kan_grammar.specs.Texts.TopForms.{Defined}
+use Rattle.kan_grammar.specs.Texts.Resolved.{conjunction, goals_in, within}
 use Rattle.kan_model.specs.declared.nodes.Query.{Query}
 use Rattle.goal_syntax.specs.BuiltText.{Means, query_asked, query_made, relation_made, relation_meant}
 use Rattle.goal_syntax.specs.Drafting.{HasTemplate, HasGoal, Grows}

@@ -3,16 +3,16 @@ use Rattle.std.proofs.Common.{◌≡◌, ℕ, ◌+◌, ◌<◌, ◌≤◌, List,
 use Rattle.std.specs.Prelude.{Bool, true, false, ◌&&◌, None}
 use Rattle.std.specs.List.{list_all}
 use Rattle.std.proofs.lemmas.List.Folds.{list_all-append}
-use Rattle.kan_model.specs.Text.{Table}
-use Rattle.kan_model.specs.Goals.{Goal}
-use Rattle.kan_model.specs.Scope.{is_low}
-use Rattle.kan_model.specs.Sited.{Sited}
-use Rattle.kan_model.specs.Binders.{binder}
-use Rattle.kan_model.specs.ProgramText.{relations_in, relations_of, queries_in, queries_of}
-use Rattle.kan_model.specs.Resolved.{Names, conjunction, goals_in, within}
-use Rattle.kan_model.specs.GoalForms.{GoalForms}
-use Rattle.kan_model.specs.Tables.{RelationEntry, Tables, templates_of, with_relation}
-use Rattle.kan_model.specs.TopForms.{Defined, form}
+use Rattle.kan_model.specs.Answers.Text.{Table}
+use Rattle.kan_model.specs.Programs.Goals.{Goal}
+use Rattle.kan_model.specs.Programs.Scope.{is_low}
+use Rattle.kan_grammar.specs.Texts.Sited.{Sited}
+use Rattle.kan_grammar.specs.Texts.Binders.{binder}
+use Rattle.kan_grammar.specs.Texts.ProgramText.{relations_in, relations_of, queries_in, queries_of}
+use Rattle.kan_grammar.specs.Texts.Resolved.{Names, conjunction, goals_in, within}
+use Rattle.kan_grammar.specs.Texts.GoalForms.{GoalForms}
+use Rattle.kan_model.specs.Programs.Tables.{RelationEntry, Tables, templates_of, with_relation}
+use Rattle.kan_grammar.specs.Texts.TopForms.{Defined, form}
 use Rattle.goal_syntax.specs.BuiltText.{asked_equation, asked_list}
 use Rattle.goal_syntax.specs.Called.{calls_named, bodies_named, queries_named, all_named, are_there, KeepsClosed}
 use Rattle.goal_syntax.specs.Low.{KeepsLow}

@@ -4,13 +4,13 @@ use Rattle.std.specs.Prelude.{Bool, true, false, ◌==◌, Option, Some, None, o
 use Rattle.std.specs.List.{list_all, flat_map}
 use Rattle.std.proofs.lemmas.Bool.{eqb-true, eq-eqb, and_from, and_parts}
 use Rattle.std.proofs.lemmas.Option.{slice_get-map}
-use Rattle.kan_model.specs.Goals.{Goal, Relation}
-use Rattle.kan_model.specs.Faults.{fault}
-use Rattle.kan_model.specs.Scope.{takes, calls_there}
-use Rattle.kan_model.specs.GoalForms.{GoalForm, GoalForms, none, more}
-use Rattle.kan_model.specs.TopForms.{Defined}
-use Rattle.kan_model.specs.Resolved.{Names, relation_number, arity, conjunction, disjunction, within, goal_in, goals_in, template_in}
-use Rattle.kan_model.specs.TextFaults.{unless, term_faults, call_faults, goal_faults, goals_faults}
+use Rattle.kan_model.specs.Programs.Goals.{Goal, Relation}
+use Rattle.kan_grammar.specs.Data.Faults.{fault}
+use Rattle.kan_model.specs.Programs.Scope.{takes, calls_there}
+use Rattle.kan_grammar.specs.Texts.GoalForms.{GoalForm, GoalForms, none, more}
+use Rattle.kan_grammar.specs.Texts.TopForms.{Defined}
+use Rattle.kan_grammar.specs.Texts.Resolved.{Names, relation_number, arity, conjunction, disjunction, within, goal_in, goals_in, template_in}
+use Rattle.kan_grammar.specs.Texts.TextFaults.{unless, term_faults, call_faults, goal_faults, goals_faults}
 use Rattle.std.proofs.lemmas.List.{length-map}
 use Rattle.goal_syntax.proofs.InScopeLaws.{none_parts, both_none}
 

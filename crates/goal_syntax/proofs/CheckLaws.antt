@@ -4,9 +4,9 @@ use Rattle.std.specs.Prelude.{unwrap_or, is_some}
 use Rattle.std.proofs.lemmas.List.{reverse-append, reverse-reverse, length-map}
 use Rattle.kan_terms.specs.Table.{number_of, interned}
 use Rattle.kan_terms.proofs.TableLaws.{number_of-interned}
-use Rattle.kan_model.specs.Printed.{prefix_name}
-use Rattle.kan_model.specs.Words.{quote, quasiquote, unquote}
-use Rattle.kan_model.specs.Sited.{Sited, sited, symbol_number}
+use Rattle.kan_grammar.specs.Data.Printed.{prefix_name}
+use Rattle.kan_grammar.specs.Data.Words.{quote, quasiquote, unquote}
+use Rattle.kan_grammar.specs.Texts.Sited.{Sited, sited, symbol_number}
 use Rattle.sexpr.specs.Seen.{Table, written}
 use Rattle.sexpr.specs.declared.data.Datum.{Datum}
 use Rattle.goal_syntax.specs.Checks.{NamesPrefixes}

@@ -7,17 +7,17 @@ use Rattle.std.proofs.lemmas.Grind.{flat_map-append}
 use Rattle.std.proofs.lemmas.List.{length-map, map-append}
 use Rattle.std.proofs.lemmas.List.Folds.{list_all-append}
 use Rattle.kan_terms.specs.Tree.{Tree}
-use Rattle.kan_model.specs.Text.{Table}
-use Rattle.kan_model.specs.Sited.{Sited, is_proper}
-use Rattle.kan_model.specs.Goals.{Goal, Primitive, Relation, Query}
-use Rattle.kan_model.specs.Scope.{all_below, in_scope, calls_there, body_in_scope}
-use Rattle.kan_model.specs.Language.{Word, head_word}
-use Rattle.kan_model.specs.Binders.{Checked, binder, binder_faults}
-use Rattle.kan_model.specs.GoalForms.{GoalForms, goal_forms}
-use Rattle.kan_model.specs.TopForms.{NameAt, Form, relation, run_of_one, run_of_list, misshapen, unknown, head_name, head, no_limit, limit, relation_form, run_form, limited_form, form, Defined, defined_by, defined}
-use Rattle.kan_model.specs.Resolved.{within, conjunction, goals_in}
-use Rattle.kan_model.specs.ProgramText.{slot_list, relations_in, queries_in, relations_of, Meant, meant}
-use Rattle.kan_model.specs.TextFaults.{again_faults, goals_faults, form_faults, forms_faults, faults_of}
+use Rattle.kan_model.specs.Answers.Text.{Table}
+use Rattle.kan_grammar.specs.Texts.Sited.{Sited, is_proper}
+use Rattle.kan_model.specs.Programs.Goals.{Goal, Primitive, Relation, Query}
+use Rattle.kan_model.specs.Programs.Scope.{all_below, in_scope, calls_there, body_in_scope}
+use Rattle.kan_grammar.specs.Texts.Language.{Word, head_word}
+use Rattle.kan_grammar.specs.Texts.Binders.{Checked, binder, binder_faults}
+use Rattle.kan_grammar.specs.Texts.GoalForms.{GoalForms, goal_forms}
+use Rattle.kan_grammar.specs.Texts.TopForms.{NameAt, Form, relation, run_of_one, run_of_list, misshapen, unknown, head_name, head, no_limit, limit, relation_form, run_form, limited_form, form, Defined, defined_by, defined}
+use Rattle.kan_grammar.specs.Texts.Resolved.{within, conjunction, goals_in}
+use Rattle.kan_grammar.specs.Texts.ProgramText.{slot_list, relations_in, queries_in, relations_of, Meant, meant}
+use Rattle.kan_grammar.specs.Texts.TextFaults.{again_faults, goals_faults, form_faults, forms_faults, faults_of}
 use Rattle.goal_syntax.proofs.InScopeLaws.{none_parts, both_none, conjunction_in_scope, goals_below, within_length}
 use Rattle.goal_syntax.proofs.CallsLaws.{TakeAs, conjunction_there, goals_there, goals_more}
 use Rattle.goal_syntax.proofs.DefinedLaws.{worded, relation_params, defined_params, forms_define}

@@ -6,20 +6,20 @@ use Rattle.std.proofs.lemmas.Bool.{and_from, and_parts}
 use Rattle.std.proofs.lemmas.Grind.{flat_map-append}
 use Rattle.std.proofs.lemmas.List.Folds.{list_all-append}
 use Rattle.std.proofs.lemmas.Option.{slice_get-map}
-use Rattle.kan_model.specs.Text.{Table}
-use Rattle.kan_model.specs.Sited.{Sited, sited}
-use Rattle.kan_model.specs.Faults.{Fault}
-use Rattle.kan_model.specs.Goals as model
-use Rattle.kan_model.specs.Goals.{Goal}
-use Rattle.kan_model.specs.Calls.{entry_takes}
-use Rattle.kan_model.specs.Nodes.{goal_place}
-use Rattle.kan_model.specs.ProgramText.{relations_in, relations_of, queries_of, meant}
-use Rattle.kan_model.specs.Scope.{is_low, takes, calls_there, in_scope, body_in_scope, is_closed}
-use Rattle.kan_model.specs.Tables.{RelationEntry, Tables, goal_at, goals_of, templates_of, program_of, is_grown, nothing_open}
-use Rattle.kan_model.specs.TextFaults.{faults_of, least, IsAccepted}
-use Rattle.kan_model.specs.TopForms.{Defined, form, defined, defined_by}
+use Rattle.kan_model.specs.Answers.Text.{Table}
+use Rattle.kan_grammar.specs.Texts.Sited.{Sited, sited}
+use Rattle.kan_grammar.specs.Data.Faults.{Fault}
+use Rattle.kan_model.specs.Programs.Goals as model
+use Rattle.kan_model.specs.Programs.Goals.{Goal}
+use Rattle.kan_model.specs.Programs.Calls.{entry_takes}
+use Rattle.kan_model.specs.Programs.Nodes.{goal_place}
+use Rattle.kan_grammar.specs.Texts.ProgramText.{relations_in, relations_of, queries_of, meant}
+use Rattle.kan_model.specs.Programs.Scope.{is_low, takes, calls_there, in_scope, body_in_scope, is_closed}
+use Rattle.kan_model.specs.Programs.Tables.{RelationEntry, Tables, goal_at, goals_of, templates_of, program_of, is_grown, nothing_open}
+use Rattle.kan_grammar.specs.Texts.TextFaults.{faults_of, least, IsAccepted}
+use Rattle.kan_grammar.specs.Texts.TopForms.{Defined, form, defined, defined_by}
 use Rattle.kan_model.specs.declared.nodes.Query.{Query}
-use Rattle.kan_model.proofs.ScopeLaws.{all-calls}
+use Rattle.kan_model.proofs.Programs.ScopeLaws.{all-calls}
 use Rattle.goal_syntax.specs.BuiltText.{Means, query_made, relation_made}
 use Rattle.goal_syntax.specs.Called.{calls_named, bodies_named, queries_named, all_named, are_there, KeepsClosed}
 use Rattle.goal_syntax.specs.Low.{is_low_datum, AreLow}

@@ -7,18 +7,18 @@ use Rattle.std.proofs.lemmas.Bool.{and_from, ltb-true, lt-ltb, false_from_ne_tru
 use Rattle.std.proofs.lemmas.Grind.{flat_map-append}
 use Rattle.std.proofs.lemmas.List.{map-append, take_all}
 use Rattle.std.proofs.lemmas.List.Folds.{list_all-append, list_all_at}
-use Rattle.kan_model.specs.Text.{Table}
-use Rattle.kan_model.specs.Sited.{Sited}
-use Rattle.kan_model.specs.Goals as model
-use Rattle.kan_model.specs.Goals.{Goal}
-use Rattle.kan_model.specs.Needs.{noted_width}
-use Rattle.kan_model.specs.ProgramText.{relations_in, relations_of, queries_in, queries_of, meant}
-use Rattle.kan_model.specs.Scope.{is_narrow, is_small}
-use Rattle.kan_model.specs.Nodes.{goal_place}
-use Rattle.kan_model.specs.Programs as programs
+use Rattle.kan_model.specs.Answers.Text.{Table}
+use Rattle.kan_grammar.specs.Texts.Sited.{Sited}
+use Rattle.kan_model.specs.Programs.Goals as model
+use Rattle.kan_model.specs.Programs.Goals.{Goal}
+use Rattle.kan_model.specs.Programs.Measures.{noted_width}
+use Rattle.kan_grammar.specs.Texts.ProgramText.{relations_in, relations_of, queries_in, queries_of, meant}
+use Rattle.kan_model.specs.Programs.Scope.{is_narrow, is_small}
+use Rattle.kan_model.specs.Programs.Nodes.{goal_place}
+use Rattle.kan_model.specs.Programs.Closed as programs
 use Rattle.kan_model.specs.declared.program.Program.{Program}
-use Rattle.kan_model.specs.Tables.{Tables, goals_of, nothing_open}
-use Rattle.kan_model.specs.TopForms.{Defined, form, defined, defined_by}
+use Rattle.kan_model.specs.Programs.Tables.{Tables, goals_of, nothing_open}
+use Rattle.kan_grammar.specs.Texts.TopForms.{Defined, form, defined, defined_by}
 use Rattle.kan_model.specs.declared.nodes.Query.{Query}
 use Rattle.goal_syntax.specs.BuiltText.{Means, query_made, relation_made}
 use Rattle.goal_syntax.specs.CompiledForms.{IsMeant}

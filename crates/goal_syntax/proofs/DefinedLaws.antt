@@ -2,17 +2,17 @@
 use Rattle.std.proofs.Common.{◌≡◌, ℕ, suc, List, [], ◌∷◌, ◌++◌, map, length, refl, sym, ◌∙◌, ap, ap₂}
 use Rattle.std.specs.Prelude.{Bool, true, false, ◌&&◌, Option, Some, None, is_some, option_map, if◌then◌else◌}
 use Rattle.std.proofs.lemmas.List.{map-append}
-use Rattle.kan_model.specs.Text.{Table}
-use Rattle.kan_model.specs.Faults.{fault}
-use Rattle.kan_model.specs.Sited.{Sited, elements, is_proper}
-use Rattle.kan_model.specs.Goals.{Relation}
-use Rattle.kan_model.specs.Language.{Word, word, head_word, is_other}
-use Rattle.kan_model.specs.Binders.{Checked, bound_names, names_faults, binder_faults}
-use Rattle.kan_model.specs.GoalForms.{goal_forms}
-use Rattle.kan_model.specs.TopForms.{name_at, Form, relation, misshapen, unknown, head_name, head, no_limit, limit, relation_form, run_form, limited_form, form, Defined, defined_by_head, defined_by, defined}
-use Rattle.kan_model.specs.Resolved.{arity, within}
-use Rattle.kan_model.specs.ProgramText.{relations_in, relations_of}
-use Rattle.kan_model.specs.TextFaults.{unless, is_new, again_faults, goals_faults, form_faults, forms_faults}
+use Rattle.kan_model.specs.Answers.Text.{Table}
+use Rattle.kan_grammar.specs.Data.Faults.{fault}
+use Rattle.kan_grammar.specs.Texts.Sited.{Sited, elements, is_proper}
+use Rattle.kan_model.specs.Programs.Goals.{Relation}
+use Rattle.kan_grammar.specs.Texts.Language.{Word, word, head_word, is_other}
+use Rattle.kan_grammar.specs.Texts.Binders.{Checked, bound_names, names_faults, binder_faults}
+use Rattle.kan_grammar.specs.Texts.GoalForms.{goal_forms}
+use Rattle.kan_grammar.specs.Texts.TopForms.{name_at, Form, relation, misshapen, unknown, head_name, head, no_limit, limit, relation_form, run_form, limited_form, form, Defined, defined_by_head, defined_by, defined}
+use Rattle.kan_grammar.specs.Texts.Resolved.{arity, within}
+use Rattle.kan_grammar.specs.Texts.ProgramText.{relations_in, relations_of}
+use Rattle.kan_grammar.specs.Texts.TextFaults.{unless, is_new, again_faults, goals_faults, form_faults, forms_faults}
 use Rattle.goal_syntax.proofs.InScopeLaws.{none_parts}
 
 -- how many arguments relations take, and those that are defined

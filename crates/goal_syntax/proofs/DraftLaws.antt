@@ -6,10 +6,10 @@ use Rattle.std.proofs.lemmas.Option.{unwrap_or-slice_get}
 use Rattle.std.proofs.Math.ListN.{get_or-append}
 use Rattle.std.proofs.Math.Seq.{get_or-append_seam}
 use Rattle.kan_terms.specs.Tree.{Tree}
-use Rattle.kan_model.specs.Goals.{Template, Goal}
-use Rattle.kan_model.specs.Calls.{call_there}
-use Rattle.kan_model.specs.Tables.{TermEntry, GoalEntry, RelationEntry, Tables, template_at, template_of, templates_of, goal_at, goal_of, goals_of, is_grown, with_term, with_argument, with_goal}
-use Rattle.kan_model.proofs.TableLaws.{templates-more, templates-length, goals-more, goals-length, grown-parts, term-same, goals-with_term, goals-with_argument}
+use Rattle.kan_model.specs.Programs.Goals.{Template, Goal}
+use Rattle.kan_model.specs.Programs.Calls.{call_there}
+use Rattle.kan_model.specs.Programs.Tables.{TermEntry, GoalEntry, RelationEntry, Tables, template_at, template_of, templates_of, goal_at, goal_of, goals_of, is_grown, with_term, with_argument, with_goal}
+use Rattle.kan_model.proofs.Programs.TableLaws.{templates-more, templates-length, goals-more, goals-length, grown-parts, term-same, goals-with_term, goals-with_argument}
 use Rattle.goal_syntax.specs.Drafting.{HasTemplate, HasGoal, Grows, HasRoom}
 use Rattle.goal_syntax.specs.Called.{are_there}
 use Rattle.goal_syntax.specs.Equational.{is_equational_entry, are_equational_entries}

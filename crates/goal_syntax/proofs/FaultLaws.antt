@@ -1,8 +1,8 @@
 -- The first of faults, taken from the last on.
 use Rattle.std.proofs.Common.{◌≡◌, List, [], ◌∷◌, ◌++◌, refl, sym, ◌∙◌, ap, Option, Some, None}
 use Rattle.std.proofs.lemmas.List.{map-append}
-use Rattle.kan_model.specs.Faults as faults
-use Rattle.kan_model.specs.TextFaults.{first_of, least}
+use Rattle.kan_grammar.specs.Data.Faults as faults
+use Rattle.kan_grammar.specs.Texts.TextFaults.{first_of, least}
 use Rattle.goal_syntax.specs.FaultLists.{fault_of, fault_list}
 use Rattle.goal_syntax.specs.Firsts.{least_before}
 use Rattle.goal_syntax.specs.declared.fault.Fault.{Fault}

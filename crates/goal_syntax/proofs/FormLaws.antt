@@ -5,13 +5,13 @@ use Rattle.std.proofs.Math.Seq.{take-append_seam, take-append-add}
 use Rattle.std.proofs.lemmas.List.{length-take-le, length-map}
 use Rattle.goal_syntax.specs.Related.{related}
 use Rattle.goal_syntax.specs.declared.relations.Defined.{Defined as Row}
-use Rattle.kan_model.specs.Text.{Table}
-use Rattle.kan_model.specs.Sited.{Sited, elements}
-use Rattle.kan_model.specs.Faults.{Fault}
-use Rattle.kan_model.specs.TopForms.{Defined, form, defined, defined_by, defined_by_head}
-use Rattle.kan_model.specs.Language.{Word, word, head_word, is_other}
+use Rattle.kan_model.specs.Answers.Text.{Table}
+use Rattle.kan_grammar.specs.Texts.Sited.{Sited, elements}
+use Rattle.kan_grammar.specs.Data.Faults.{Fault}
+use Rattle.kan_grammar.specs.Texts.TopForms.{Defined, form, defined, defined_by, defined_by_head}
+use Rattle.kan_grammar.specs.Texts.Language.{Word, word, head_word, is_other}
 use Rattle.std.proofs.lemmas.Grind.{flat_map-append}
-use Rattle.kan_model.specs.TextFaults.{form_faults, forms_faults, faults_of, least}
+use Rattle.kan_grammar.specs.Texts.TextFaults.{form_faults, forms_faults, faults_of, least}
 use Rattle.goal_syntax.specs.Parts.{site_at}
 
 -- the next of some places, and those behind it

@@ -3,14 +3,14 @@ use Rattle.std.proofs.Common.{◌≡◌, ℕ, ◌+◌, ◌<◌, List, [], ◌∷
 use Rattle.std.specs.Prelude.{Bool, true, false}
 use Rattle.std.proofs.Math.Seq.{take-append_seam}
 use Rattle.std.proofs.lemmas.List.{reverse-append}
-use Rattle.kan_model.specs.Text.{Table}
-use Rattle.kan_model.specs.Sited.{Sited, site, is_proper}
-use Rattle.kan_model.specs.Faults.{Fault}
-use Rattle.kan_model.specs.GoalForms.{GoalForm, none, more, all_of, misshapen, goal_form, goal_forms, clause_forms}
-use Rattle.kan_model.specs.TopForms.{Defined}
-use Rattle.kan_model.specs.Binders.{binder}
-use Rattle.kan_model.specs.Resolved.{Names, within}
-use Rattle.kan_model.specs.TextFaults.{goal_faults, goals_faults}
+use Rattle.kan_model.specs.Answers.Text.{Table}
+use Rattle.kan_grammar.specs.Texts.Sited.{Sited, site, is_proper}
+use Rattle.kan_grammar.specs.Data.Faults.{Fault}
+use Rattle.kan_grammar.specs.Texts.GoalForms.{GoalForm, none, more, all_of, misshapen, goal_form, goal_forms, clause_forms}
+use Rattle.kan_grammar.specs.Texts.TopForms.{Defined}
+use Rattle.kan_grammar.specs.Texts.Binders.{binder}
+use Rattle.kan_grammar.specs.Texts.Resolved.{Names, within}
+use Rattle.kan_grammar.specs.Texts.TextFaults.{goal_faults, goals_faults}
 use Rattle.goal_syntax.specs.Parts.{site_at}
 use Rattle.goal_syntax.specs.Shapes.{parts}
 use Rattle.goal_syntax.specs.TermSteps.{site_size}

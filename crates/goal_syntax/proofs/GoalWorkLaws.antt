@@ -3,13 +3,13 @@ use Rattle.std.proofs.Common.{◌≡◌, ℕ, ◌+◌, ◌<◌, ◌≤◌, List,
 use Rattle.std.specs.Prelude.{Bool, true, false, ◌&&◌}
 use Rattle.std.proofs.Math.Seq.{take-append_seam}
 use Rattle.std.proofs.lemmas.List.{reverse-append}
-use Rattle.kan_model.specs.Text.{Table}
-use Rattle.kan_model.specs.Sited.{Sited, site, is_proper}
-use Rattle.kan_model.specs.Goals.{Goal}
-use Rattle.kan_model.specs.GoalForms.{GoalForm, all_of, misshapen, none, more, goal_forms, clause_forms}
-use Rattle.kan_model.specs.TopForms.{Defined}
-use Rattle.kan_model.specs.Binders.{binder}
-use Rattle.kan_model.specs.Resolved.{Names, within, goal_in, goals_in}
+use Rattle.kan_model.specs.Answers.Text.{Table}
+use Rattle.kan_grammar.specs.Texts.Sited.{Sited, site, is_proper}
+use Rattle.kan_model.specs.Programs.Goals.{Goal}
+use Rattle.kan_grammar.specs.Texts.GoalForms.{GoalForm, all_of, misshapen, none, more, goal_forms, clause_forms}
+use Rattle.kan_grammar.specs.Texts.TopForms.{Defined}
+use Rattle.kan_grammar.specs.Texts.Binders.{binder}
+use Rattle.kan_grammar.specs.Texts.Resolved.{Names, within, goal_in, goals_in}
 use Rattle.goal_syntax.specs.Parts.{site_at}
 use Rattle.goal_syntax.specs.TermSteps.{site_size}
 use Rattle.goal_syntax.specs.GoalSteps.{step_goal, step_goal_size}

@@ -5,22 +5,22 @@ use Rattle.std.specs.Str.{is_utf8}
 use Rattle.std.specs.List.{list_all}
 use Rattle.std.proofs.lemmas.Bool.{and_from, and_parts, leb-true, le-leb}
 use Rattle.kan_terms.specs.Tree.{Tree}
-use Rattle.kan_model.specs.Text.{Table}
-use Rattle.kan_model.specs.Words.{Atom, symbol, number, truth, out_of_range, reserved}
-use Rattle.kan_model.specs.Written.{Written, Within, single, list, prefixed, close, dotted, element, is_allowed, are_allowed_within, are_allowed, is_allowed_atom, deepest}
-use Rattle.kan_model.specs.Open.{as_written}
-use Rattle.kan_model.specs.Tokens.{tokens}
-use Rattle.kan_model.specs.Faults.{Reading, data_are, refused, read_if, read_text}
-use Rattle.kan_model.specs.Made.{made, map_reading}
-use Rattle.kan_model.specs.Printed.{pairs, pairs_within, atom_tree}
-use Rattle.kan_model.proofs.Exactly.{reads_exactly}
-use Rattle.kan_model.specs.Sited.{Sited, sited, sited_within, sited_atom, constant, is_proper}
-use Rattle.kan_model.specs.Language.{Word, head_word}
-use Rattle.kan_model.specs.Scope.{height}
-use Rattle.kan_model.specs.Binders.{names_of, bound_names, binder}
-use Rattle.kan_model.specs.TermForms.{Use, bad_term, quoted, term_form, cons_form, list_form, quasiquoted, template_form, unquoted}
-use Rattle.kan_model.specs.ProgramText.{slot_list}
-use Rattle.kan_model.specs.Resolved.{Names, template_in}
+use Rattle.kan_model.specs.Answers.Text.{Table}
+use Rattle.kan_grammar.specs.Data.Words.{Atom, symbol, number, truth, out_of_range, reserved}
+use Rattle.kan_grammar.specs.Data.Written.{Written, Within, single, list, prefixed, close, dotted, element, is_allowed, are_allowed_within, are_allowed, is_allowed_atom, deepest}
+use Rattle.kan_grammar.specs.Data.Enclosing.{as_written}
+use Rattle.kan_grammar.specs.Data.Tokens.{tokens}
+use Rattle.kan_grammar.specs.Data.Faults.{Reading, data_are, refused, read_if, read_text}
+use Rattle.kan_grammar.specs.Data.Builds.{made, map_reading}
+use Rattle.kan_grammar.specs.Data.Printed.{pairs, pairs_within, atom_tree}
+use Rattle.kan_grammar.proofs.Data.Exactly.{reads_exactly}
+use Rattle.kan_grammar.specs.Texts.Sited.{Sited, sited, sited_within, sited_atom, constant, is_proper}
+use Rattle.kan_grammar.specs.Texts.Language.{Word, head_word}
+use Rattle.kan_model.specs.Programs.Scope.{height}
+use Rattle.kan_grammar.specs.Texts.Binders.{names_of, bound_names, binder}
+use Rattle.kan_grammar.specs.Texts.TermForms.{Use, bad_term, quoted, term_form, cons_form, list_form, quasiquoted, template_form, unquoted}
+use Rattle.kan_grammar.specs.Texts.ProgramText.{slot_list}
+use Rattle.kan_grammar.specs.Texts.Resolved.{Names, template_in}
 use Rattle.sexpr.specs.Seen.{as_kept}
 use Rattle.sexpr.proofs.KeptLaws.{keeps_data, keeps_meaning}
 use Rattle.goal_syntax.specs.Low.{pairs_high, is_low_datum, AreLow}

@@ -6,14 +6,14 @@ use Rattle.std.proofs.lemmas.Bool.{lt-ltb, and_from, and_parts}
 use Rattle.std.proofs.lemmas.Grind.{flat_map-append}
 use Rattle.std.proofs.lemmas.List.{length-map}
 use Rattle.kan_terms.specs.Tree.{Tree, leaves}
-use Rattle.kan_model.specs.Goals.{Goal}
-use Rattle.kan_model.specs.Faults.{fault}
-use Rattle.kan_model.specs.Scope.{all_below, in_scope}
-use Rattle.kan_model.specs.TermForms.{Use, variable, misshapen, TermForm}
-use Rattle.kan_model.specs.GoalForms.{GoalForm, GoalForms, none, more}
-use Rattle.kan_model.specs.TopForms.{Defined}
-use Rattle.kan_model.specs.Resolved.{Names, slot_of, is_named, or_else, leaf_in, template_in, arity, conjunction, disjunction, within, goal_in, goals_in}
-use Rattle.kan_model.specs.TextFaults.{unless, use_faults, term_faults, call_faults, goal_faults, goals_faults}
+use Rattle.kan_model.specs.Programs.Goals.{Goal}
+use Rattle.kan_grammar.specs.Data.Faults.{fault}
+use Rattle.kan_model.specs.Programs.Scope.{all_below, in_scope}
+use Rattle.kan_grammar.specs.Texts.TermForms.{Use, variable, misshapen, TermForm}
+use Rattle.kan_grammar.specs.Texts.GoalForms.{GoalForm, GoalForms, none, more}
+use Rattle.kan_grammar.specs.Texts.TopForms.{Defined}
+use Rattle.kan_grammar.specs.Texts.Resolved.{Names, slot_of, is_named, or_else, leaf_in, template_in, arity, conjunction, disjunction, within, goal_in, goals_in}
+use Rattle.kan_grammar.specs.Texts.TextFaults.{unless, use_faults, term_faults, call_faults, goal_faults, goals_faults}
 
 -- where nothing stands in a list of two parts, nothing stands in them
 pub none_parts : {X : Type 0} (xs ys : List X) → xs ++ ys ≡ [] → (xs ≡ []) × (ys ≡ [])

@@ -1,11 +1,11 @@
 -- Data of texts, and libraries that are accepted by themselves, for those who compile.
 use Rattle.std.proofs.Common.{◌≡◌, ℕ, List, [], ◌++◌, refl}
 use Rattle.std.specs.Prelude.{Ok}
-use Rattle.kan_model.specs.Text.{Table}
-use Rattle.kan_model.specs.Faults.{run, read_tokens, read_text, data_are}
-use Rattle.kan_model.specs.Tokens.{tokens, tokens_from}
+use Rattle.kan_model.specs.Answers.Text.{Table}
+use Rattle.kan_grammar.specs.Data.Faults.{run, read_tokens, read_text, data_are}
+use Rattle.kan_grammar.specs.Data.Tokens.{tokens, tokens_from}
 use Rattle.std.specs.Str.{is_utf8, chars}
-use Rattle.kan_model.specs.TextFaults.{faults_of}
+use Rattle.kan_grammar.specs.Texts.TextFaults.{faults_of}
 use Rattle.sexpr.specs.Reads.{Reads}
 use Rattle.sexpr.specs.Seen.{as_kept}
 use Rattle.sexpr.specs.declared.data.Datum.{Datum}

@@ -5,7 +5,7 @@ use Rattle.std.proofs.Math.ListN.{get_or-append}
 use Rattle.std.proofs.Math.Seq.{get_or-append_seam}
 use Rattle.std.proofs.lemmas.List.{get_or_past}
 use Rattle.std.proofs.lemmas.Bool.{ltb-true, ltb-false, and_parts, and_from}
-use Rattle.kan_model.specs.Sited.{Sited, site}
+use Rattle.kan_grammar.specs.Texts.Sited.{Sited, site}
 use Rattle.goal_syntax.specs.declared.node.Part.{Part}
 use Rattle.goal_syntax.specs.declared.node.Part.TheVariants.{Name, Number, Truth, Nil, Pair}
 use Rattle.goal_syntax.specs.declared.node.Node.{Node}

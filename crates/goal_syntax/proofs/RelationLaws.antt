@@ -2,12 +2,12 @@
 use Rattle.std.proofs.Common.{◌≡◌, ℕ, zero, suc, ◌+◌, ◌<◌, ◌≤◌, List, [], ◌∷◌, ◌++◌, length, take, get_or, refl, sym, ◌∙◌, ap, arith, Option, Some, None}
 use Rattle.std.proofs.lemmas.Bool.{ltb-false, le-leb, lt-leb}
 use Rattle.std.proofs.lemmas.Bool.Decides.{nat_tests}
-use Rattle.kan_model.specs.TextFaults.{is_new}
+use Rattle.kan_grammar.specs.Texts.TextFaults.{is_new}
 use Rattle.std.proofs.Math.Seq.{take-suc}
 use Rattle.std.proofs.lemmas.List.{length-take-le}
 use Rattle.std.specs.Prelude.{Bool, true, false, leb, nat_lt, ◌==◌, option_map, if◌then◌else◌}
-use Rattle.kan_model.specs.TopForms as forms
-use Rattle.kan_model.specs.Resolved.{relation_number, arity, or_else}
+use Rattle.kan_grammar.specs.Texts.TopForms as forms
+use Rattle.kan_grammar.specs.Texts.Resolved.{relation_number, arity, or_else}
 use Rattle.goal_syntax.specs.Related.{related}
 use Rattle.goal_syntax.specs.declared.relations.Defined.{Defined}
 

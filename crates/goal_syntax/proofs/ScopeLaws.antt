@@ -3,7 +3,7 @@ use Rattle.std.proofs.Common.{◌≡◌, ℕ, zero, suc, ◌-◌, ◌<◌, ◌�
 use Rattle.std.specs.Prelude.{true, false}
 use Rattle.std.proofs.Math.Seq.{take-suc}
 use Rattle.std.proofs.lemmas.List.{length-take-le}
-use Rattle.kan_model.specs.Resolved.{Names, is_named, slot_of}
+use Rattle.kan_grammar.specs.Texts.Resolved.{Names, is_named, slot_of}
 
 found_last : (ns : Names) (n : Option ℕ) (s : ℕ) → is_named n s ≡ true → slot_of (ns ++ n ∷ []) s ≡ Some (length ns)
 found_last [] n s named = rw named refl

@@ -1,7 +1,7 @@
 -- The elements of lists, counted from the first on.
 use Rattle.std.proofs.Common.{◌≡◌, ℕ, suc, ◌+◌, List, ◌∷◌, length, refl, sym, ◌∙◌, ap, arith, Option, Some, None}
 use Rattle.std.specs.Prelude.{true, false, option_map}
-use Rattle.kan_model.specs.Sited.{Sited, elements, count}
+use Rattle.kan_grammar.specs.Texts.Sited.{Sited, elements, count}
 use Rattle.goal_syntax.specs.Shapes.{parts, is_end, only, two}
 
 longer : (a : Sited) (r : Option (List Sited)) → option_map length (option_map (λ rest. a ∷ rest) r) ≡ option_map (λ n. suc n) (option_map length r)

@@ -1,9 +1,9 @@
 -- Forms of terms with the right number of parts.
 use Rattle.std.proofs.Common.{◌≡◌, ℕ, sym, ap, Some}
 use Rattle.kan_terms.specs.Tree.{Tree}
-use Rattle.kan_model.specs.Text.{Table}
-use Rattle.kan_model.specs.Sited.{Sited}
-use Rattle.kan_model.specs.TermForms.{term_form, cons_form, quasiquoted, template_form, unquoted}
+use Rattle.kan_model.specs.Answers.Text.{Table}
+use Rattle.kan_grammar.specs.Texts.Sited.{Sited}
+use Rattle.kan_grammar.specs.Texts.TermForms.{term_form, cons_form, quasiquoted, template_form, unquoted}
 use Rattle.goal_syntax.specs.Shapes.{only, two}
 use Rattle.goal_syntax.proofs.ShapeLaws.{only-is, two-is}
 

@@ -6,7 +6,7 @@ use Rattle.std.proofs.lemmas.Bool.{ltb-true, lt-ltb, and_parts, and_from}
 use Rattle.kan_terms.specs.Table.{IsDistinct, name_of}
 use Rattle.kan_terms.proofs.TableLaws.{number_of-name_of}
 use Rattle.sexpr.specs.Seen.{Table, symbol_atom}
-use Rattle.kan_model.specs.Sited.{Sited, sited_atom}
+use Rattle.kan_grammar.specs.Texts.Sited.{Sited, sited_atom}
 use Rattle.goal_syntax.specs.declared.node.Part.TheVariants.{Pair}
 use Rattle.goal_syntax.specs.Rows.{is_there}
 use Rattle.goal_syntax.specs.Parts.{site_at, part_site}

@@ -7,8 +7,8 @@ use Rattle.std.specs.Borrow.{Bor}
 use Rattle.std.proofs.lemmas.Bool.{and_from, and_parts, leb-true, le-leb}
 use Rattle.std.proofs.lemmas.List.{reverse-append, map-append, take_more}
 use Rattle.std.proofs.lemmas.List.Folds.{list_all-append}
-use Rattle.kan_model.specs.Printed.{prefix_name}
-use Rattle.kan_model.specs.Sited.{Sited, sited, sited_within, symbol_number}
+use Rattle.kan_grammar.specs.Data.Printed.{prefix_name}
+use Rattle.kan_grammar.specs.Texts.Sited.{Sited, sited, sited_within, symbol_number}
 use Rattle.sexpr.specs.Meaning.{prefix_of}
 use Rattle.sexpr.specs.Seen.{Table, written}
 use Rattle.sexpr.specs.Works.{within}

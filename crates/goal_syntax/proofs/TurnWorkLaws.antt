@@ -3,10 +3,10 @@ use Rattle.std.proofs.Common.{◌≡◌, ℕ, ◌+◌, ◌<◌, List, [], ◌∷
 use Rattle.std.specs.Option.{option_map, option_copied}
 use Rattle.std.specs.Borrow.{Bor}
 use Rattle.std.proofs.lemmas.List.{reverse-append}
-use Rattle.kan_model.specs.Written.{list, prefixed, dotted}
-use Rattle.kan_model.specs.Words.{round}
-use Rattle.kan_model.specs.Printed.{prefix_name}
-use Rattle.kan_model.specs.Sited.{Sited, sited, symbol_number}
+use Rattle.kan_grammar.specs.Data.Written.{list, prefixed, dotted}
+use Rattle.kan_grammar.specs.Data.Words.{round}
+use Rattle.kan_grammar.specs.Data.Printed.{prefix_name}
+use Rattle.kan_grammar.specs.Texts.Sited.{Sited, sited, symbol_number}
 use Rattle.sexpr.specs.Meaning.{prefix_of}
 use Rattle.sexpr.specs.Seen.{Table, inner_of, list_of, written}
 use Rattle.sexpr.specs.Works.{within}

@@ -3,10 +3,10 @@ use Rattle.std.proofs.Common.{◌≡◌, ◌+◌, ◌<◌, List, [], ◌∷◌, 
 use Rattle.std.specs.List.{flat_map}
 use Rattle.std.proofs.lemmas.Grind.{flat_map-append}
 use Rattle.kan_terms.specs.Tree.{leaves}
-use Rattle.kan_model.specs.Text.{Table}
-use Rattle.kan_model.specs.Sited.{Sited}
-use Rattle.kan_model.specs.Faults.{Fault}
-use Rattle.kan_model.specs.TermForms.{Use}
+use Rattle.kan_model.specs.Answers.Text.{Table}
+use Rattle.kan_grammar.specs.Texts.Sited.{Sited}
+use Rattle.kan_grammar.specs.Data.Faults.{Fault}
+use Rattle.kan_grammar.specs.Texts.TermForms.{Use}
 use Rattle.goal_syntax.specs.TermSteps.{task_form, task_size, step_form, step_size}
 use Rattle.goal_syntax.specs.Waiting.{own_uses, task_uses, later_uses, waiting_uses, waiting_size}
 use Rattle.goal_syntax.specs.declared.term.Task.{Task}

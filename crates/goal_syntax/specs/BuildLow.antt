@@ -1,11 +1,11 @@
 -- That all templates which are left to be built, and all their parts, are low.
 use Rattle.std.specs.Prelude.{◌≡◌, ℕ, Bool, true, ◌&&◌, List, [], ◌∷◌}
 use Rattle.std.specs.List.{list_all}
-use Rattle.kan_model.specs.Text.{Table}
-use Rattle.kan_model.specs.Goals.{Template}
-use Rattle.kan_model.specs.Sited.{Sited}
-use Rattle.kan_model.specs.Scope.{is_low}
-use Rattle.kan_model.specs.Resolved.{Names, template_in}
+use Rattle.kan_model.specs.Answers.Text.{Table}
+use Rattle.kan_model.specs.Programs.Goals.{Template}
+use Rattle.kan_grammar.specs.Texts.Sited.{Sited}
+use Rattle.kan_model.specs.Programs.Scope.{is_low}
+use Rattle.kan_grammar.specs.Texts.Resolved.{Names, template_in}
 use Rattle.goal_syntax.specs.Building.{built, paired}
 use Rattle.goal_syntax.specs.TermSteps.{task_form}
 use Rattle.goal_syntax.specs.declared.build_term.Work.{Work}

@@ -1,11 +1,11 @@
 -- What is made of the terms that are left to be built.
 use Rattle.std.specs.Prelude.{◌≡◌, ℕ, ◌+◌, true, List, [], ◌∷◌, ◌++◌, length, map}
 use Rattle.kan_terms.specs.Tree.{Tree}
-use Rattle.kan_model.specs.Text.{Table}
-use Rattle.kan_model.specs.Goals.{Template}
-use Rattle.kan_model.specs.Sited.{Sited}
-use Rattle.kan_model.specs.Tables.{Tables, template_at, templates_of}
-use Rattle.kan_model.specs.Resolved.{Names, template_in}
+use Rattle.kan_model.specs.Answers.Text.{Table}
+use Rattle.kan_model.specs.Programs.Goals.{Template}
+use Rattle.kan_grammar.specs.Texts.Sited.{Sited}
+use Rattle.kan_model.specs.Programs.Tables.{Tables, template_at, templates_of}
+use Rattle.kan_grammar.specs.Texts.Resolved.{Names, template_in}
 use Rattle.goal_syntax.specs.Drafting.{Grows, HasRoom}
 use Rattle.goal_syntax.specs.Turning.{are_below}
 use Rattle.goal_syntax.specs.TermSteps.{task_form, task_size}

@@ -1,13 +1,13 @@
 -- The goals that were built, and the entries that stand for goals.
 use Rattle.std.specs.Prelude.{◌≡◌, ℕ, Bool, true, ◌&&◌, List, ◌∷◌, Option, Some, None, map, length, reverse}
-use Rattle.kan_model.specs.Text.{Table}
-use Rattle.kan_model.specs.Sited.{Sited}
-use Rattle.kan_model.specs.Goals.{Goal}
-use Rattle.kan_model.specs.TopForms.{Defined}
-use Rattle.kan_model.specs.Resolved.{Names, goal_in}
-use Rattle.kan_model.specs.Calls.{call_there}
-use Rattle.kan_model.specs.Tables.{GoalEntry, RelationEntry, Tables, templates_of, goal_at, goals_of, goal_of, is_goal_grown}
-use Rattle.kan_model.specs.Nodes.{goal_entry}
+use Rattle.kan_model.specs.Answers.Text.{Table}
+use Rattle.kan_grammar.specs.Texts.Sited.{Sited}
+use Rattle.kan_model.specs.Programs.Goals.{Goal}
+use Rattle.kan_grammar.specs.Texts.TopForms.{Defined}
+use Rattle.kan_grammar.specs.Texts.Resolved.{Names, goal_in}
+use Rattle.kan_model.specs.Programs.Calls.{call_there}
+use Rattle.kan_model.specs.Programs.Tables.{GoalEntry, RelationEntry, Tables, templates_of, goal_at, goals_of, goal_of, is_goal_grown}
+use Rattle.kan_model.specs.Programs.Nodes.{goal_entry}
 use Rattle.kan_model.specs.declared.nodes.GoalNode.{GoalNode}
 use Rattle.goal_syntax.specs.Equational.{is_equational, is_equational_entry, are_equational_entries}
 use Rattle.goal_syntax.specs.Called.{calls_named, are_there}

@@ -2,12 +2,12 @@
 use Rattle.std.specs.Prelude.{◌≡◌, ℕ, true, nat_lt, List, [], ◌∷◌, Option, Some, None, map, length}
 use Rattle.std.specs.List.{list_all}
 use Rattle.kan_terms.specs.Tree.{leaf}
-use Rattle.kan_model.specs.Goals as model
-use Rattle.kan_model.specs.GoalForms.{GoalForms}
-use Rattle.kan_model.specs.TopForms.{Defined, NameAt, name_at}
-use Rattle.kan_model.specs.ProgramText.{slot_list}
-use Rattle.kan_model.specs.Resolved.{conjunction, goals_in, within}
-use Rattle.kan_model.specs.Tables.{Tables, RelationEntry, goal_at, goals_of}
+use Rattle.kan_model.specs.Programs.Goals as model
+use Rattle.kan_grammar.specs.Texts.GoalForms.{GoalForms}
+use Rattle.kan_grammar.specs.Texts.TopForms.{Defined, NameAt, name_at}
+use Rattle.kan_grammar.specs.Texts.ProgramText.{slot_list}
+use Rattle.kan_grammar.specs.Texts.Resolved.{conjunction, goals_in, within}
+use Rattle.kan_model.specs.Programs.Tables.{Tables, RelationEntry, goal_at, goals_of}
 use Rattle.kan_model.specs.declared.nodes.Query.{Query}
 
 -- slot 0 is the list of as many slots behind it as there are names

@@ -1,10 +1,10 @@
 -- Goals whose calls name relations that are there, by the entries of a table of relations.
 use Rattle.std.specs.Prelude.{◌≡◌, Bool, true, ◌&&◌, List, length, slice_get}
 use Rattle.std.specs.List.{list_all}
-use Rattle.kan_model.specs.Goals.{Goal, Relation, Query}
-use Rattle.kan_model.specs.Calls.{call_there, entry_takes}
-use Rattle.kan_model.specs.Sited.{Sited}
-use Rattle.kan_model.specs.Tables.{GoalEntry, RelationEntry, Tables}
+use Rattle.kan_model.specs.Programs.Goals.{Goal, Relation, Query}
+use Rattle.kan_model.specs.Programs.Calls.{call_there, entry_takes}
+use Rattle.kan_grammar.specs.Texts.Sited.{Sited}
+use Rattle.kan_model.specs.Programs.Tables.{GoalEntry, RelationEntry, Tables}
 use Rattle.goal_syntax.specs.Low.{KeepsLow}
 
 -- each call in a goal names a relation of these entries and has as many arguments as that takes

@@ -1,9 +1,9 @@
 -- Want of memory, and the symbols that prefixes stand for.
 use Rattle.std.specs.Prelude.{◌≡◌, true, is_some}
 use Rattle.kan_terms.specs.Table.{number_of}
-use Rattle.kan_model.specs.Words.{Prefix}
-use Rattle.kan_model.specs.Printed.{prefix_name}
-use Rattle.kan_model.specs.Text.{Table}
+use Rattle.kan_grammar.specs.Data.Words.{Prefix}
+use Rattle.kan_grammar.specs.Data.Printed.{prefix_name}
+use Rattle.kan_model.specs.Answers.Text.{Table}
 use Rattle.goal_syntax.specs.declared.check.SyntaxError.{SyntaxError}
 use Rattle.goal_syntax.specs.declared.check.SyntaxError.TheVariants.{Memory}
 

@@ -1,14 +1,14 @@
 -- What compiling the top forms of a text answers.
 use Rattle.std.specs.Prelude.{◌≡◌, List, map, true, Some, None, Result, Ok, Err}
-use Rattle.kan_model.specs.Faults as faults
-use Rattle.kan_model.specs.Text.{Table}
-use Rattle.kan_model.specs.Sited.{Sited}
-use Rattle.kan_model.specs.TextFaults.{faults_of, least}
-use Rattle.kan_model.specs.ProgramText.{Meant, meant}
-use Rattle.kan_model.specs.Scope.{is_small}
-use Rattle.kan_model.specs.Tables.{nothing_open}
-use Rattle.kan_model.specs.Nodes.{goal_place}
-use Rattle.kan_model.specs.Programs as programs
+use Rattle.kan_grammar.specs.Data.Faults as faults
+use Rattle.kan_model.specs.Answers.Text.{Table}
+use Rattle.kan_grammar.specs.Texts.Sited.{Sited}
+use Rattle.kan_grammar.specs.Texts.TextFaults.{faults_of, least}
+use Rattle.kan_grammar.specs.Texts.ProgramText.{Meant, meant}
+use Rattle.kan_model.specs.Programs.Scope.{is_small}
+use Rattle.kan_model.specs.Programs.Tables.{nothing_open}
+use Rattle.kan_model.specs.Programs.Nodes.{goal_place}
+use Rattle.kan_model.specs.Programs.Closed as programs
 use Rattle.kan_model.specs.declared.program.Program.{Program}
 use Rattle.kan_model.specs.declared.nodes.Query.{Query}
 use Rattle.goal_syntax.specs.Named.{are_named}

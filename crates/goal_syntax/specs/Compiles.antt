@@ -1,15 +1,15 @@
 -- What compiling a text answers.
 use Rattle.std.specs.Prelude.{◌≡◌, ℕ, ◌++◌, [], List, map, true, Option, Some, None, Result, Ok, Err}
-use Rattle.kan_model.specs.Faults as faults
-use Rattle.kan_model.specs.Goals as model
-use Rattle.kan_model.specs.Text.{Table}
-use Rattle.kan_model.specs.TextFaults.{fault_of_text, IsAccepted}
-use Rattle.kan_model.specs.Faults.{read_text, data_are}
-use Rattle.kan_model.specs.ProgramText.{program_of_text, queries_of_text}
-use Rattle.kan_model.specs.Scope.{is_small}
-use Rattle.kan_model.specs.Tables.{nothing_open}
-use Rattle.kan_model.specs.Nodes.{goal_place}
-use Rattle.kan_model.specs.Programs as programs
+use Rattle.kan_grammar.specs.Data.Faults as faults
+use Rattle.kan_model.specs.Programs.Goals as model
+use Rattle.kan_model.specs.Answers.Text.{Table}
+use Rattle.kan_grammar.specs.Texts.TextFaults.{fault_of_text, IsAccepted}
+use Rattle.kan_grammar.specs.Data.Faults.{read_text, data_are}
+use Rattle.kan_grammar.specs.Texts.ProgramText.{program_of_text, queries_of_text}
+use Rattle.kan_model.specs.Programs.Scope.{is_small}
+use Rattle.kan_model.specs.Programs.Tables.{nothing_open}
+use Rattle.kan_model.specs.Programs.Nodes.{goal_place}
+use Rattle.kan_model.specs.Programs.Closed as programs
 use Rattle.kan_model.specs.declared.program.Program.{Program}
 use Rattle.kan_model.specs.declared.nodes.Query.{Query}
 use Rattle.sexpr.specs.Seen.{written, as_kept}

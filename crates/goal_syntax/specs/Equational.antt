@@ -1,8 +1,8 @@
 -- Goals whose only constraints are equations.
 use Rattle.std.specs.Prelude.{Bool, true, false, ◌&&◌, List}
 use Rattle.std.specs.List.{list_all}
-use Rattle.kan_model.specs.Goals.{Primitive, Goal, Relation, Query}
-use Rattle.kan_model.specs.Tables.{GoalEntry}
+use Rattle.kan_model.specs.Programs.Goals.{Primitive, Goal, Relation, Query}
+use Rattle.kan_model.specs.Programs.Tables.{GoalEntry}
 
 -- a primitive is an equation
 abbrev pub is_equation : {X : Type 0} → Primitive X → Bool

@@ -1,6 +1,6 @@
 -- What the faults of the code stand for.
 use Rattle.std.specs.Prelude.{List, map}
-use Rattle.kan_model.specs.Faults as faults
+use Rattle.kan_grammar.specs.Data.Faults as faults
 use Rattle.goal_syntax.specs.declared.fault.Fault.{Fault}
 
 abbrev pub fault_of : Fault → faults.Fault

@@ -1,7 +1,7 @@
 -- The first of some faults and of others behind them.
 use Rattle.std.specs.Prelude.{List, [], ◌∷◌, Option, Some}
-use Rattle.kan_model.specs.Faults.{Fault}
-use Rattle.kan_model.specs.TextFaults.{first_of}
+use Rattle.kan_grammar.specs.Data.Faults.{Fault}
+use Rattle.kan_grammar.specs.Texts.TextFaults.{first_of}
 
 -- the first of some faults, and of one that stands behind them
 abbrev pub least_before : Option Fault → List Fault → Option Fault

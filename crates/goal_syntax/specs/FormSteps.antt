@@ -1,11 +1,11 @@
 -- What the top forms that the code opens stand for.
 use Rattle.std.specs.Prelude.{ℕ, ◌^◌, ℤ, pos, negsuc, nat_lt, false, List, [], ◌∷◌, Option, Some, None, option_map, if◌then◌else◌}
-use Rattle.kan_model.specs.Text.{Table}
-use Rattle.kan_model.specs.Sited.{Sited}
-use Rattle.kan_model.specs.Binders.{Checked, binder, binder_faults}
-use Rattle.kan_model.specs.GoalForms.{goal_forms}
-use Rattle.kan_model.specs.TopForms as forms
-use Rattle.kan_model.specs.TopForms.{NameAt, name_at, head_name, head, limit, no_limit}
+use Rattle.kan_model.specs.Answers.Text.{Table}
+use Rattle.kan_grammar.specs.Texts.Sited.{Sited}
+use Rattle.kan_grammar.specs.Texts.Binders.{Checked, binder, binder_faults}
+use Rattle.kan_grammar.specs.Texts.GoalForms.{goal_forms}
+use Rattle.kan_grammar.specs.Texts.TopForms as forms
+use Rattle.kan_grammar.specs.Texts.TopForms.{NameAt, name_at, head_name, head, limit, no_limit}
 use Rattle.goal_syntax.specs.Parts.{site_at}
 use Rattle.goal_syntax.specs.declared.form.Form.{Form}
 use Rattle.goal_syntax.specs.declared.form.Form.TheVariants.{Relation, RunOfOne, RunOfList, Misshapen, Unknown}

@@ -1,15 +1,15 @@
 -- The faults of what waits to be judged.
 use Rattle.std.specs.Prelude.{ℕ, ◌+◌, List, [], ◌∷◌, ◌++◌, length, take}
 use Rattle.std.specs.List.{flat_map}
-use Rattle.kan_model.specs.Text.{Table}
-use Rattle.kan_model.specs.Sited.{Sited}
-use Rattle.kan_model.specs.Faults.{Fault, fault}
-use Rattle.kan_model.specs.Binders.{binder, tag}
-use Rattle.kan_model.specs.TermForms.{term_form}
-use Rattle.kan_model.specs.GoalForms.{goal_form, goal_forms, clause_forms, term_forms}
-use Rattle.kan_model.specs.TopForms.{Defined}
-use Rattle.kan_model.specs.Resolved.{Names, arity, within}
-use Rattle.kan_model.specs.TextFaults.{term_faults, call_faults, goal_faults, goals_faults}
+use Rattle.kan_model.specs.Answers.Text.{Table}
+use Rattle.kan_grammar.specs.Texts.Sited.{Sited}
+use Rattle.kan_grammar.specs.Data.Faults.{Fault, fault}
+use Rattle.kan_grammar.specs.Texts.Binders.{binder, tag}
+use Rattle.kan_grammar.specs.Texts.TermForms.{term_form}
+use Rattle.kan_grammar.specs.Texts.GoalForms.{goal_form, goal_forms, clause_forms, term_forms}
+use Rattle.kan_grammar.specs.Texts.TopForms.{Defined}
+use Rattle.kan_grammar.specs.Texts.Resolved.{Names, arity, within}
+use Rattle.kan_grammar.specs.Texts.TextFaults.{term_faults, call_faults, goal_faults, goals_faults}
 use Rattle.goal_syntax.specs.Parts.{site_at}
 use Rattle.goal_syntax.specs.TermSteps.{site_size}
 use Rattle.goal_syntax.specs.declared.goal.Goal as opened

@@ -1,10 +1,10 @@
 -- What the goals that the code opens stand for.
 use Rattle.std.specs.Prelude.{ℕ, ◌+◌, List}
-use Rattle.kan_model.specs.Text.{Table}
-use Rattle.kan_model.specs.Sited.{Sited}
-use Rattle.kan_model.specs.Binders.{binder, tag}
-use Rattle.kan_model.specs.TermForms.{term_form}
-use Rattle.kan_model.specs.GoalForms.{GoalForm, goal_forms, clause_forms, term_forms}
+use Rattle.kan_model.specs.Answers.Text.{Table}
+use Rattle.kan_grammar.specs.Texts.Sited.{Sited}
+use Rattle.kan_grammar.specs.Texts.Binders.{binder, tag}
+use Rattle.kan_grammar.specs.Texts.TermForms.{term_form}
+use Rattle.kan_grammar.specs.Texts.GoalForms.{GoalForm, goal_forms, clause_forms, term_forms}
 use Rattle.goal_syntax.specs.Parts.{site_at}
 use Rattle.goal_syntax.specs.TermSteps.{site_size}
 use Rattle.goal_syntax.specs.declared.goal.Goal.{Goal}

@@ -1,13 +1,13 @@
 -- What is made of the goals that are left to be built.
 use Rattle.std.specs.Prelude.{ℕ, ◌+◌, true, false, List, [], ◌∷◌, length, take, Option, Some, None}
-use Rattle.kan_model.specs.Text.{Table}
-use Rattle.kan_model.specs.Sited.{Sited, site, is_proper}
-use Rattle.kan_model.specs.Goals.{Goal}
-use Rattle.kan_model.specs.Binders.{binder}
-use Rattle.kan_model.specs.GoalForms.{GoalForm, GoalForms, all_of, misshapen, goal_form, goal_forms, clause_forms}
-use Rattle.kan_model.specs.TopForms.{Defined}
-use Rattle.kan_model.specs.Resolved.{Names, conjunction, disjunction, goal_in, goals_in}
-use Rattle.kan_model.specs.Tables.{GoalEntry}
+use Rattle.kan_model.specs.Answers.Text.{Table}
+use Rattle.kan_grammar.specs.Texts.Sited.{Sited, site, is_proper}
+use Rattle.kan_model.specs.Programs.Goals.{Goal}
+use Rattle.kan_grammar.specs.Texts.Binders.{binder}
+use Rattle.kan_grammar.specs.Texts.GoalForms.{GoalForm, GoalForms, all_of, misshapen, goal_form, goal_forms, clause_forms}
+use Rattle.kan_grammar.specs.Texts.TopForms.{Defined}
+use Rattle.kan_grammar.specs.Texts.Resolved.{Names, conjunction, disjunction, goal_in, goals_in}
+use Rattle.kan_model.specs.Programs.Tables.{GoalEntry}
 use Rattle.goal_syntax.specs.Parts.{site_at}
 use Rattle.goal_syntax.specs.TermSteps.{site_size}
 use Rattle.goal_syntax.specs.Built.{Built, with_goal}

@@ -1,9 +1,9 @@
 -- How many pairs high data are, and which of them and of templates are low.
 use Rattle.std.specs.Prelude.{◌≡◌, ℕ, suc, max, Bool, true, nat_le, List}
 use Rattle.std.specs.List.{list_all}
-use Rattle.kan_model.specs.Sited.{Sited}
-use Rattle.kan_model.specs.Scope.{is_low}
-use Rattle.kan_model.specs.Tables.{Tables, templates_of}
+use Rattle.kan_grammar.specs.Texts.Sited.{Sited}
+use Rattle.kan_model.specs.Programs.Scope.{is_low}
+use Rattle.kan_model.specs.Programs.Tables.{Tables, templates_of}
 
 -- how many pairs high a datum is
 abbrev pub pairs_high : Sited → ℕ

@@ -1,7 +1,7 @@
 -- What the names of the language stand for.
 use Rattle.std.specs.Prelude.{ℕ, List as Numbers}
-use Rattle.kan_model.specs.Language as words
-use Rattle.kan_model.specs.Language.{word_among, goal_names, constraint_names, term_names}
+use Rattle.kan_grammar.specs.Texts.Language as words
+use Rattle.kan_grammar.specs.Texts.Language.{word_among, goal_names, constraint_names, term_names}
 use Rattle.goal_syntax.specs.declared.word.Word.{Word}
 use Rattle.goal_syntax.specs.declared.word.Word.TheVariants.{Defrel, Run, RunAll, Succeed, Fail, Same, Differ, Symbolo, Numbero, Absento, Fresh, Conde, Conj, Disj, ConjTwo, DisjTwo, Quote, Quasiquote, Unquote, Cons, List, Other}
 

@@ -2,8 +2,8 @@
 use Rattle.std.specs.Prelude.{ℕ, Bool, true, ◌&&◌, is_some}
 use Rattle.std.specs.List.{list_all}
 use Rattle.kan_terms.specs.Table.{name_of}
-use Rattle.kan_model.specs.Tables.{TermEntry, GoalEntry, RelationEntry, Tables}
-use Rattle.kan_model.specs.Text.{Table}
+use Rattle.kan_model.specs.Programs.Tables.{TermEntry, GoalEntry, RelationEntry, Tables}
+use Rattle.kan_model.specs.Answers.Text.{Table}
 
 -- a symbol has a name in a table
 abbrev pub has_name : Table → ℕ → Bool

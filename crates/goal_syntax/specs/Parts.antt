@@ -1,6 +1,6 @@
 -- The data that the parts of a table are.
 use Rattle.std.specs.Prelude.{ℕ, List, [], ◌∷◌, ◌++◌, slice_index_or}
-use Rattle.kan_model.specs.Sited.{Sited}
+use Rattle.kan_grammar.specs.Texts.Sited.{Sited}
 use Rattle.goal_syntax.specs.declared.node.Part.{Part}
 use Rattle.goal_syntax.specs.declared.node.Part.TheVariants.{Name, Number, Truth, Nil, Pair}
 use Rattle.goal_syntax.specs.declared.node.Node.{Node}

@@ -1,6 +1,6 @@
 -- What the relations of the code stand for.
 use Rattle.std.specs.Prelude.{List, [], ◌∷◌, map, Option, Some, None}
-use Rattle.kan_model.specs.TopForms as forms
+use Rattle.kan_grammar.specs.Texts.TopForms as forms
 use Rattle.goal_syntax.specs.declared.relations.Defined.{Defined}
 
 abbrev pub related_one : Defined → forms.Defined

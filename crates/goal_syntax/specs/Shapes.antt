@@ -1,6 +1,6 @@
 -- The shapes of short lists.
 use Rattle.std.specs.Prelude.{ℕ, ◌<◌, Bool, true, false, Option, Some, None}
-use Rattle.kan_model.specs.Sited.{Sited}
+use Rattle.kan_grammar.specs.Texts.Sited.{Sited}
 
 -- the two parts of a pair
 abbrev pub parts : Sited → Option (Sited × Sited)

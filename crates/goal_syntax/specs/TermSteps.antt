@@ -1,9 +1,9 @@
 -- What the tasks and steps by which terms are opened stand for.
 use Rattle.std.specs.Prelude.{ℕ, ◌+◌, true, false, List}
 use Rattle.kan_terms.specs.Tree.{Tree}
-use Rattle.kan_model.specs.Text.{Table}
-use Rattle.kan_model.specs.Sited.{Sited, is_proper, constant}
-use Rattle.kan_model.specs.TermForms.{Use, TermForm, bad_term, term_form, list_form, template_form}
+use Rattle.kan_model.specs.Answers.Text.{Table}
+use Rattle.kan_grammar.specs.Texts.Sited.{Sited, is_proper, constant}
+use Rattle.kan_grammar.specs.Texts.TermForms.{Use, TermForm, bad_term, term_form, list_form, template_form}
 use Rattle.goal_syntax.specs.Parts.{site_at}
 use Rattle.goal_syntax.specs.declared.term.Task.{Task}
 use Rattle.goal_syntax.specs.declared.term.Task.TheVariants.{Term, Terms, Template, Constant}

@@ -1,8 +1,8 @@
 -- That all data which are left to be turned, and all their parts, are low.
 use Rattle.std.specs.Prelude.{◌≡◌, ℕ, Bool, true, ◌&&◌, List, [], ◌∷◌}
 use Rattle.std.specs.List.{list_all}
-use Rattle.kan_model.specs.Text.{Table}
-use Rattle.kan_model.specs.Sited.{Sited, sited, sited_within}
+use Rattle.kan_model.specs.Answers.Text.{Table}
+use Rattle.kan_grammar.specs.Texts.Sited.{Sited, sited, sited_within}
 use Rattle.sexpr.specs.Seen.{written}
 use Rattle.sexpr.specs.Works.{within}
 use Rattle.goal_syntax.specs.Low.{is_low_datum, AreLow}

@@ -1,10 +1,10 @@
 -- What is made of the data that are left to be turned.
 use Rattle.std.specs.Prelude.{◌≡◌, ℕ, ◌+◌, List, [], ◌∷◌}
-use Rattle.kan_model.specs.Text.{Table}
-use Rattle.kan_model.specs.Printed.{prefix_name}
-use Rattle.kan_model.specs.Words as words
-use Rattle.kan_model.specs.Written.{Written, Within, single, list, prefixed, close, dotted, element}
-use Rattle.kan_model.specs.Sited.{Sited, sited, sited_within, symbol_number}
+use Rattle.kan_model.specs.Answers.Text.{Table}
+use Rattle.kan_grammar.specs.Data.Printed.{prefix_name}
+use Rattle.kan_grammar.specs.Data.Words as words
+use Rattle.kan_grammar.specs.Data.Written.{Written, Within, single, list, prefixed, close, dotted, element}
+use Rattle.kan_grammar.specs.Texts.Sited.{Sited, sited, sited_within, symbol_number}
 use Rattle.sexpr.specs.Seen.{written}
 use Rattle.sexpr.specs.Works.{within}
 use Rattle.sexpr.specs.declared.data.Datum.{Datum}

@@ -1,6 +1,6 @@
 -- What is left to be turned into parts, and the data of those that were made.
 use Rattle.std.specs.Prelude.{ℕ, Bool, true, ◌&&◌, nat_lt, List, [], ◌∷◌, ◌++◌}
-use Rattle.kan_model.specs.Sited.{Sited}
+use Rattle.kan_grammar.specs.Texts.Sited.{Sited}
 use Rattle.goal_syntax.specs.Parts.{site_at}
 
 -- all places are below a number

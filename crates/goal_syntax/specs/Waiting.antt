@@ -1,9 +1,9 @@
 -- What the terms that wait to be judged use.
 use Rattle.std.specs.Prelude.{ℕ, ◌+◌, List, [], ◌∷◌, ◌++◌}
 use Rattle.kan_terms.specs.Tree.{leaves}
-use Rattle.kan_model.specs.Text.{Table}
-use Rattle.kan_model.specs.Sited.{Sited}
-use Rattle.kan_model.specs.TermForms.{Use, variable, misshapen}
+use Rattle.kan_model.specs.Answers.Text.{Table}
+use Rattle.kan_grammar.specs.Texts.Sited.{Sited}
+use Rattle.kan_grammar.specs.Texts.TermForms.{Use, variable, misshapen}
 use Rattle.goal_syntax.specs.TermSteps.{task_form, task_size}
 use Rattle.goal_syntax.specs.declared.term.Task.{Task}
 use Rattle.goal_syntax.specs.declared.term.Step.{Step}

@@ -1,9 +1,9 @@
 //! Binders and tags.
 
 ghost use Rattle.std.specs.Prelude.{◌≡◌, [], ◌∷◌, ◌++◌, IfOk, OnOk, map, Some};
-ghost use Rattle.kan_model.specs.Binders.{is_among, may_bind, binder_faults, names_of, bound_names, names_faults, binder, quoted_symbol, tag};
-ghost use Rattle.kan_model.specs.Language.{word};
-ghost use Rattle.kan_model.specs.Resolved.{within};
+ghost use Rattle.kan_grammar.specs.Texts.Binders.{is_among, may_bind, binder_faults, names_of, bound_names, names_faults, binder, quoted_symbol, tag};
+ghost use Rattle.kan_grammar.specs.Texts.Language.{word};
+ghost use Rattle.kan_grammar.specs.Texts.Resolved.{within};
 ghost use Rattle.goal_syntax.specs.FaultLists.{fault_list};
 ghost use Rattle.goal_syntax.specs.Parts.{sites, site_at};
 

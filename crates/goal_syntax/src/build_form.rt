@@ -1,14 +1,14 @@
 //! Building top forms: relations and runs.
 
 ghost use Rattle.std.specs.Prelude.{◌≡◌, ◌&&◌, ◌<◌, ◌∷◌, ◌++◌, [], List, length, IfOk, OnOk};
-ghost use Rattle.kan_model.specs.Goals as model;
-ghost use Rattle.kan_model.specs.TopForms.{head as head_of, head_name};
-ghost use Rattle.kan_model.specs.GoalForms.{goal_forms};
-ghost use Rattle.kan_model.specs.ProgramText.{relations_in, queries_in};
-ghost use Rattle.kan_model.specs.Resolved.{conjunction, goals_in, within};
-ghost use Rattle.kan_model.specs.Drafts.{tables};
-ghost use Rattle.kan_model.specs.Nodes.{relation_entry};
-ghost use Rattle.kan_model.specs.Tables.{with_relation};
+ghost use Rattle.kan_model.specs.Programs.Goals as model;
+ghost use Rattle.kan_grammar.specs.Texts.TopForms.{head as head_of, head_name};
+ghost use Rattle.kan_grammar.specs.Texts.GoalForms.{goal_forms};
+ghost use Rattle.kan_grammar.specs.Texts.ProgramText.{relations_in, queries_in};
+ghost use Rattle.kan_grammar.specs.Texts.Resolved.{conjunction, goals_in, within};
+ghost use Rattle.kan_model.specs.Programs.Drafts.{tables};
+ghost use Rattle.kan_model.specs.Programs.Nodes.{relation_entry};
+ghost use Rattle.kan_model.specs.Programs.Tables.{with_relation};
 ghost use Rattle.kan_model.specs.declared.nodes.Query.{Query as AskedOf};
 ghost use Rattle.goal_syntax.specs.Called.{KeepsClosed, all_named, bodies_named, calls_named};
 ghost use Rattle.goal_syntax.specs.BuiltText.{Means, name_symbol, query_asked, relation_meant};

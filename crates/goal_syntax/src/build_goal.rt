@@ -1,12 +1,12 @@
 //! Building goals.
 
 ghost use Rattle.std.specs.Prelude.{List, ◌≡◌, ◌&&◌, ◌<◌, ◌≤◌, ◌+◌, ◌∷◌, ◌++◌, [], length, reverse, true, IfOk, OnOk};
-ghost use Rattle.kan_model.specs.Binders.{binder as binder_of};
-ghost use Rattle.kan_model.specs.GoalForms.{goal_forms};
-ghost use Rattle.kan_model.specs.Resolved.{Names, conjunction, goals_in, within};
-ghost use Rattle.kan_model.specs.Drafts.{tables};
+ghost use Rattle.kan_grammar.specs.Texts.Binders.{binder as binder_of};
+ghost use Rattle.kan_grammar.specs.Texts.GoalForms.{goal_forms};
+ghost use Rattle.kan_grammar.specs.Texts.Resolved.{Names, conjunction, goals_in, within};
+ghost use Rattle.kan_model.specs.Programs.Drafts.{tables};
 ghost use Rattle.goal_syntax.specs.Low.{KeepsLow};
-ghost use Rattle.kan_model.specs.Tables.{RelationEntry};
+ghost use Rattle.kan_model.specs.Programs.Tables.{RelationEntry};
 ghost use Rattle.goal_syntax.specs.Called.{are_there, calls_named};
 ghost use Rattle.goal_syntax.specs.Built.{built, own_goal, with_maybe};
 ghost use Rattle.goal_syntax.specs.Drafting.{HasGoal, Grows, HasRoom};

@@ -1,10 +1,10 @@
 //! Building goals that have no goals in them.
 
 ghost use Rattle.std.specs.Prelude.{◌≡◌, IfOk, OnOk};
-ghost use Rattle.kan_model.specs.Binders.{tag as tag_of};
-ghost use Rattle.kan_model.specs.TermForms.{term_form};
-ghost use Rattle.kan_model.specs.Resolved.{relation_number, template_in};
-ghost use Rattle.kan_model.specs.Drafts.{tables};
+ghost use Rattle.kan_grammar.specs.Texts.Binders.{tag as tag_of};
+ghost use Rattle.kan_grammar.specs.Texts.TermForms.{term_form};
+ghost use Rattle.kan_grammar.specs.Texts.Resolved.{relation_number, template_in};
+ghost use Rattle.kan_model.specs.Programs.Drafts.{tables};
 ghost use Rattle.goal_syntax.specs.Low.{KeepsLow};
 ghost use Rattle.goal_syntax.specs.Built.{StandsFor, own_goal};
 ghost use Rattle.goal_syntax.specs.Drafting.{HasTemplate, Grows, HasRoom};

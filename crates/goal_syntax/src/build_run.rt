@@ -2,16 +2,16 @@
 
 ghost use Rattle.std.specs.Prelude.{true, ◌≤◌, ◌≡◌, ◌&&◌, ◌<◌, ◌∷◌, [], None, ℕ, List, length, IfOk, OnOk};
 ghost use Rattle.kan_terms.specs.Tree.{leaf};
-ghost use Rattle.kan_model.specs.Goals as model;
-ghost use Rattle.kan_model.specs.Binders.{binder as binder_of};
-ghost use Rattle.kan_model.specs.GoalForms.{goal_forms};
-ghost use Rattle.kan_model.specs.ProgramText.{slot_list};
-ghost use Rattle.kan_model.specs.Resolved.{conjunction, goals_in, within};
-ghost use Rattle.kan_model.specs.Drafts.{tables, templates};
+ghost use Rattle.kan_model.specs.Programs.Goals as model;
+ghost use Rattle.kan_grammar.specs.Texts.Binders.{binder as binder_of};
+ghost use Rattle.kan_grammar.specs.Texts.GoalForms.{goal_forms};
+ghost use Rattle.kan_grammar.specs.Texts.ProgramText.{slot_list};
+ghost use Rattle.kan_grammar.specs.Texts.Resolved.{conjunction, goals_in, within};
+ghost use Rattle.kan_model.specs.Programs.Drafts.{tables, templates};
 ghost use Rattle.goal_syntax.specs.Called.{KeepsClosed, are_there, calls_named};
 ghost use Rattle.std.specs.List.{list_all};
-ghost use Rattle.kan_model.specs.Scope.{is_low};
-ghost use Rattle.kan_model.specs.Tables.{RelationEntry};
+ghost use Rattle.kan_model.specs.Programs.Scope.{is_low};
+ghost use Rattle.kan_model.specs.Programs.Tables.{RelationEntry};
 ghost use Rattle.goal_syntax.specs.Drafting.{HasGoal, Grows, HasRoom};
 ghost use Rattle.goal_syntax.specs.Equational.{is_equational, are_equational_entries};
 ghost use Rattle.goal_syntax.specs.Parts.{sites, site_at};

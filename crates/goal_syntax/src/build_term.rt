@@ -1,14 +1,14 @@
 //! Building templates of terms.
 
 ghost use Rattle.std.specs.Prelude.{◌≡◌, ◌∷◌, ◌+◌, ◌<◌, ◌≤◌, map, length, reverse, unwrap_or, true, IfOk, OnOk, List, ℕ};
-ghost use Rattle.kan_model.specs.GoalForms.{term_forms};
-ghost use Rattle.kan_model.specs.ProgramText.{slot_list};
-ghost use Rattle.kan_model.specs.Resolved.{template_in, slot_of};
-ghost use Rattle.kan_model.specs.Tables.{is_term_grown, template_at, template_of};
-ghost use Rattle.kan_model.specs.Nodes.{term_entry};
-ghost use Rattle.kan_model.specs.Drafts.{tables, templates};
+ghost use Rattle.kan_grammar.specs.Texts.GoalForms.{term_forms};
+ghost use Rattle.kan_grammar.specs.Texts.ProgramText.{slot_list};
+ghost use Rattle.kan_grammar.specs.Texts.Resolved.{template_in, slot_of};
+ghost use Rattle.kan_model.specs.Programs.Tables.{is_term_grown, template_at, template_of};
+ghost use Rattle.kan_model.specs.Programs.Nodes.{term_entry};
+ghost use Rattle.kan_model.specs.Programs.Drafts.{tables, templates};
 ghost use Rattle.std.specs.List.{list_all};
-ghost use Rattle.kan_model.specs.Scope.{is_low};
+ghost use Rattle.kan_model.specs.Programs.Scope.{is_low};
 ghost use Rattle.goal_syntax.specs.BuildLow.{WorksLow, all_low};
 ghost use Rattle.goal_syntax.specs.Low.{AreLow, KeepsLow};
 ghost use Rattle.goal_syntax.specs.Building.{AddsTerms, HasTemplates, with_arguments, built, paired, finish, work_size, works_size};

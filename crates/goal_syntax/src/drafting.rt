@@ -1,13 +1,13 @@
 //! Drafts that keep room for more.
 
 ghost use Rattle.std.specs.Prelude.{List, ◌≡◌, ◌&&◌, ◌<◌, length, true, IfOk, OnOk};
-ghost use Rattle.kan_model.specs.Calls.{call_there};
+ghost use Rattle.kan_model.specs.Programs.Calls.{call_there};
 ghost use Rattle.goal_syntax.specs.Called.{are_there};
-ghost use Rattle.kan_model.specs.Tables.{RelationEntry, is_term_grown, is_goal_grown, template_of, goal_of, with_argument};
-ghost use Rattle.kan_model.specs.Nodes.{term_entry, goal_entry};
-ghost use Rattle.kan_model.specs.Drafts.{tables, templates, goals};
+ghost use Rattle.kan_model.specs.Programs.Tables.{RelationEntry, is_term_grown, is_goal_grown, template_of, goal_of, with_argument};
+ghost use Rattle.kan_model.specs.Programs.Nodes.{term_entry, goal_entry};
+ghost use Rattle.kan_model.specs.Programs.Drafts.{tables, templates, goals};
 ghost use Rattle.std.specs.List.{list_all};
-ghost use Rattle.kan_model.specs.Scope.{is_low};
+ghost use Rattle.kan_model.specs.Programs.Scope.{is_low};
 ghost use Rattle.goal_syntax.specs.Drafting.{HasTemplate, HasGoal, Grows, HasRoom};
 ghost use Rattle.goal_syntax.specs.Equational.{is_equational_entry, are_equational_entries};
 

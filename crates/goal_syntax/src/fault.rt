@@ -1,7 +1,7 @@
 //! Faults of texts.
 
 ghost use Rattle.std.specs.Prelude.{◌≡◌, [], ◌∷◌, ◌++◌, OnOk};
-ghost use Rattle.kan_model.specs.Faults.{fault};
+ghost use Rattle.kan_grammar.specs.Data.Faults.{fault};
 ghost use Rattle.goal_syntax.specs.FaultLists.{fault_list};
 
 use kan_terms::Memory;

@@ -1,8 +1,8 @@
 //! Top forms as they are written.
 
 ghost use Rattle.std.specs.Prelude.{◌≡◌};
-ghost use Rattle.kan_model.specs.TopForms.{form, relation_form, run_form, limited_form, defined_by, defined_by_head};
-ghost use Rattle.kan_model.specs.Sited.{elements};
+ghost use Rattle.kan_grammar.specs.Texts.TopForms.{form, relation_form, run_form, limited_form, defined_by, defined_by_head};
+ghost use Rattle.kan_grammar.specs.Texts.Sited.{elements};
 ghost use Rattle.goal_syntax.specs.FormSteps.{step_top, limit_at, run_with};
 ghost use Rattle.goal_syntax.specs.Parts.{sites, site_at};
 ghost use Rattle.goal_syntax.specs.Related.{related_maybe};

@@ -1,10 +1,10 @@
 //! Goals as they are written, opened one step at a time.
 
 ghost use Rattle.std.specs.Prelude.{◌≡◌, ◌+◌, ◌<◌, ◌≤◌, List, true};
-ghost use Rattle.kan_model.specs.Text.{Table};
-ghost use Rattle.kan_model.specs.Sited.{Sited, name, pair, count};
-ghost use Rattle.kan_model.specs.GoalForms.{goal_form, fresh_form, is_count, parts_of, atom_goal};
-ghost use Rattle.kan_model.specs.Language.{word};
+ghost use Rattle.kan_model.specs.Answers.Text.{Table};
+ghost use Rattle.kan_grammar.specs.Texts.Sited.{Sited, name, pair, count};
+ghost use Rattle.kan_grammar.specs.Texts.GoalForms.{goal_form, fresh_form, is_count, parts_of, atom_goal};
+ghost use Rattle.kan_grammar.specs.Texts.Language.{word};
 ghost use Rattle.goal_syntax.specs.Meaning.{word_of};
 ghost use Rattle.goal_syntax.specs.Parts.{sites, site_at};
 ghost use Rattle.goal_syntax.specs.TermSteps.{site_size};

@@ -1,9 +1,9 @@
 //! Goals that are made of those that were made last.
 
 ghost use Rattle.std.specs.Prelude.{◌≡◌, length, true, OnOk};
-ghost use Rattle.kan_model.specs.Drafts.{tables};
-ghost use Rattle.kan_model.specs.Nodes.{goal_entry};
-ghost use Rattle.kan_model.specs.Tables.{is_goal_grown};
+ghost use Rattle.kan_model.specs.Programs.Drafts.{tables};
+ghost use Rattle.kan_model.specs.Programs.Nodes.{goal_entry};
+ghost use Rattle.kan_model.specs.Programs.Tables.{is_goal_grown};
 ghost use Rattle.goal_syntax.specs.Built.{built, with_entry};
 ghost use Rattle.goal_syntax.specs.Drafting.{Grows, HasRoom};
 ghost use Rattle.goal_syntax.specs.GoalWorks.{empty_entry, freshened, join_entry, joined};

@@ -1,10 +1,10 @@
 //! The faults of top forms.
 
 ghost use Rattle.std.specs.Prelude.{◌≡◌, ◌++◌, ◌∷◌, [], take, None, IfOk, OnOk, option_map};
-ghost use Rattle.kan_model.specs.TopForms.{head as head_of, head_name as name_of_head, name_faults};
-ghost use Rattle.kan_model.specs.GoalForms.{goal_forms};
-ghost use Rattle.kan_model.specs.Resolved.{arity, within};
-ghost use Rattle.kan_model.specs.TextFaults.{is_new, again_faults, goals_faults, form_faults};
+ghost use Rattle.kan_grammar.specs.Texts.TopForms.{head as head_of, head_name as name_of_head, name_faults};
+ghost use Rattle.kan_grammar.specs.Texts.GoalForms.{goal_forms};
+ghost use Rattle.kan_grammar.specs.Texts.Resolved.{arity, within};
+ghost use Rattle.kan_grammar.specs.Texts.TextFaults.{is_new, again_faults, goals_faults, form_faults};
 ghost use Rattle.goal_syntax.specs.FaultLists.{fault_list};
 ghost use Rattle.goal_syntax.specs.FormSteps.{step_top, limit_at, one_name, named, allowed_limit, small_number};
 ghost use Rattle.goal_syntax.specs.Parts.{sites, site_at};

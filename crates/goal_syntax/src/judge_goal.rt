@@ -2,12 +2,12 @@
 
 ghost use Rattle.std.specs.Prelude.{◌≡◌, ◌+◌, ◌<◌, ◌++◌, ◌∷◌, [], length, reverse, List, Option, ℕ, OnOk};
 ghost use Rattle.std.specs.List.{flat_map};
-ghost use Rattle.kan_model.specs.Text.{Table};
-ghost use Rattle.kan_model.specs.GoalForms.{goal_form, goal_forms, term_forms};
-ghost use Rattle.kan_model.specs.TextFaults.{term_faults, call_faults, goal_faults, goals_faults};
-ghost use Rattle.kan_model.specs.TermForms.{term_form};
-ghost use Rattle.kan_model.specs.Binders.{binder as binder_of};
-ghost use Rattle.kan_model.specs.Resolved.{arity, within};
+ghost use Rattle.kan_model.specs.Answers.Text.{Table};
+ghost use Rattle.kan_grammar.specs.Texts.GoalForms.{goal_form, goal_forms, term_forms};
+ghost use Rattle.kan_grammar.specs.Texts.TextFaults.{term_faults, call_faults, goal_faults, goals_faults};
+ghost use Rattle.kan_grammar.specs.Texts.TermForms.{term_form};
+ghost use Rattle.kan_grammar.specs.Texts.Binders.{binder as binder_of};
+ghost use Rattle.kan_grammar.specs.Texts.Resolved.{arity, within};
 ghost use Rattle.goal_syntax.specs.GoalStack.{own_faults, fresh_faults, inner_names, inner_waiting, stack_faults, stack_parts, waiting_parts};
 ghost use Rattle.goal_syntax.specs.FaultLists.{fault_list};
 ghost use Rattle.goal_syntax.specs.Parts.{sites, site_at};

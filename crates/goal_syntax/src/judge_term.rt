@@ -2,7 +2,7 @@
 
 ghost use Rattle.std.specs.Prelude.{◌≡◌, ◌+◌, ◌++◌, OnOk};
 ghost use Rattle.std.specs.List.{flat_map};
-ghost use Rattle.kan_model.specs.TextFaults.{use_faults, term_faults};
+ghost use Rattle.kan_grammar.specs.Texts.TextFaults.{use_faults, term_faults};
 ghost use Rattle.goal_syntax.specs.FaultLists.{fault_list};
 ghost use Rattle.goal_syntax.specs.Parts.{sites};
 ghost use Rattle.goal_syntax.specs.TermSteps.{task_form, step_size};

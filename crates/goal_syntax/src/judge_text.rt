@@ -1,8 +1,8 @@
 //! The faults of texts, and the one that comes first.
 
 ghost use Rattle.std.specs.Prelude.{◌≡◌, ◌<◌, ◌≤◌, ◌+◌, ◌^◌, ◌++◌, length, take, map, IfOk, OnOk, option_map};
-ghost use Rattle.kan_model.specs.TopForms.{defined, defined_by as defined_by_form};
-ghost use Rattle.kan_model.specs.TextFaults.{is_before, first_of, least, forms_faults, faults_of};
+ghost use Rattle.kan_grammar.specs.Texts.TopForms.{defined, defined_by as defined_by_form};
+ghost use Rattle.kan_grammar.specs.Texts.TextFaults.{is_before, first_of, least, forms_faults, faults_of};
 ghost use Rattle.goal_syntax.specs.FaultLists.{fault_of, fault_list};
 ghost use Rattle.goal_syntax.specs.Parts.{sites, site_at};
 ghost use Rattle.goal_syntax.specs.Related.{related};

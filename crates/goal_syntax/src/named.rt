@@ -2,8 +2,8 @@
 
 ghost use Rattle.std.specs.Prelude.{◌≡◌, ◌<◌, ◌^◌, length};
 ghost use Rattle.std.specs.List.{list_all};
-ghost use Rattle.kan_model.specs.Nodes.{term_entry, goal_entry, relation_entry};
-ghost use Rattle.kan_model.specs.Programs as programs;
+ghost use Rattle.kan_model.specs.Programs.Nodes.{term_entry, goal_entry, relation_entry};
+ghost use Rattle.kan_model.specs.Programs.Closed as programs;
 ghost use Rattle.goal_syntax.specs.Drafting.{HasRoom};
 ghost use Rattle.goal_syntax.specs.Named as named;
 

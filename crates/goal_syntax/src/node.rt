@@ -34,7 +34,7 @@ pub(crate) struct Nodes {
 }
 
 impl Nodes {
-    ghost use Rattle.kan_model.specs.Sited.{site};
+    ghost use Rattle.kan_grammar.specs.Texts.Sited.{site};
     ghost use Rattle.goal_syntax.specs.Rows.{is_grown};
     ghost use Rattle.goal_syntax.specs.Parts.{sites, site_at, node_site};
 

@@ -2,7 +2,7 @@
 
 ghost use Rattle.std.specs.Prelude.{◌≡◌, ◌<◌, ◌^◌, ◌==◌, ℕ, length, nat_eq, OnOk, if◌then◌else◌};
 ghost use Rattle.std.specs.HashMap.{get};
-ghost use Rattle.kan_model.specs.Resolved.{relation_number, or_else};
+ghost use Rattle.kan_grammar.specs.Texts.Resolved.{relation_number, or_else};
 ghost use Rattle.goal_syntax.specs.Related.{related};
 
 use kan_terms::Memory;
@@ -38,7 +38,7 @@ fn note(numbers: &mut HashMap<u32, u32>, name: u32, number: u32) -> Result<(), M
 
 impl Relations {
     ghost use Rattle.std.specs.Prelude.{IfOk};
-    ghost use Rattle.kan_model.specs.Resolved.{arity};
+    ghost use Rattle.kan_grammar.specs.Texts.Resolved.{arity};
     ghost use Rattle.goal_syntax.specs.Tabled.{relations};
 
     /// These relations.

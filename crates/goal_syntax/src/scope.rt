@@ -1,7 +1,7 @@
 //! The names of the slots in scope.
 
 ghost use Rattle.std.specs.Prelude.{◌≡◌};
-ghost use Rattle.kan_model.specs.Resolved.{is_named, slot_of};
+ghost use Rattle.kan_grammar.specs.Texts.Resolved.{is_named, slot_of};
 
 /// Whether a slot has a name.
 fn is_named(slot: Option<u32>, symbol: u32) -> bool

@@ -1,8 +1,8 @@
 //! The shapes of lists, read as pairs.
 
 ghost use Rattle.std.specs.Prelude.{◌≡◌, option_map};
-ghost use Rattle.kan_model.specs.Sited.{is_proper, count, first, rest};
-ghost use Rattle.kan_model.specs.Language.{head_word};
+ghost use Rattle.kan_grammar.specs.Texts.Sited.{is_proper, count, first, rest};
+ghost use Rattle.kan_grammar.specs.Texts.Language.{head_word};
 ghost use Rattle.goal_syntax.specs.Meaning.{word_of};
 ghost use Rattle.goal_syntax.specs.Parts.{sites, site_at, pair_at};
 ghost use Rattle.goal_syntax.specs.Shapes.{parts, is_end, only, two, AreBefore};

@@ -1,8 +1,8 @@
 //! Terms as they are written, opened one step at a time.
 
 ghost use Rattle.std.specs.Prelude.{◌≡◌, ◌<◌, ◌≤◌};
-ghost use Rattle.kan_model.specs.TermForms.{term_form, template_form, list_form, quoted, cons_form, quasiquoted, unquoted};
-ghost use Rattle.kan_model.specs.Sited.{constant};
+ghost use Rattle.kan_grammar.specs.Texts.TermForms.{term_form, template_form, list_form, quoted, cons_form, quasiquoted, unquoted};
+ghost use Rattle.kan_grammar.specs.Texts.Sited.{constant};
 ghost use Rattle.goal_syntax.specs.Parts.{sites, site_at};
 ghost use Rattle.goal_syntax.specs.TermSteps.{listed, site_size, step_size, step_form, task_form, task_size};
 

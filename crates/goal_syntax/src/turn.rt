@@ -1,8 +1,8 @@
 //! Data turned into a table of their parts.
 
 ghost use Rattle.std.specs.Prelude.{◌≡◌, ◌+◌, ◌<◌, ◌++◌, ◌∷◌, [], length, reverse, List, ℕ, true, IfOk, OnOk, map};
-ghost use Rattle.kan_model.specs.Printed.{prefix_name};
-ghost use Rattle.kan_model.specs.Sited.{Sited, sited, sited_atom, symbol_number};
+ghost use Rattle.kan_grammar.specs.Data.Printed.{prefix_name};
+ghost use Rattle.kan_grammar.specs.Texts.Sited.{Sited, sited, sited_atom, symbol_number};
 ghost use Rattle.kan_terms.specs.Table.{IsDistinct, name_of, number_of};
 ghost use Rattle.sexpr.specs.Meaning.{prefix_of};
 ghost use Rattle.sexpr.specs.Seen.{Table, symbol_atom, written};

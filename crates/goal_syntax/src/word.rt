@@ -1,7 +1,7 @@
 //! The names of the language.
 
 ghost use Rattle.std.specs.Prelude.{◌≡◌};
-ghost use Rattle.kan_model.specs.Language.{word, text_word};
+ghost use Rattle.kan_grammar.specs.Texts.Language.{word, text_word};
 ghost use Rattle.goal_syntax.specs.Meaning.{word_of, term_word, constraint_word, goal_word};
 
 use kan_terms::Names;
@@ -112,7 +112,7 @@ fn text_word(text: &str) -> Word
 }
 
 /// The name of the language that a symbol is.
-#[tactic(auto, unfolding(kan_model::specs::Language::word))]
+#[tactic(auto, unfolding(kan_grammar::specs::Texts::Language::word))]
 pub(crate) fn word_of_symbol(names: &Names, symbol: u32) -> Word
     ensures { word_of result ≡ word names.now symbol }
 {

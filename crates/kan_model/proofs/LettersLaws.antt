@@ -8,14 +8,14 @@ use Rattle.std.proofs.lemmas.List.Folds.{list_any-append}
 use Rattle.std.proofs.lemmas.Grind.{flat_map-append}
 use Rattle.kan_terms.specs.Tree.{occurs, term_eq}
 use Rattle.kan_terms.proofs.TreeLaws.{Decides-bool_eq, term_eq-true, eq-term_eq}
-use Rattle.kan_model.specs.Solve.{Replacement, image, apply}
+use Rattle.kan_model.specs.Stores.Solve.{Replacement, image, apply}
 use Rattle.std.specs.Borrow.{Bor}
 use Rattle.kan_terms.specs.Tree.{Tree, Tm}
 use Rattle.kan_terms.specs.Terms.{tree}
 use Rattle.kan_terms.specs.declared.terms.Term.{Term}
 use Rattle.kan_model.specs.declared.letters.Letter.{Letter}
 use Rattle.kan_model.specs.declared.letters.Letter.TheVariants.{Pair, Var, Sym, Num, Truth, Nil}
-use Rattle.kan_model.specs.Letters.{letter_of, spelling, waiting_spelling, only_one, stack_terms, Gives, IsAtomOf, joined, put_letter, put_letter_on, built_from, is_letter_of, letter_eq, spliced}
+use Rattle.kan_model.specs.Terms.Letters.{letter_of, spelling, waiting_spelling, only_one, stack_terms, Gives, IsAtomOf, joined, put_letter, put_letter_on, built_from, is_letter_of, letter_eq, spliced}
 
 -- a term put on top is spelled first
 pub waiting-push : (ts : List (Bor Term)) (t : Bor Term) → waiting_spelling (ts ++ t ∷ []) ≡ spelling (tree t.now) ++ waiting_spelling ts

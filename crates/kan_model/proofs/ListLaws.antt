@@ -2,8 +2,8 @@
 use Rattle.std.proofs.Common.{◌≡◌, Bool, true, false, not, cond, List, [], ◌∷◌, map, filter, refl, if◌then◌else◌}
 use Rattle.std.specs.List.{list_all, list_any}
 use Rattle.std.proofs.lemmas.Bool.{and_from, and_parts, or_from, or_parts, not-true}
-use Rattle.kan_model.specs.Order.{put_in_order, in_order, each_once}
-use Rattle.kan_model.specs.InForm.{ascends}
+use Rattle.kan_model.specs.Answers.Order.{put_in_order, in_order, each_once}
+use Rattle.kan_model.specs.Answers.InForm.{ascends}
 
 -- a fact of each element
 abbrev pub Each : {X : Type 0} → (X → Type 0) → List X → Type 0

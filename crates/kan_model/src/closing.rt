@@ -3,13 +3,13 @@
 ghost use Rattle.std.specs.Prelude.{◌≡◌, ◌<◌, ◌↔◌, ◌^◌, ◌-◌, ◌&&◌, nat_lt, nat_le, min, length, map, true, false, IsTrue, IsSome, slice_get, option_map};
 ghost use Rattle.std.specs.Option.{option_copied};
 ghost use Rattle.std.specs.List.{list_all};
-ghost use Rattle.kan_model.specs.Tables.{nothing_open, goal_at, template_of, program_of};
-ghost use Rattle.kan_model.specs.Needs.{noted_width, goal_slots};
-ghost use Rattle.kan_model.specs.Scope.{is_low, calls_there, body_in_scope, in_scope};
-ghost use Rattle.kan_model.specs.Nodes.{term_entry, goal_entry, relation_entry, goal_place};
-ghost use Rattle.kan_model.specs.Calls.{call_there};
-ghost use Rattle.kan_model.specs.Drafts as drafts;
-ghost use Rattle.kan_model.specs.Programs as programs;
+ghost use Rattle.kan_model.specs.Programs.Tables.{nothing_open, goal_at, template_of, program_of};
+ghost use Rattle.kan_model.specs.Programs.Measures.{noted_width, goal_slots};
+ghost use Rattle.kan_model.specs.Programs.Scope.{is_low, calls_there, body_in_scope, in_scope};
+ghost use Rattle.kan_model.specs.Programs.Nodes.{term_entry, goal_entry, relation_entry, goal_place};
+ghost use Rattle.kan_model.specs.Programs.Calls.{call_there};
+ghost use Rattle.kan_model.specs.Programs.Drafts as drafts;
+ghost use Rattle.kan_model.specs.Programs.Closed as programs;
 
 use crate::draft::Draft;
 use crate::nodes::{GoalNode, GoalRow, Query, Relation, TermNode};

@@ -1,9 +1,9 @@
 //! Programs as they are made, entry after entry.
 
 ghost use Rattle.std.specs.Prelude.{◌≡◌, IsTrue};
-ghost use Rattle.kan_model.specs.Tables.{is_grown, templates_of, goals_of};
-ghost use Rattle.kan_model.specs.Nodes.{term_entries, tables_from};
-ghost use Rattle.kan_model.specs.Notes.{HeightsNoted, SlotsNoted, WidthsNoted, GoalSlotsNoted};
+ghost use Rattle.kan_model.specs.Programs.Tables.{is_grown, templates_of, goals_of};
+ghost use Rattle.kan_model.specs.Programs.Nodes.{term_entries, tables_from};
+ghost use Rattle.kan_model.specs.Programs.Rows.{HeightsNoted, SlotsNoted, WidthsNoted, GoalSlotsNoted};
 
 use crate::nodes::{GoalNode, GoalRow, Relation, TermNode, TermRow};
 use kan_terms::Memory;
@@ -26,10 +26,10 @@ pub struct Draft {
 
 impl Draft {
     ghost use Rattle.std.specs.Prelude.{◌<◌, ◌≤◌, ◌-◌, ◌+◌, ◌^◌, min, max, [], ◌∷◌, ◌++◌, length, true, IfOk, OnOk, OnErr};
-    ghost use Rattle.kan_model.specs.Needs.{slots, most_slots, goal_slots, noted_height, noted_width};
-    ghost use Rattle.kan_model.specs.Tables.{template_at, template_of, goal_at, goal_of, is_term_grown, is_goal_grown, arguments_at, with_term, with_argument, with_goal, with_relation};
-    ghost use Rattle.kan_model.specs.Nodes.{term_entry, goal_entry, relation_entry};
-    ghost use Rattle.kan_model.specs.Drafts.{tables, templates, goals};
+    ghost use Rattle.kan_model.specs.Programs.Measures.{slots, most_slots, goal_slots, noted_height, noted_width};
+    ghost use Rattle.kan_model.specs.Programs.Tables.{template_at, template_of, goal_at, goal_of, is_term_grown, is_goal_grown, arguments_at, with_term, with_argument, with_goal, with_relation};
+    ghost use Rattle.kan_model.specs.Programs.Nodes.{term_entry, goal_entry, relation_entry};
+    ghost use Rattle.kan_model.specs.Programs.Drafts.{tables, templates, goals};
 
     /// The draft without entries.
     pub fn new(alloc: Global) -> Draft

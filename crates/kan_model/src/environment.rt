@@ -3,7 +3,7 @@
 ghost use Rattle.std.specs.Prelude.{◌≡◌, IsTrue, IfOk, map};
 ghost use Rattle.std.specs.List.{list_all};
 ghost use Rattle.kan_terms.specs.Terms.{tree};
-ghost use Rattle.kan_model.specs.Flat.{is_flat};
+ghost use Rattle.kan_model.specs.Terms.Flat.{is_flat};
 
 use crate::letters::{Letter, build, first_letter};
 use crate::nodes::TermNode;
@@ -33,11 +33,11 @@ impl Env {
     ghost use Rattle.std.specs.Prelude.{◌+◌, ◌≤◌, ◌^◌, [], ◌∷◌, ◌++◌, true, slice_get, OnOk};
     ghost use Rattle.std.specs.Option.{option_copied};
     ghost use Rattle.kan_terms.specs.Tree.{Tree};
-    ghost use Rattle.kan_model.specs.Running.{instance, variables};
-    ghost use Rattle.kan_model.specs.Letters.{letter_of, spelling};
-    ghost use Rattle.kan_model.specs.Flat.{letters_waiting};
-    ghost use Rattle.kan_model.specs.Programs as programs;
-    ghost use Rattle.kan_model.specs.Environments.{terms_of};
+    ghost use Rattle.kan_model.specs.Streams.Running.{instance, variables};
+    ghost use Rattle.kan_model.specs.Terms.Letters.{letter_of, spelling};
+    ghost use Rattle.kan_model.specs.Terms.Flat.{letters_waiting};
+    ghost use Rattle.kan_model.specs.Programs.Closed as programs;
+    ghost use Rattle.kan_model.specs.Programs.Environments.{terms_of};
 
     /// The environment of one slot, which stands for a variable.
     pub fn start(alloc: Global, var: u64) -> Result<Env, Memory>

@@ -1,66 +1,66 @@
 //! Laws of the definitions. Each function has its law for its contract, and does nothing.
 
-ghost use Rattle.kan_model.specs.Derivations.{SpelledOnce, TestIsFamily};
-ghost use Rattle.kan_model.specs.InForm.{AnswerInForm, FormIsSolved};
-ghost use Rattle.kan_model.specs.Streams.{AppendEmpty};
-ghost use Rattle.kan_model.specs.Unifiers.{AnswerMostGeneral, AnswerUnifies, AppliedTwice, FactorsUnify, ReplacedIsGone};
+ghost use Rattle.kan_model.specs.Meaning.Derivations.{SpelledOnce, TestIsFamily};
+ghost use Rattle.kan_model.specs.Answers.InForm.{AnswerInForm, FormIsSolved};
+ghost use Rattle.kan_model.specs.Streams.Stream.{AppendEmpty};
+ghost use Rattle.kan_model.specs.Stores.Unifiers.{AnswerMostGeneral, AnswerUnifies, AppliedTwice, FactorsUnify, ReplacedIsGone};
 
 /// What the solver answers is a unifier of its equations.
-#[tactic(auto, using(crate::proofs::UnifierLaws::answer_unifies))]
+#[tactic(auto, using(crate::proofs::Solving::UnifierLaws::answer_unifies))]
 pub fn solver_unifies()
     ensures { AnswerUnifies }
 {}
 
 /// Equations with a unifier by ground terms have an answer, and the unifier factors through it.
-#[tactic(auto, using(crate::proofs::UnifierLaws::answer_most_general))]
+#[tactic(auto, using(crate::proofs::Solving::UnifierLaws::answer_most_general))]
 pub fn solver_is_most_general()
     ensures { AnswerMostGeneral }
 {}
 
 /// What factors through an answer is a unifier.
-#[tactic(auto, using(crate::proofs::UnifierLaws::factors_unify))]
+#[tactic(auto, using(crate::proofs::Solving::UnifierLaws::factors_unify))]
 pub fn factors_are_unifiers()
     ensures { FactorsUnify }
 {}
 
 /// A variable that the solver replaces is in nothing that it answers.
-#[tactic(auto, using(crate::proofs::ReplacedLaws::replaced_is_gone))]
+#[tactic(auto, using(crate::proofs::Solving::ReplacedLaws::replaced_is_gone))]
 pub fn replaced_variables_are_gone()
     ensures { ReplacedIsGone }
 {}
 
 /// An answer that is applied twice gives what it gave at once.
-#[tactic(auto, using(crate::proofs::ReplacedLaws::applied_twice))]
+#[tactic(auto, using(crate::proofs::Solving::ReplacedLaws::applied_twice))]
 pub fn twice_is_once()
     ensures { AppliedTwice }
 {}
 
 /// The empty stream in front of another one changes nothing.
-#[tactic(auto, using(crate::proofs::StreamLaws::append_empty))]
+#[tactic(auto, using(crate::proofs::Streams::StreamLaws::append_empty))]
 pub fn empty_in_front()
     ensures { AppendEmpty }
 {}
 
 /// The test of derivations accepts exactly those of the family.
-#[tactic(auto, using(crate::proofs::DerivationLaws::test_is_family))]
+#[tactic(auto, using(crate::proofs::Meaning::DerivationLaws::test_is_family))]
 pub fn derivations_are_tested()
     ensures { TestIsFamily }
 {}
 
 /// Steps spell one derivation at most.
-#[tactic(auto, using(crate::proofs::DerivationLaws::spelled_one))]
+#[tactic(auto, using(crate::proofs::Meaning::DerivationLaws::spelled_one))]
 pub fn steps_spell_one_derivation()
     ensures { SpelledOnce }
 {}
 
 /// The answer of a kept store whose tags have texts in the table is in form.
-#[tactic(auto, using(crate::proofs::AnswerLaws::answer_in_form))]
+#[tactic(auto, using(crate::proofs::Answering::AnswerLaws::answer_in_form))]
 pub fn answers_are_in_form()
     ensures { AnswerInForm }
 {}
 
 /// A disequality in form is what its own pairs solve to.
-#[tactic(auto, using(crate::proofs::OwnForm::form_is_solved))]
+#[tactic(auto, using(crate::proofs::Answering::OwnForm::form_is_solved))]
 pub fn forms_are_solved()
     ensures { FormIsSolved }
 {}

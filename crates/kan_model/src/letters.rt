@@ -4,7 +4,7 @@ ghost use Rattle.std.specs.Prelude.{◌≡◌, [], ◌∷◌, ◌++◌, IfOk, On
 ghost use Rattle.std.specs.List.{list_any};
 ghost use Rattle.kan_terms.specs.Tree.{term_eq, occurs};
 ghost use Rattle.kan_terms.specs.Terms.{tree};
-ghost use Rattle.kan_model.specs.Letters.{spelling, letter_of, waiting_spelling, IsAtomOf, Gives, joined, stack_terms, put_letter, only_one, built_from, is_letter_of, letter_eq};
+ghost use Rattle.kan_model.specs.Terms.Letters.{spelling, letter_of, waiting_spelling, IsAtomOf, Gives, joined, stack_terms, put_letter, only_one, built_from, is_letter_of, letter_eq};
 
 use kan_terms::{Memory, Term};
 use std::alloc::Global;

@@ -1,7 +1,7 @@
 //! The primitives that stores are made of.
 
 ghost use Rattle.std.specs.Prelude.{◌≡◌, map, IfOk};
-ghost use Rattle.kan_model.specs.Prims.{prim as primitive};
+ghost use Rattle.kan_model.specs.Stores.Prims.{prim as primitive};
 
 use kan_terms::{Memory, Term};
 use std::alloc::Global;

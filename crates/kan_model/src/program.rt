@@ -1,8 +1,8 @@
 //! Programs, which are drafts in which nothing is open.
 
 ghost use Rattle.std.specs.Prelude.{IsTrue, []};
-ghost use Rattle.kan_model.specs.Tables.{nothing_open};
-ghost use Rattle.kan_model.specs.Nodes.{tables_from};
+ghost use Rattle.kan_model.specs.Programs.Tables.{nothing_open};
+ghost use Rattle.kan_model.specs.Programs.Nodes.{tables_from};
 
 use crate::draft::Draft;
 

@@ -2,12 +2,11 @@
 
 ghost use Rattle.std.specs.Prelude.{◌≡◌, ◌+◌, ◌^◌, ◌≤◌, true, map, IfOk, option_map};
 ghost use Rattle.kan_terms.specs.Terms.{tree};
-ghost use Rattle.kan_model.specs.Stores as facts;
-ghost use Rattle.kan_model.specs.Kept.{is_kept};
-ghost use Rattle.kan_model.specs.Scope.{is_counted, sides_below};
-ghost use Rattle.kan_model.specs.Prims.{prim as primitive};
-ghost use Rattle.kan_model.specs.Solving.{equation};
-ghost use Rattle.kan_model.specs.StoreCalls.{Gives, WalksTo, IsFree, kind_at, AreTags, AreDifferences, answer, is_equation};
+ghost use Rattle.kan_model.specs.Stores.Store as facts;
+ghost use Rattle.kan_model.specs.Stores.Kept.{is_kept};
+ghost use Rattle.kan_model.specs.Programs.Scope.{is_counted, sides_below};
+ghost use Rattle.kan_model.specs.Stores.Prims.{equation, prim as primitive};
+ghost use Rattle.kan_model.specs.Stores.Calls.{Gives, WalksTo, IsFree, kind_at, AreTags, AreDifferences, answer, is_equation};
 
 use crate::prims::{Asserted, Kind};
 use kan_terms::{Memory, PairLists, Tags, Term};

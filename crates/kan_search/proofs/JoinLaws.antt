@@ -3,8 +3,8 @@ use Rattle.std.proofs.Common.{◌≡◌, ℕ, suc, ◌+◌, ◌<◌, ◌≤◌, 
 use Rattle.std.specs.Prelude.{Option, Some, None, is_some, IfSome, true}
 use Rattle.std.proofs.Math.Logic.{◌⊎◌, inl, inr, ⊎_elim}
 use Rattle.std.proofs.lemmas.List.{map-append, length-append, length-map}
-use Rattle.kan_model.specs.Stores.{Store}
-use Rattle.kan_model.specs.Taking.{Taken, with_answer, with_pull, nothing_more}
+use Rattle.kan_model.specs.Stores.Store.{Store}
+use Rattle.kan_model.specs.Streams.Taking.{Taken, with_answer, with_pull, nothing_more}
 use Rattle.kan_search.specs.Batches.{greatest_batch, joined, ending_of, Advances}
 use Rattle.kan_search.specs.declared.batch.Ended.{Ended}
 

@@ -3,12 +3,12 @@ use Rattle.std.proofs.Common.{◌≡◌, ℕ, zero, suc, ◌<◌, Bool, List, []
 use Rattle.std.specs.Prelude.{Option, Some, None, IfSome, Contains, slice_get}
 use Rattle.std.proofs.Math.Logic.{∥∥₁_elim, ∥∥₁_map}
 use Rattle.std.specs.Coded.{coded_bool, Coded-set, le_prop}
-use Rattle.kan_model.specs.Goals.{Goal, Program}
-use Rattle.kan_model.specs.Streams as model
-use Rattle.kan_model.specs.Bounds.{Fits, StreamFits}
-use Rattle.kan_model.specs.Stores as facts
-use Rattle.kan_model.specs.Running.{force}
-use Rattle.kan_model.specs.Programs as programs
+use Rattle.kan_model.specs.Programs.Goals.{Goal, Program}
+use Rattle.kan_model.specs.Streams.Stream as model
+use Rattle.kan_model.specs.Streams.Bounds.{Fits, StreamFits}
+use Rattle.kan_model.specs.Stores.Store as facts
+use Rattle.kan_model.specs.Streams.Running.{force}
+use Rattle.kan_model.specs.Programs.Closed as programs
 use Rattle.stream_core.specs.Standing.{Grows, ThunkBelongs, IsForce, stream}
 use Rattle.stream_core.specs.Keeping.{row_tree, RowIsSound, IsSound}
 use Rattle.stream_core.specs.declared.streams.Thunk.{Thunk}

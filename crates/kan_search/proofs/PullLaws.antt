@@ -4,13 +4,13 @@ use Rattle.std.specs.Prelude.{Option, Some, None, IfSome, ◌&&◌}
 use Rattle.std.specs.List.{list_all}
 use Rattle.std.proofs.Math.Bool.{and_assoc, and-true}
 use Rattle.std.proofs.lemmas.List.Folds.{list_all-append}
-use Rattle.kan_model.specs.Goals.{Primitive, Goal, Template, Program}
-use Rattle.kan_model.specs.Stores as facts
-use Rattle.kan_model.specs.Streams as model
-use Rattle.kan_model.specs.Running.{force}
-use Rattle.kan_model.specs.Taking.{take, with_pull}
-use Rattle.kan_model.specs.Tables.{GoalEntry, Tables, goal_of, goals_after, templates_of, program_of}
-use Rattle.kan_model.specs.Bounds.{top}
+use Rattle.kan_model.specs.Programs.Goals.{Primitive, Goal, Template, Program}
+use Rattle.kan_model.specs.Stores.Store as facts
+use Rattle.kan_model.specs.Streams.Stream as model
+use Rattle.kan_model.specs.Streams.Running.{force}
+use Rattle.kan_model.specs.Streams.Taking.{take, with_pull}
+use Rattle.kan_model.specs.Programs.Tables.{GoalEntry, Tables, goal_of, goals_after, templates_of, program_of}
+use Rattle.kan_model.specs.Streams.Bounds.{top}
 use Rattle.stream_core.specs.Tasks.{is_built}
 use Rattle.stream_core.specs.declared.plain.PlainId.{PlainId}
 use Rattle.kan_search.specs.Suspensions.{LeavesRoom, pulled_stream}

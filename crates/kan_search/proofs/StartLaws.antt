@@ -5,12 +5,12 @@ use Rattle.std.specs.List.{list_all}
 use Rattle.std.proofs.lemmas.Bool.{and_parts}
 use Rattle.std.proofs.lemmas.List.{reverse-reverse}
 use Rattle.kan_terms.specs.Tree.{Tree, Tm}
-use Rattle.kan_model.specs.Goals.{Goal, Program}
-use Rattle.kan_model.specs.Stores as facts
-use Rattle.kan_model.specs.Streams as model
-use Rattle.kan_model.specs.Running.{run, start}
-use Rattle.kan_model.specs.Scope.{width, is_narrow}
-use Rattle.kan_model.specs.Tables.{goal_at}
+use Rattle.kan_model.specs.Programs.Goals.{Goal, Program}
+use Rattle.kan_model.specs.Stores.Store as facts
+use Rattle.kan_model.specs.Streams.Stream as model
+use Rattle.kan_model.specs.Streams.Running.{run, start}
+use Rattle.kan_model.specs.Programs.Scope.{width, is_narrow}
+use Rattle.kan_model.specs.Programs.Tables.{goal_at}
 use Rattle.stream_core.specs.Standing.{going_on, listed}
 use Rattle.stream_core.specs.Fitting.{RestFits}
 use Rattle.stream_core.specs.declared.plain.PlainId.{PlainId}

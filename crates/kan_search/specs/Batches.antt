@@ -1,10 +1,10 @@
 -- What an advance of a search gives, compared with what was left before it and what is left after it.
 use Rattle.std.specs.Prelude.{◌≡◌, ℕ, ◌+◌, ◌≤◌, ◌⊎◌, List, [], ◌++◌, length, Option, Some, None}
-use Rattle.kan_model.specs.Goals as model
-use Rattle.kan_model.specs.Stores.{Store}
-use Rattle.kan_model.specs.Streams.{Stream, heads}
-use Rattle.kan_model.specs.Taking.{Taken, Ending, nothing_more}
-use Rattle.kan_model.specs.Programs as programs
+use Rattle.kan_model.specs.Programs.Goals as model
+use Rattle.kan_model.specs.Stores.Store.{Store}
+use Rattle.kan_model.specs.Streams.Stream.{Stream, heads}
+use Rattle.kan_model.specs.Streams.Taking.{Taken, Ending, nothing_more}
+use Rattle.kan_model.specs.Programs.Closed as programs
 use Rattle.kan_model.specs.declared.program.Program.{Program}
 use Rattle.kan_model.specs.declared.nodes.Query.{Query}
 use Rattle.kan_search.specs.declared.batch.Ended.{Ended}

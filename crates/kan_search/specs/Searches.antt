@@ -1,8 +1,8 @@
 -- What a search stands for: what taking gives of what is left of its run.
-use Rattle.kan_model.specs.Stores as facts
-use Rattle.kan_model.specs.Streams as model
-use Rattle.kan_model.specs.Taking.{Taken, take}
-use Rattle.kan_model.specs.Programs as programs
+use Rattle.kan_model.specs.Stores.Store as facts
+use Rattle.kan_model.specs.Streams.Stream as model
+use Rattle.kan_model.specs.Streams.Taking.{Taken, take}
+use Rattle.kan_model.specs.Programs.Closed as programs
 use Rattle.kan_search.specs.Suspensions.{tree_of, pulled_stream}
 use Rattle.kan_search.specs.declared.searching.Search.{Search}
 

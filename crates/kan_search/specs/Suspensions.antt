@@ -1,9 +1,9 @@
 -- The suspensions of a table, and how many variables they have taken at most.
 use Rattle.std.specs.Prelude.{ℕ, ◌+◌, ◌*◌, ◌^◌, ◌≤◌, List, map, reverse, Option, option_map}
-use Rattle.kan_model.specs.Stores as facts
-use Rattle.kan_model.specs.Streams as model
-use Rattle.kan_model.specs.Bounds.{top}
-use Rattle.kan_model.specs.Programs as programs
+use Rattle.kan_model.specs.Stores.Store as facts
+use Rattle.kan_model.specs.Streams.Stream as model
+use Rattle.kan_model.specs.Streams.Bounds.{top}
+use Rattle.kan_model.specs.Programs.Closed as programs
 use Rattle.stream_core.specs.Standing.{going_on}
 use Rattle.stream_core.specs.Keeping.{BelongsTo, row_tree}
 use Rattle.stream_core.specs.declared.plain.PlainId.{PlainId}

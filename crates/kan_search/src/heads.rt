@@ -2,7 +2,7 @@
 
 ghost use Rattle.std.specs.Prelude.{◌≡◌, ◌++◌, ◌∷◌, [], reverse, IfOk, OnOk};
 ghost use Rattle.kan_search.specs.Waiting.{is_reached};
-ghost use Rattle.kan_model.specs.Taking as taking;
+ghost use Rattle.kan_model.specs.Streams.Taking as taking;
 
 use kan_terms::Memory;
 use std::alloc::Global;

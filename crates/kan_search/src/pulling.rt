@@ -2,11 +2,11 @@
 
 ghost use Rattle.std.specs.Prelude.{◌≡◌, ◌+◌, ◌≤◌, ◌^◌, [], ◌∷◌, reverse, true, IfOk, IfSome};
 ghost use Rattle.std.specs.List.{list_all};
-ghost use Rattle.kan_model.specs.Bounds.{top};
-ghost use Rattle.kan_model.specs.Running as running;
-ghost use Rattle.kan_model.specs.Scope.{is_small};
-ghost use Rattle.kan_model.specs.Tables.{nothing_open};
-ghost use Rattle.kan_model.specs.Programs as programs;
+ghost use Rattle.kan_model.specs.Streams.Bounds.{top};
+ghost use Rattle.kan_model.specs.Streams.Running as running;
+ghost use Rattle.kan_model.specs.Programs.Scope.{is_small};
+ghost use Rattle.kan_model.specs.Programs.Tables.{nothing_open};
+ghost use Rattle.kan_model.specs.Programs.Closed as programs;
 ghost use Rattle.stream_core.specs.Standing as standing;
 ghost use Rattle.stream_core.specs.Tasks.{is_built};
 ghost use Rattle.kan_search.specs.Suspensions.{tree_of, IsOf, LeavesRoom, pulled_stream};

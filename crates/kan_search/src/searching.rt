@@ -3,8 +3,8 @@
 ghost use Rattle.std.specs.Prelude.{◌≡◌, ◌+◌, ◌≤◌, true, IfSome};
 ghost use Rattle.std.specs.List.{list_all};
 ghost use Rattle.std.specs.Option.{ForSome};
-ghost use Rattle.kan_model.specs.Scope.{is_small};
-ghost use Rattle.kan_model.specs.Programs as programs;
+ghost use Rattle.kan_model.specs.Programs.Scope.{is_small};
+ghost use Rattle.kan_model.specs.Programs.Closed as programs;
 ghost use Rattle.stream_core.specs.Tasks.{is_built};
 ghost use Rattle.kan_search.specs.Suspensions.{tree_of, IsOf, LeavesRoom};
 
@@ -46,8 +46,8 @@ pub struct Search<'a, St: Store> {
 
 impl<'a, St: Store> Search<'a, St> {
     ghost use Rattle.std.specs.Prelude.{ℕ, false, [], ◌∷◌, ◌<◌, length, map, IfOk, IfNone, OnOk, OnErr, IsErr};
-    ghost use Rattle.kan_model.specs.Tables.{nothing_open};
-    ghost use Rattle.kan_model.specs.Taking.{taken, nothing_more, with_answer, with_pull};
+    ghost use Rattle.kan_model.specs.Programs.Tables.{nothing_open};
+    ghost use Rattle.kan_model.specs.Streams.Taking.{taken, nothing_more, with_answer, with_pull};
     ghost use Rattle.kan_search.specs.Batches.{Advances, GaveAll, query_of, ending_of, joined, greatest_batch};
     ghost use Rattle.kan_search.specs.Searches.{left, stream_left};
     ghost use Rattle.kan_search.specs.Waiting.{GivesNone, WantsPull};

@@ -3,15 +3,15 @@ use Rattle.std.proofs.Common.{◌≡◌, ℕ, suc, Bool, true, false, List, [], 
 use Rattle.std.specs.Prelude.{◌&&◌}
 use Rattle.std.specs.List.{list_all}
 use Rattle.kan_terms.specs.Tree.{Tm}
-use Rattle.kan_model.specs.Goals.{Primitive}
-use Rattle.kan_model.specs.Stores.{Store}
-use Rattle.kan_model.specs.Solve.{Replacement, image}
-use Rattle.kan_model.specs.Kept.{is_symbol_variable, is_number_variable}
-use Rattle.kan_model.specs.Answers.{forms_of, names_where, tags_of, in_names, named_variables}
-use Rattle.kan_model.specs.AnswerText.{constraint_texts, answer_under}
-use Rattle.kan_model.specs.Text.{Table, name_text, print}
-use Rattle.kan_model.specs.Output.{answer_line}
-use Rattle.kan_model.specs.StoreCalls.{answer, is_equation}
+use Rattle.kan_model.specs.Programs.Goals.{Primitive}
+use Rattle.kan_model.specs.Stores.Store.{Store}
+use Rattle.kan_model.specs.Stores.Solve.{Replacement, image}
+use Rattle.kan_model.specs.Stores.Kept.{is_symbol_variable, is_number_variable}
+use Rattle.kan_model.specs.Answers.Answer.{forms_of, names_where, tags_of, in_names, named_variables}
+use Rattle.kan_model.specs.Answers.AnswerText.{constraint_texts, answer_under}
+use Rattle.kan_model.specs.Answers.Text.{Table, name_text, print}
+use Rattle.kan_model.specs.Answers.Output.{answer_line}
+use Rattle.kan_model.specs.Stores.Calls.{answer, is_equation}
 
 and_rest : (a b : Bool) → (a && b) ≡ true → b ≡ true
 and_rest true true e = refl

@@ -3,7 +3,7 @@ use Rattle.std.proofs.Common.{◌≡◌, ◌<◌, ◌≤◌, ◌^◌, true, List
 use Rattle.std.specs.Borrow.{Bor}
 use Rattle.std.specs.Str.Parse.{digits_value}
 use Rattle.std.proofs.lemmas.Bool.Decides.{nat_tests}
-use Rattle.kan_model.specs.Words.{all_digits}
+use Rattle.kan_grammar.specs.Data.Words.{all_digits}
 use Rattle.kanren_run.specs.Commands.{fuel_of_word, fuel_in_range, fuel_named, texts}
 
 too_great : (n : ℕ) → (n < 2 ^ 64 → ⊥) → None ≡ fuel_in_range n

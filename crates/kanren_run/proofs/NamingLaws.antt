@@ -4,9 +4,9 @@ use Rattle.std.specs.Prelude.{◌||◌, if◌then◌else◌}
 use Rattle.std.proofs.lemmas.List.Elements.{filter-append}
 use Rattle.std.proofs.lemmas.List.{map-append, take_more}
 use Rattle.kan_terms.specs.Tree.{Tree, Tm, leaves}
-use Rattle.kan_model.specs.Order.{each_once, place_of, stands_in}
-use Rattle.kan_model.specs.Answers.{in_names, named_variables}
-use Rattle.kan_model.specs.Letters.{spelling, built_from, only_one}
+use Rattle.kan_model.specs.Answers.Order.{each_once, place_of, stands_in}
+use Rattle.kan_model.specs.Answers.Answer.{in_names, named_variables}
+use Rattle.kan_model.specs.Terms.Letters.{spelling, built_from, only_one}
 use Rattle.kan_model.proofs.LettersLaws.{built_from-spelling}
 use Rattle.kan_model.specs.declared.letters.Letter.{Letter}
 use Rattle.kan_model.specs.declared.letters.Letter.TheVariants.{Pair, Var, Sym, Num, Truth, Nil}

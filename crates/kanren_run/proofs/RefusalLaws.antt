@@ -1,9 +1,9 @@
 -- The fault of a text's data as they are kept is that of the data as they are written.
 use Rattle.std.proofs.Common.{◌≡◌, ℕ, List, Err, refl, sym, ap, subst, ◌∙◌}
-use Rattle.kan_model.specs.Open.{as_written}
-use Rattle.kan_model.specs.Written.{Written}
-use Rattle.kan_model.specs.Faults.{fault, Reading, data_are, refused, read_text}
-use Rattle.kan_model.specs.Made.{made, map_reading}
+use Rattle.kan_grammar.specs.Data.Enclosing.{as_written}
+use Rattle.kan_grammar.specs.Data.Written.{Written}
+use Rattle.kan_grammar.specs.Data.Faults.{fault, Reading, data_are, refused, read_text}
+use Rattle.kan_grammar.specs.Data.Builds.{made, map_reading}
 use Rattle.sexpr.specs.Seen.{Table, as_kept}
 use Rattle.sexpr.specs.Reads.{Answers}
 use Rattle.sexpr.specs.declared.data.ReadError.{ReadError}

@@ -4,15 +4,15 @@ use Rattle.std.specs.Prelude.{slice_get, ◌||◌}
 use Rattle.std.specs.List.{list_all}
 use Rattle.std.proofs.lemmas.Bool.{and_parts}
 use Rattle.kan_terms.specs.Tree.{Tree, Tm}
-use Rattle.kan_model.specs.Goals.{Primitive, Goal, Template, Relation, Program, Query, on_sides}
-use Rattle.kan_model.specs.Stores.{Store, bare, with_prim, with_fresh}
-use Rattle.kan_model.specs.Kept.{is_kept}
-use Rattle.kan_model.specs.StoreCalls.{is_equation}
-use Rattle.kan_model.specs.Streams.{Stream, Thunk, empty, one, append, append_each, bind_all}
-use Rattle.kan_model.specs.Running.{run, force, enter, start, assert, instance, instances, named, named_store, variables}
-use Rattle.kan_model.specs.Taking.{Taken, Ending, give, take, taken, nothing_more, with_answer, with_pull}
-use Rattle.kan_model.specs.Text.{Table}
-use Rattle.kan_model.specs.Output.{runs_output, taken_text}
+use Rattle.kan_model.specs.Programs.Goals.{Primitive, Goal, Template, Relation, Program, Query, on_sides}
+use Rattle.kan_model.specs.Stores.Store.{Store, bare, with_prim, with_fresh}
+use Rattle.kan_model.specs.Stores.Kept.{is_kept}
+use Rattle.kan_model.specs.Stores.Calls.{is_equation}
+use Rattle.kan_model.specs.Streams.Stream.{Stream, Thunk, empty, one, append, append_each, bind_all}
+use Rattle.kan_model.specs.Streams.Running.{run, force, enter, start, assert, instance, instances, named, named_store, variables}
+use Rattle.kan_model.specs.Streams.Taking.{Taken, Ending, give, take, taken, nothing_more, with_answer, with_pull}
+use Rattle.kan_model.specs.Answers.Text.{Table}
+use Rattle.kan_model.specs.Answers.Output.{runs_output, taken_text}
 use Rattle.goal_syntax.specs.Equational as equational
 use Rattle.kanren_run.specs.Answers.{spends, is_fuel}
 use Rattle.kanren_run.specs.Equations.{HasEquations, Each}

@@ -1,6 +1,6 @@
 -- What becomes of a text: its program, or its refusal.
 use Rattle.std.proofs.Common.{◌≡◌, ℕ, List, [], map, None, Result, Ok, Err, sym, ap, subst, ◌∙◌}
-use Rattle.kan_model.specs.Faults.{read_text, data_are}
+use Rattle.kan_grammar.specs.Data.Faults.{read_text, data_are}
 use Rattle.sexpr.specs.Seen.{Table, written, as_kept}
 use Rattle.sexpr.specs.Reads.{Extends}
 use Rattle.sexpr.specs.declared.data.Datum.{Datum}

@@ -4,9 +4,9 @@ use Rattle.std.specs.List.{list_all}
 use Rattle.std.specs.Io.KnownBytes.{Appends}
 use Rattle.std.proofs.lemmas.Bool.{and_parts}
 use Rattle.kan_base.specs.Writes.{PutsFront}
-use Rattle.kan_model.specs.Programs as programs
-use Rattle.kan_model.specs.Tables.{GoalEntry}
-use Rattle.kan_model.specs.Output.{runs_output}
+use Rattle.kan_model.specs.Programs.Closed as programs
+use Rattle.kan_model.specs.Programs.Tables.{GoalEntry}
+use Rattle.kan_model.specs.Answers.Output.{runs_output}
 use Rattle.stream_core.specs.Tasks.{is_built}
 use Rattle.goal_syntax.specs.Compiles.{relations_meant, queries_meant}
 use Rattle.goal_syntax.specs.Equational.{is_equational_entry, are_equational_entries, is_equational_body, is_equational_query}

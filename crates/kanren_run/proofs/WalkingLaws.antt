@@ -4,9 +4,9 @@ use Rattle.std.specs.Borrow.{Bor}
 use Rattle.kan_terms.specs.Tree.{Tree, Tm}
 use Rattle.kan_terms.specs.Terms.{tree}
 use Rattle.kan_terms.specs.declared.terms.Term.{Term}
-use Rattle.kan_model.specs.Solve.{Replacement, apply, image}
-use Rattle.kan_model.specs.StoreCalls.{WalksTo, IsFoundFor}
-use Rattle.kan_model.specs.Letters.{spelling, letter_of}
+use Rattle.kan_model.specs.Stores.Solve.{Replacement, apply, image}
+use Rattle.kan_model.specs.Stores.Calls.{WalksTo, IsFoundFor}
+use Rattle.kan_model.specs.Terms.Letters.{spelling, letter_of}
 use Rattle.kan_model.specs.declared.letters.Letter.{Letter}
 use Rattle.kanren_run.specs.Walking.{waiting_under, spelled_under}
 

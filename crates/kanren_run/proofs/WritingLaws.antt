@@ -12,16 +12,16 @@ use Rattle.std.proofs.KnownBytes.{Appends-nil, Appends-trans}
 use Rattle.std.proofs.lemmas.Grind.{flat_map-append}
 use Rattle.kan_base.specs.Faults.{Rose}
 use Rattle.kan_base.specs.Writes.{PutsFront}
-use Rattle.kan_model.specs.Goals.{Program, Query, Goal}
-use Rattle.kan_model.specs.Nodes.{goal_place}
-use Rattle.kan_model.specs.Programs as programs
-use Rattle.kan_model.specs.Scope.{is_closed, is_low, calls_there, body_in_scope, in_scope}
-use Rattle.kan_model.specs.Tables.{nothing_open, templates_of, program_of, goal_at, goals_of}
+use Rattle.kan_model.specs.Programs.Goals.{Program, Query, Goal}
+use Rattle.kan_model.specs.Programs.Nodes.{goal_place}
+use Rattle.kan_model.specs.Programs.Closed as programs
+use Rattle.kan_model.specs.Programs.Scope.{is_closed, is_low, calls_there, body_in_scope, in_scope}
+use Rattle.kan_model.specs.Programs.Tables.{nothing_open, templates_of, program_of, goal_at, goals_of}
 use Rattle.kanren_run.proofs.Declared as declared
-use Rattle.kan_model.specs.Stores.{Store}
-use Rattle.kan_model.specs.Text.{Table}
-use Rattle.kan_model.specs.Taking.{Taken, taken}
-use Rattle.kan_model.specs.Output.{answer_line, summary_line, taken_text, runs_output}
+use Rattle.kan_model.specs.Stores.Store.{Store}
+use Rattle.kan_model.specs.Answers.Text.{Table}
+use Rattle.kan_model.specs.Streams.Taking.{Taken, taken}
+use Rattle.kan_model.specs.Answers.Output.{answer_line, summary_line, taken_text, runs_output}
 use Rattle.kan_search.specs.Batches.{Advances, joined, ending_of, query_of}
 use Rattle.kan_search.specs.declared.batch.Ended.{Ended}
 use Rattle.kanren_run.specs.Writing.{Puts, Stops, Written, WritesNext, Continues, CanRun, answer_lines, end_text, rest_text}

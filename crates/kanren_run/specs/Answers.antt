@@ -1,12 +1,12 @@
 -- What a text is answered with, and what is written then: the output of its runs, or the line of its refusal.
 use Rattle.std.specs.Prelude.{◌≡◌, ℕ, Bool, true, false, List, [], ◌++◌, map, Option, Some, None}
 use Rattle.std.specs.List.{list_any}
-use Rattle.kan_model.specs.Goals.{Program, Query}
-use Rattle.kan_model.specs.Open.{as_written}
-use Rattle.kan_model.specs.Faults.{Fault, fault, Reading, data_are, refused, read_text}
-use Rattle.kan_model.specs.ProgramText.{program_of_text, queries_of_text}
-use Rattle.kan_model.specs.Taking.{Ending, taken}
-use Rattle.kan_model.specs.Output.{runs_output}
+use Rattle.kan_model.specs.Programs.Goals.{Program, Query}
+use Rattle.kan_grammar.specs.Data.Enclosing.{as_written}
+use Rattle.kan_grammar.specs.Data.Faults.{Fault, fault, Reading, data_are, refused, read_text}
+use Rattle.kan_grammar.specs.Texts.ProgramText.{program_of_text, queries_of_text}
+use Rattle.kan_model.specs.Streams.Taking.{Ending, taken}
+use Rattle.kan_model.specs.Answers.Output.{runs_output}
 use Rattle.sexpr.specs.Seen.{Table, written, as_kept}
 use Rattle.sexpr.specs.declared.data.Datum.{Datum}
 use Rattle.goal_syntax.specs.Checks.{NamesPrefixes}

@@ -2,7 +2,7 @@
 use Rattle.std.specs.Prelude.{ℕ, Bool, nat_le, ◌&&◌, List, [], ◌∷◌, Option, Some, None, codes, bytes_eq, is_some, unwrap_or, if◌then◌else◌}
 use Rattle.std.specs.Borrow.{Bor}
 use Rattle.std.specs.Str.Parse.{digits_value}
-use Rattle.kan_model.specs.Words.{all_digits}
+use Rattle.kan_grammar.specs.Data.Words.{all_digits}
 
 -- the fuel of a run where nothing else is said
 abbrev pub default_fuel : ℕ

@@ -1,8 +1,8 @@
 -- Stores that have equations alone.
 use Rattle.std.specs.Prelude.{◌≡◌, true, List, [], ◌∷◌}
 use Rattle.std.specs.List.{list_all}
-use Rattle.kan_model.specs.Stores.{Store}
-use Rattle.kan_model.specs.StoreCalls.{is_equation}
+use Rattle.kan_model.specs.Stores.Store.{Store}
+use Rattle.kan_model.specs.Stores.Calls.{is_equation}
 
 -- all primitives of a store are equations
 abbrev pub HasEquations : Store → Type 0

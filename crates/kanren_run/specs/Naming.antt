@@ -1,6 +1,6 @@
 -- Variables and their names among letters.
 use Rattle.std.specs.Prelude.{ℕ, if◌then◌else◌, List, [], ◌∷◌, ◌++◌}
-use Rattle.kan_model.specs.Order.{place_of, stands_in}
+use Rattle.kan_model.specs.Answers.Order.{place_of, stands_in}
 use Rattle.kan_model.specs.declared.letters.Letter.{Letter}
 use Rattle.kan_model.specs.declared.letters.Letter.TheVariants.{Var}
 

@@ -1,6 +1,6 @@
 -- The refusals of texts: what each is called, and the line that says it.
 use Rattle.std.specs.Prelude.{ℕ, ◌==◌, List, [], codes, if◌then◌else◌}
-use Rattle.kan_model.specs.Output.{error_line}
+use Rattle.kan_model.specs.Answers.Output.{error_line}
 
 -- the refusals of data, by their numbers
 abbrev pub data_refusal_text : ℕ → List ℕ

@@ -1,6 +1,6 @@
 -- What a text comes to: its program and runs, or a refusal.
 use Rattle.std.specs.Prelude.{◌≡◌, ℕ, true, false, List, [], None, Result, Ok, Err}
-use Rattle.kan_model.specs.Programs as programs
+use Rattle.kan_model.specs.Programs.Closed as programs
 use Rattle.kan_model.specs.declared.program.Program.{Program}
 use Rattle.kan_model.specs.declared.nodes.Query.{Query}
 use Rattle.sexpr.specs.Seen.{Table}

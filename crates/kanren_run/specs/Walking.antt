@@ -4,8 +4,8 @@ use Rattle.std.specs.Borrow.{Bor}
 use Rattle.kan_terms.specs.Tree.{Tree, Tm}
 use Rattle.kan_terms.specs.Terms.{tree}
 use Rattle.kan_terms.specs.declared.terms.Term.{Term}
-use Rattle.kan_model.specs.Solve.{Replacement, apply}
-use Rattle.kan_model.specs.Letters.{spelling}
+use Rattle.kan_model.specs.Stores.Solve.{Replacement, apply}
+use Rattle.kan_model.specs.Terms.Letters.{spelling}
 use Rattle.kan_model.specs.declared.letters.Letter.{Letter}
 use Rattle.kan_model.specs.declared.letters.Letter.TheVariants.{Pair}
 

@@ -4,16 +4,16 @@ use Rattle.std.specs.List.{flat_map, list_all}
 use Rattle.std.specs.Io.KnownBytes.{Appends}
 use Rattle.kan_base.specs.Faults.{Rose}
 use Rattle.kan_base.specs.Writes.{PutsFront}
-use Rattle.kan_model.specs.Stores.{Store}
-use Rattle.kan_model.specs.Taking.{Taken}
-use Rattle.kan_model.specs.Scope.{is_small}
-use Rattle.kan_model.specs.Tables.{nothing_open}
-use Rattle.kan_model.specs.Nodes.{goal_place}
-use Rattle.kan_model.specs.Programs as programs
+use Rattle.kan_model.specs.Stores.Store.{Store}
+use Rattle.kan_model.specs.Streams.Taking.{Taken}
+use Rattle.kan_model.specs.Programs.Scope.{is_small}
+use Rattle.kan_model.specs.Programs.Tables.{nothing_open}
+use Rattle.kan_model.specs.Programs.Nodes.{goal_place}
+use Rattle.kan_model.specs.Programs.Closed as programs
 use Rattle.kan_model.specs.declared.program.Program.{Program}
 use Rattle.kan_model.specs.declared.nodes.Query.{Query}
-use Rattle.kan_model.specs.Text.{Table}
-use Rattle.kan_model.specs.Output.{answer_line, summary_line}
+use Rattle.kan_model.specs.Answers.Text.{Table}
+use Rattle.kan_model.specs.Answers.Output.{answer_line, summary_line}
 use Rattle.stream_core.specs.Tasks.{is_built}
 use Rattle.goal_syntax.specs.Equational.{is_equational_body, is_equational_query}
 use Rattle.kan_search.specs.Batches.{ending_of, query_of}

@@ -3,10 +3,10 @@
 ghost use Rattle.std.specs.Prelude.{◌≡◌, ◌++◌, true, IfOk, OnOk, string_bytes};
 ghost use Rattle.std.specs.List.{list_all};
 ghost use Rattle.kan_terms.specs.Terms.{tree};
-ghost use Rattle.kan_model.specs.Solve.{image};
-ghost use Rattle.kan_model.specs.Answers.{in_names, named_variables as variables_named};
-ghost use Rattle.kan_model.specs.Output as output;
-ghost use Rattle.kan_model.specs.StoreCalls.{answer, is_equation};
+ghost use Rattle.kan_model.specs.Stores.Solve.{image};
+ghost use Rattle.kan_model.specs.Answers.Answer.{in_names, named_variables as variables_named};
+ghost use Rattle.kan_model.specs.Answers.Output as output;
+ghost use Rattle.kan_model.specs.Stores.Calls.{answer, is_equation};
 ghost use Rattle.kan_search.specs.Batches.{ending_of};
 
 use crate::naming::{named_variables, rename_all};

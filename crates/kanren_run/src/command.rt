@@ -1,7 +1,7 @@
 //! The words after the program's name.
 
 ghost use Rattle.std.specs.Prelude.{◌≡◌};
-ghost use Rattle.kan_model.specs.Words.{all_digits};
+ghost use Rattle.kan_grammar.specs.Data.Words.{all_digits};
 ghost use Rattle.kanren_run.specs.Commands as commands;
 
 // Whether all bytes are digits.

@@ -1,7 +1,7 @@
 //! The names of an answer's variables.
 
 ghost use Rattle.std.specs.Prelude.{◌≡◌, map, eqb, IfOk, OnOk};
-ghost use Rattle.kan_model.specs.Order.{each_once, place_of, stands_in};
+ghost use Rattle.kan_model.specs.Answers.Order.{each_once, place_of, stands_in};
 ghost use Rattle.kanren_run.specs.Naming.{variables_of, renamed, with_letter};
 
 use kan_model::Letter;

@@ -2,7 +2,7 @@
 
 ghost use Rattle.std.specs.Prelude.{◌≡◌, ◌+◌, ◌<◌, ◌++◌, OnOk, string_bytes};
 ghost use Rattle.kan_terms.specs.Terms.{tree};
-ghost use Rattle.kan_model.specs.Text.{name_text, print};
+ghost use Rattle.kan_model.specs.Answers.Text.{name_text, print};
 ghost use Rattle.kanren_run.specs.declared.printing.Frame.TheVariants.{Element, Rest};
 ghost use Rattle.kanren_run.specs.Printing.{frame_text, frames_text, frame_cost, frames_cost, IsAtom};
 

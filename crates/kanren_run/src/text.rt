@@ -1,9 +1,9 @@
 //! Texts: their program and their runs.
 
 ghost use Rattle.std.specs.Prelude.{◌≡◌, ◌+◌, ◌<◌, ◌≤◌, ◌^◌, [], length, map, List, ℕ};
-ghost use Rattle.kan_model.specs.Faults.{read_text, data_are};
-ghost use Rattle.kan_model.specs.Nodes.{goal_entry};
-ghost use Rattle.kan_model.specs.Programs as programs;
+ghost use Rattle.kan_grammar.specs.Data.Faults.{read_text, data_are};
+ghost use Rattle.kan_model.specs.Programs.Nodes.{goal_entry};
+ghost use Rattle.kan_model.specs.Programs.Closed as programs;
 ghost use Rattle.sexpr.specs.Seen.{written, as_kept};
 ghost use Rattle.goal_syntax.specs.Compiles.{AreOfText, Compiles};
 ghost use Rattle.goal_syntax.specs.Equational.{is_equational_entry, are_equational_entries};

@@ -14,7 +14,7 @@ use crate::text::{NotRun, compile_text};
 use crate::writing::{Stop, write_runs};
 use goal_syntax::Compiled;
 use kan_base::{Place, Sink, Source, Status, TextStop, put_all, take_text};
-use kan_model::PlainStore;
+use kan_plain::PlainStore;
 use kan_terms::{Memory, Names};
 use std::alloc::Global;
 

@@ -2,9 +2,9 @@
 
 ghost use Rattle.std.specs.Prelude.{◌≡◌, ◌∷◌, ◌++◌, IfOk, OnOk};
 ghost use Rattle.kan_terms.specs.Terms.{tree};
-ghost use Rattle.kan_model.specs.Letters.{spelling, letter_of};
-ghost use Rattle.kan_model.specs.Solve.{Replacement, apply};
-ghost use Rattle.kan_model.specs.StoreCalls.{answer};
+ghost use Rattle.kan_model.specs.Terms.Letters.{spelling, letter_of};
+ghost use Rattle.kan_model.specs.Stores.Solve.{Replacement, apply};
+ghost use Rattle.kan_model.specs.Stores.Calls.{answer};
 ghost use Rattle.kanren_run.specs.Walking.{waiting_under, spelled_under};
 
 use kan_model::{Letter, Store, first_letter};

@@ -2,9 +2,9 @@
 
 ghost use Rattle.std.specs.Prelude.{◌≡◌, ◌+◌, ◌++◌, ◌≤◌, [], ◌∷◌, map, true, false, IfOk, OnOk, string_bytes};
 ghost use Rattle.std.specs.List.{list_all};
-ghost use Rattle.kan_model.specs.Programs as programs;
-ghost use Rattle.kan_model.specs.Taking.{taken};
-ghost use Rattle.kan_model.specs.Output.{taken_text, runs_output};
+ghost use Rattle.kan_model.specs.Programs.Closed as programs;
+ghost use Rattle.kan_model.specs.Streams.Taking.{taken};
+ghost use Rattle.kan_model.specs.Answers.Output.{taken_text, runs_output};
 ghost use Rattle.kan_search.specs.Batches.{ending_of, query_of};
 ghost use Rattle.kan_search.specs.Searches.{left};
 ghost use Rattle.kanren_run.specs.Answers.{is_fuel, spends};

@@ -4,9 +4,9 @@ use Rattle.std.specs.Prelude.{◌&&◌, nat_lt, slice_get}
 use Rattle.std.specs.List.{list_all}
 use Rattle.std.proofs.Math.Seq.{drop-nil}
 use Rattle.std.proofs.lemmas.Bool.{and_parts}
-use Rattle.kan_model.specs.Nodes.{goal_place}
-use Rattle.kan_model.specs.Scope.{is_closed, is_low, calls_there, body_in_scope, in_scope}
-use Rattle.kan_model.specs.Tables.{Tables, GoalEntry, nothing_open, templates_of, program_of, goal_at, goals_of}
+use Rattle.kan_model.specs.Programs.Nodes.{goal_place}
+use Rattle.kan_model.specs.Programs.Scope.{is_closed, is_low, calls_there, body_in_scope, in_scope}
+use Rattle.kan_model.specs.Programs.Tables.{Tables, GoalEntry, nothing_open, templates_of, program_of, goal_at, goals_of}
 use Rattle.kan_model.specs.declared.nodes.Query as declared
 use Rattle.stream_core.specs.Tasks.{is_built}
 

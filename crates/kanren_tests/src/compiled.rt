@@ -2,10 +2,10 @@
 
 ghost use Rattle.std.specs.Prelude.{◌≡◌, ◌<◌, ◌^◌, [], ◌∷◌, true, length, map, IfOk};
 ghost use Rattle.std.specs.List.{list_all};
-ghost use Rattle.kan_model.specs.Nodes.{goal_entry, goal_place};
-ghost use Rattle.kan_model.specs.Programs as programs;
-ghost use Rattle.kan_model.specs.Scope.{is_small};
-ghost use Rattle.kan_model.specs.Tables.{nothing_open};
+ghost use Rattle.kan_model.specs.Programs.Nodes.{goal_entry, goal_place};
+ghost use Rattle.kan_model.specs.Programs.Closed as programs;
+ghost use Rattle.kan_model.specs.Programs.Scope.{is_small};
+ghost use Rattle.kan_model.specs.Programs.Tables.{nothing_open};
 ghost use Rattle.stream_core.specs.Tasks.{is_built};
 
 use goal_syntax::{Compiled, SyntaxError, compile};

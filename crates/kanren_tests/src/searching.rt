@@ -4,7 +4,8 @@ ghost use Rattle.std.specs.Prelude.{◌≡◌, ◌≤◌};
 
 use crate::asking::{ALWAYSO, NEVERO, joined, repeated};
 use crate::compiled::{compiled, first_run};
-use kan_model::{PlainStore, Store};
+use kan_model::Store;
+use kan_plain::PlainStore;
 use kan_search::{Batch, Ended, Search};
 use kan_terms::{Names, Term};
 use std::alloc::Global;

@@ -1,13 +1,14 @@
 //! The plain store beside unification over bindings: two ways to one answer.
 
 ghost use Rattle.std.specs.Prelude.{◌≡◌, true};
-ghost use Rattle.kan_model.specs.Goals.{Primitive};
-ghost use Rattle.kan_model.specs.Scope.{sides_below};
+ghost use Rattle.kan_model.specs.Programs.Goals.{Primitive};
+ghost use Rattle.kan_model.specs.Programs.Scope.{sides_below};
 ghost use Rattle.kan_terms.specs.Terms.{tree};
 
 use crate::stores::equal;
 use crate::unifying::none_bound;
-use kan_model::{PlainStore, Prim};
+use kan_model::Prim;
+use kan_plain::PlainStore;
 use kan_subst::ListBindings;
 use kan_terms::Term;
 use std::alloc::Global;

@@ -1,12 +1,13 @@
 //! The calls of stores, each made with ample memory.
 
 ghost use Rattle.std.specs.Prelude.{◌≡◌, ◌∷◌, [], true, map, IfOk};
-ghost use Rattle.kan_model.specs.Stores.{bare};
-ghost use Rattle.kan_model.specs.Prims.{prim as primitive};
-ghost use Rattle.kan_model.specs.Scope.{sides_below};
-ghost use Rattle.kan_model.specs.StoreCalls.{is_equation};
+ghost use Rattle.kan_model.specs.Stores.Store.{bare};
+ghost use Rattle.kan_model.specs.Stores.Prims.{prim as primitive};
+ghost use Rattle.kan_model.specs.Programs.Scope.{sides_below};
+ghost use Rattle.kan_model.specs.Stores.Calls.{is_equation};
 
-use kan_model::{PlainStore, Prim, Store};
+use kan_model::{Prim, Store};
+use kan_plain::PlainStore;
 use kan_terms::{Memory, Term};
 use std::alloc::Global;
 use std::process::Abort;

@@ -3,10 +3,10 @@ use Rattle.std.proofs.Common.{◌≡◌, ℕ, suc, ◌+◌, ◌<◌, ◌≤◌, 
 use Rattle.std.specs.Prelude.{None, Some, Result, Ok, Err, OnOk, nat_le}
 use Rattle.std.specs.List.{fold}
 use Rattle.std.proofs.lemmas.Bool.Decides.{nat_tests}
-use Rattle.kan_model.specs.Words.{Atom, Shape, Token, opening, closing, prefix, dot, atom, bad, symbol, number, truth, out_of_range, reserved}
-use Rattle.kan_model.specs.Written.{Written, single, deepest, is_allowed_atom}
-use Rattle.kan_model.specs.Open.{Place, top, awaiting, depth, put}
-use Rattle.kan_model.specs.Faults.{fault, refusal, after, begins, first_fault, is_out_of_range, is_reserved_name}
+use Rattle.kan_grammar.specs.Data.Words.{Atom, Shape, Token, opening, closing, prefix, dot, atom, bad, symbol, number, truth, out_of_range, reserved}
+use Rattle.kan_grammar.specs.Data.Written.{Written, single, deepest, is_allowed_atom}
+use Rattle.kan_grammar.specs.Data.Enclosing.{Place, top, awaiting, depth, put}
+use Rattle.kan_grammar.specs.Data.Faults.{fault, refusal, after, begins, first_fault, is_out_of_range, is_reserved_name}
 use Rattle.sexpr.specs.Meaning.{prefix_of, shape_of}
 use Rattle.sexpr.specs.Seen.{Table, written, as_kept}
 use Rattle.sexpr.specs.Frames.{after_point, inside, place, open_of, deepened, HasDepth, Takes}

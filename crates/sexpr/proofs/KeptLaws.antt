@@ -2,16 +2,16 @@
 use Rattle.std.proofs.Common.{◌≡◌, ℕ, suc, ◌+◌, Bool, true, false, List, [], ◌∷◌, ◌++◌, map, refl, sym, ap, ◌∙◌}
 use Rattle.std.specs.Prelude.{nat_le, nat_lt, ◌&&◌}
 use Rattle.std.specs.Str.{is_utf8}
-use Rattle.kan_model.specs.Words.{Shape}
-use Rattle.kan_model.specs.Tokens.{tokens}
-use Rattle.kan_model.specs.Written.{Written, Within, single, list, prefixed, close, dotted, element, is_allowed, are_allowed_within, are_allowed, is_allowed_atom, deepest}
-use Rattle.kan_model.specs.Open.{row, as_written}
-use Rattle.kan_model.specs.Faults.{Reading, data_are, refused, read_if, read_text}
-use Rattle.kan_model.specs.Made.{made, made_within, map_reading}
-use Rattle.kan_model.specs.Printed.{Named, pairs, pairs_within, prefix_name}
+use Rattle.kan_grammar.specs.Data.Words.{Shape}
+use Rattle.kan_grammar.specs.Data.Tokens.{tokens}
+use Rattle.kan_grammar.specs.Data.Written.{Written, Within, single, list, prefixed, close, dotted, element, is_allowed, are_allowed_within, are_allowed, is_allowed_atom, deepest}
+use Rattle.kan_grammar.specs.Data.Enclosing.{row, as_written}
+use Rattle.kan_grammar.specs.Data.Faults.{Reading, data_are, refused, read_if, read_text}
+use Rattle.kan_grammar.specs.Data.Builds.{made, made_within, map_reading}
+use Rattle.kan_grammar.specs.Data.Printed.{Named, pairs, pairs_within, prefix_name}
 use Rattle.kan_terms.specs.Tree.{leaf, nil, pair}
-use Rattle.kan_model.proofs.Exactly.{reads_exactly}
-use Rattle.kan_model.proofs.Carried.{read_text-map, made_carries}
+use Rattle.kan_grammar.proofs.Data.Exactly.{reads_exactly}
+use Rattle.kan_grammar.proofs.Data.Carried.{read_text-map, made_carries}
 use Rattle.sexpr.specs.Seen.{written, as_kept}
 use Rattle.sexpr.specs.Laws.{KeepsData, KeepsMeaning, ReadsNamed, is_named, are_named_within, are_named}
 

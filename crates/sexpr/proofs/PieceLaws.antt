@@ -8,8 +8,8 @@ use Rattle.std.proofs.lemmas.Bool.{false≢true}
 use Rattle.std.proofs.lemmas.List.Sums.{prefix_len-le-length, prefix_len_stops}
 use Rattle.std.proofs.lemmas.Str.{IsCharBoundary-after_ascii}
 use Rattle.std.proofs.Math.Seq.{take-length}
-use Rattle.kan_model.specs.Words.{is_word_byte, Token, bad, prefix, unquote, word_token}
-use Rattle.kan_model.specs.Tokens.{Start, separator, comment, whole, comma, hash, in_word, start, spelled, comma_piece, piece_of, piece, more}
+use Rattle.kan_grammar.specs.Data.Words.{is_word_byte, Token, bad, prefix, unquote, word_token}
+use Rattle.kan_grammar.specs.Data.Tokens.{Start, separator, comment, whole, comma, hash, in_word, start, spelled, comma_piece, piece_of, piece, more}
 use Rattle.sexpr.specs.Pieces.{first_piece}
 
 wide_word : (b : ℕ) → 127 < b → is_word_byte b ≡ true

@@ -3,10 +3,10 @@ use Rattle.std.proofs.Common.{◌≡◌, ℕ, ◌+◌, ◌<◌, List, [], ◌∷
 use Rattle.std.specs.Prelude.{Option, None, Some, ℤ, Bool, codes}
 use Rattle.std.specs.Option.{option_map, option_copied}
 use Rattle.std.specs.Borrow.{Bor}
-use Rattle.kan_model.specs.Written.{Written, single, list, prefixed, dotted, element}
+use Rattle.kan_grammar.specs.Data.Written.{Written, single, list, prefixed, dotted, element}
 use Rattle.kan_terms.specs.Table.{name_of}
-use Rattle.kan_model.specs.Words.{round, number, truth}
-use Rattle.kan_model.specs.Printed.{named_text, pairs, pairs_within, prefix_name}
+use Rattle.kan_grammar.specs.Data.Words.{round, number, truth}
+use Rattle.kan_grammar.specs.Data.Printed.{named_text, pairs, pairs_within, prefix_name}
 use Rattle.sexpr.specs.Meaning.{prefix_of}
 use Rattle.sexpr.specs.Seen.{Table, symbol_atom, inner_of, list_of, written}
 use Rattle.sexpr.specs.Works.{rest_text, within, work_text, works_text, cost, cost_within, work_cost, works_cost}

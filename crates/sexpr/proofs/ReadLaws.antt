@@ -8,12 +8,12 @@ use Rattle.std.proofs.lemmas.Str.{IsUtf8-from_is_utf8, is_utf8-from_IsUtf8}
 use Rattle.std.proofs.lemmas.List.{length-append}
 use Rattle.kan_terms.specs.Table.{number_of}
 use Rattle.kan_terms.proofs.TableLaws.{name_of-number_of, name_of-append}
-use Rattle.kan_model.specs.Words.{symbol, Token}
-use Rattle.kan_model.specs.Written.{Written, single}
-use Rattle.kan_model.specs.Tokens.{Placed, placed, Piece, more, placed_before, tokens, tokens_from}
-use Rattle.kan_model.specs.Open.{Open, awaiting, top}
-use Rattle.kan_model.specs.Faults.{Fault, fault, refusal, after, going, stopped, settled, run, finish, cut_off, Reading, refused, read_tokens, read_if, read_text}
-use Rattle.kan_model.proofs.Cutting.{tokens_from-piece}
+use Rattle.kan_grammar.specs.Data.Words.{symbol, Token}
+use Rattle.kan_grammar.specs.Data.Written.{Written, single}
+use Rattle.kan_grammar.specs.Data.Tokens.{Placed, placed, Piece, more, placed_before, tokens, tokens_from}
+use Rattle.kan_grammar.specs.Data.Enclosing.{Open, awaiting, top}
+use Rattle.kan_grammar.specs.Data.Faults.{Fault, fault, refusal, after, going, stopped, settled, run, finish, cut_off, Reading, refused, read_tokens, read_if, read_text}
+use Rattle.kan_grammar.proofs.Data.Cutting.{tokens_from-piece}
 use Rattle.sexpr.specs.Meaning.{token_of, piece_of, piece_with}
 use Rattle.sexpr.specs.Pieces.{first_piece}
 use Rattle.sexpr.specs.Seen.{Table, symbol_atom, written, as_kept}

@@ -2,8 +2,8 @@
 use Rattle.std.proofs.Common.{◌≡◌, ℕ, List, map, ap, sym, ◌∙◌}
 use Rattle.std.specs.Prelude.{None, Some, ℤ, Bool}
 use Rattle.kan_terms.specs.Table.{name_of}
-use Rattle.kan_model.specs.Words.{number, truth}
-use Rattle.kan_model.specs.Written.{Written, single, prefixed}
+use Rattle.kan_grammar.specs.Data.Words.{number, truth}
+use Rattle.kan_grammar.specs.Data.Written.{Written, single, prefixed}
 use Rattle.sexpr.specs.Meaning.{prefix_of}
 use Rattle.sexpr.specs.Seen.{Table, symbol_atom, list_of, kind_of, written}
 use Rattle.sexpr.specs.declared.data.Datum.{Datum, fold_out-Datum}

@@ -1,10 +1,10 @@
 -- What is open, kept as stacks.
 use Rattle.std.specs.Prelude.{◌≡◌, ℕ, suc, ◌+◌, ◌<◌, ◌≤◌, List, [], ◌∷◌, length, map, Option, None, Some}
 use Rattle.std.specs.List.{fold}
-use Rattle.kan_model.specs.Words.{Shape, Token}
-use Rattle.kan_model.specs.Written.{Written}
-use Rattle.kan_model.specs.Open.{Place, top, in_list, after_dot, after_prefix, Open, awaiting, ended}
-use Rattle.kan_model.specs.Faults.{refusal, after}
+use Rattle.kan_grammar.specs.Data.Words.{Shape, Token}
+use Rattle.kan_grammar.specs.Data.Written.{Written}
+use Rattle.kan_grammar.specs.Data.Enclosing.{Place, top, in_list, after_dot, after_prefix, Open, awaiting, ended}
+use Rattle.kan_grammar.specs.Data.Faults.{refusal, after}
 use Rattle.sexpr.specs.Meaning.{shape_of, prefix_of}
 use Rattle.sexpr.specs.Seen.{Table, written, as_kept}
 use Rattle.sexpr.specs.declared.frame.Frame.{Frame}

@@ -1,10 +1,10 @@
 -- What ties data as they are kept to data as they are written.
 use Rattle.std.specs.Prelude.{◌≡◌, ℕ, List, map, Bool, true, ◌&&◌, [], ◌∷◌, IsTrue, Ok}
-use Rattle.kan_model.specs.Written.{Written, Within, single, list, prefixed, close, dotted, element, is_allowed_atom}
-use Rattle.kan_model.specs.Open.{as_written}
-use Rattle.kan_model.specs.Faults.{read_text}
-use Rattle.kan_model.specs.Printed.{pairs}
-use Rattle.kan_model.specs.Made.{made, map_reading}
+use Rattle.kan_grammar.specs.Data.Written.{Written, Within, single, list, prefixed, close, dotted, element, is_allowed_atom}
+use Rattle.kan_grammar.specs.Data.Enclosing.{as_written}
+use Rattle.kan_grammar.specs.Data.Faults.{read_text}
+use Rattle.kan_grammar.specs.Data.Printed.{pairs}
+use Rattle.kan_grammar.specs.Data.Builds.{made, map_reading}
 use Rattle.sexpr.specs.Seen.{Table, written, as_kept}
 use Rattle.sexpr.specs.Reads.{Reads}
 use Rattle.sexpr.specs.declared.data.Datum.{Datum}

@@ -1,7 +1,7 @@
 -- What the tokens of the code stand for.
 use Rattle.std.specs.Prelude.{ℕ, ◌-◌, Option, Some, None}
-use Rattle.kan_model.specs.Words.{Atom, Shape, round, square, Prefix, quote, quasiquote, unquote, Token}
-use Rattle.kan_model.specs.Tokens.{Start, Piece, blank, spelled}
+use Rattle.kan_grammar.specs.Data.Words.{Atom, Shape, round, square, Prefix, quote, quasiquote, unquote, Token}
+use Rattle.kan_grammar.specs.Data.Tokens.{Start, Piece, blank, spelled}
 use Rattle.sexpr.specs.declared.token.Shape.TheVariants.{Round, Square}
 use Rattle.sexpr.specs.declared.token.Shape as shapes
 use Rattle.sexpr.specs.declared.data.Prefix.TheVariants.{Quote, Quasiquote, Unquote}

@@ -1,7 +1,7 @@
 -- What a reading of a text answers.
 use Rattle.std.specs.Prelude.{◌≡◌, ℕ, List, ◌++◌, length, ◌≤◌, map, Option, Some, Result, Ok, Err}
-use Rattle.kan_model.specs.Faults.{Fault as Refusal, fault, Reading, read_text, data_are, refused}
-use Rattle.kan_model.specs.Written.{Written}
+use Rattle.kan_grammar.specs.Data.Faults.{Fault as Refusal, fault, Reading, read_text, data_are, refused}
+use Rattle.kan_grammar.specs.Data.Written.{Written}
 use Rattle.sexpr.specs.Seen.{Table, written, as_kept}
 use Rattle.sexpr.specs.declared.data.Datum.{Datum}
 use Rattle.sexpr.specs.declared.data.ReadError.{ReadError}

@@ -1,9 +1,9 @@
 -- What data stand for: data as they are written, with round parentheses and without the offsets of dots and closes, which a datum doesn't keep.
 use Rattle.std.specs.Prelude.{ℕ, List, Option, None, Some}
 use Rattle.kan_terms.specs.Table.{name_of}
-use Rattle.kan_model.specs.Words.{Atom, symbol, number, truth, reserved, round}
-use Rattle.kan_model.specs.Written.{Written, Within, single, list, prefixed, close, dotted}
-use Rattle.kan_model.specs.Open.{Build, row}
+use Rattle.kan_grammar.specs.Data.Words.{Atom, symbol, number, truth, reserved, round}
+use Rattle.kan_grammar.specs.Data.Written.{Written, Within, single, list, prefixed, close, dotted}
+use Rattle.kan_grammar.specs.Data.Enclosing.{Build, row}
 use Rattle.sexpr.specs.Meaning.{prefix_of}
 use Rattle.sexpr.specs.declared.data.Datum.{Datum, fold-Datum}
 use Rattle.sexpr.specs.declared.data.DatumKind.TheOpen.{DatumKind-F}

@@ -2,9 +2,9 @@
 use Rattle.std.specs.Prelude.{ℕ, ◌+◌, List, [], ◌∷◌, ◌++◌, map, Option}
 use Rattle.std.specs.Borrow.{Bor}
 use Rattle.std.specs.Option.{option_map, option_copied}
-use Rattle.kan_model.specs.Text.{print_rest}
-use Rattle.kan_model.specs.Written.{Written, Within, single, list, prefixed, close, dotted, element}
-use Rattle.kan_model.specs.Printed.{Named, named_text, pairs, pairs_within}
+use Rattle.kan_model.specs.Answers.Text.{print_rest}
+use Rattle.kan_grammar.specs.Data.Written.{Written, Within, single, list, prefixed, close, dotted, element}
+use Rattle.kan_grammar.specs.Data.Printed.{Named, named_text, pairs, pairs_within}
 use Rattle.sexpr.specs.Seen.{Table, inner_of, written}
 use Rattle.sexpr.specs.declared.data.Datum.{Datum}
 use Rattle.sexpr.specs.declared.printer.Work.{Work}

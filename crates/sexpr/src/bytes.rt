@@ -2,8 +2,8 @@
 
 ghost use Rattle.std.specs.Prelude.{◌≡◌, ◌≤◌, length};
 ghost use Rattle.std.specs.List.{prefix_len};
-ghost use Rattle.kan_model.specs.Words.{is_word_byte, all_digits};
-ghost use Rattle.kan_model.specs.Tokens.{comment_length, start};
+ghost use Rattle.kan_grammar.specs.Data.Words.{is_word_byte, all_digits};
+ghost use Rattle.kan_grammar.specs.Data.Tokens.{comment_length, start};
 ghost use Rattle.sexpr.specs.Meaning.{start_of};
 
 use crate::data::Prefix;

@@ -2,7 +2,7 @@
 
 ghost use Rattle.std.specs.Prelude.{◌≡◌, ◌<◌, suc, ◌∷◌, length};
 ghost use Rattle.std.specs.Str.{IsCharBoundary};
-ghost use Rattle.kan_model.specs.Tokens.{piece, more, comma_piece, hash_token};
+ghost use Rattle.kan_grammar.specs.Data.Tokens.{piece, more, comma_piece, hash_token};
 ghost use Rattle.sexpr.specs.Meaning.{token_of, piece_of};
 ghost use Rattle.sexpr.specs.Pieces.{first_piece};
 
@@ -32,7 +32,7 @@ pub(crate) fn first_piece(text: &str) -> Piece<'_>
 }
 
 /// The piece of a text that begins with a byte and goes on with other bytes.
-#[tactic(auto, using(crate::proofs::PieceLaws::word_boundary), unfolding(kan_model::specs::Tokens::piece))]
+#[tactic(auto, using(crate::proofs::PieceLaws::word_boundary), unfolding(kan_grammar::specs::Data::Tokens::piece))]
 fn piece_begun<'a>(text: &'a str, first: u8, rest: &[u8]) -> Piece<'a>
     requires { text.now ≡ first ∷ rest.now }
     ensures piece { piece_of result ≡ piece first rest.now }

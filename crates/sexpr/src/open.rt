@@ -2,10 +2,10 @@
 
 ghost use Rattle.std.specs.Prelude.{◌≡◌, ◌<◌, ◌≤◌, [], ◌∷◌, ◌++◌, map, None, Some, true, if◌then◌else◌, IfErr, OnOk};
 ghost use Rattle.std.specs.List.{fold};
-ghost use Rattle.kan_model.specs.Words.{Atom, Token, opening, closing, prefix, dot, atom, out_of_range, reserved};
-ghost use Rattle.kan_model.specs.Written.{is_allowed_atom, single};
-ghost use Rattle.kan_model.specs.Open.{top, in_list, awaiting, put};
-ghost use Rattle.kan_model.specs.Faults.{refusal, begins, is_shape, fault, cut_off};
+ghost use Rattle.kan_grammar.specs.Data.Words.{Atom, Token, opening, closing, prefix, dot, atom, out_of_range, reserved};
+ghost use Rattle.kan_grammar.specs.Data.Written.{is_allowed_atom, single};
+ghost use Rattle.kan_grammar.specs.Data.Enclosing.{top, in_list, awaiting, put};
+ghost use Rattle.kan_grammar.specs.Data.Faults.{refusal, begins, is_shape, fault, cut_off};
 ghost use Rattle.sexpr.specs.Meaning.{shape_of, prefix_of};
 ghost use Rattle.sexpr.specs.Seen.{Table, list_of, written, as_kept};
 ghost use Rattle.sexpr.specs.Reads.{Answers, Refuses, memory_wanted};

@@ -2,7 +2,7 @@
 
 ghost use Rattle.std.specs.Prelude.{◌≡◌, ◌+◌, ◌<◌, ◌++◌, OnOk, IfOk, codes, string_bytes};
 ghost use Rattle.std.specs.Option.{option_copied};
-ghost use Rattle.kan_model.specs.Printed.{datum_text, named_text, pairs, pairs_within, prefix_name};
+ghost use Rattle.kan_grammar.specs.Data.Printed.{datum_text, named_text, pairs, pairs_within, prefix_name};
 ghost use Rattle.sexpr.specs.Meaning.{prefix_of};
 ghost use Rattle.sexpr.specs.Seen.{written};
 ghost use Rattle.sexpr.specs.Works.{within, rest_text, cost_within, work_text, works_text, work_cost, works_cost};

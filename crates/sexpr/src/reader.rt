@@ -1,9 +1,9 @@
 //! Reading a text into its data.
 
 ghost use Rattle.std.specs.Prelude.{IfOk, Ok, List, ◌≡◌, ◌-◌, ◌^◌, ◌<◌, ◌≤◌, ◌++◌, length, IfErr, OnOk};
-ghost use Rattle.kan_model.specs.Tokens.{Placed, placed_before};
-ghost use Rattle.kan_model.specs.Faults.{refusal, run, going, finish};
-ghost use Rattle.kan_model.specs.Words as words;
+ghost use Rattle.kan_grammar.specs.Data.Tokens.{Placed, placed_before};
+ghost use Rattle.kan_grammar.specs.Data.Faults.{refusal, run, going, finish};
+ghost use Rattle.kan_grammar.specs.Data.Words as words;
 ghost use Rattle.sexpr.specs.Meaning.{atom_of, token_of, piece_of};
 ghost use Rattle.sexpr.specs.Seen.{Table, as_kept};
 ghost use Rattle.sexpr.specs.Reads.{Answers, Extends, Reads, Refuses};

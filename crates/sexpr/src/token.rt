@@ -1,7 +1,7 @@
 //! The tokens of a text.
 
 ghost use Rattle.std.specs.Prelude.{◌≡◌, Some};
-ghost use Rattle.kan_model.specs.Faults.{is_shape};
+ghost use Rattle.kan_grammar.specs.Data.Faults.{is_shape};
 ghost use Rattle.sexpr.specs.Meaning.{shape_of};
 
 use crate::data::Prefix;

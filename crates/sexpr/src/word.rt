@@ -2,14 +2,14 @@
 
 ghost use Rattle.std.specs.Prelude.{◌≡◌, true};
 ghost use Rattle.std.specs.Str.Parse.{without_leading_sign};
-ghost use Rattle.kan_model.specs.Words.{begins_with_digit, without_leading_point, looks_like_number, is_dot, is_reserved, number_token, word_token};
+ghost use Rattle.kan_grammar.specs.Data.Words.{begins_with_digit, without_leading_point, looks_like_number, is_dot, is_reserved, number_token, word_token};
 ghost use Rattle.sexpr.specs.Meaning.{token_of};
 
 use crate::bytes::all_digits;
 use crate::token::{Atom, Token};
 
 /// The token of a word.
-#[tactic(auto, unfolding(kan_model::specs::Words::word_token))]
+#[tactic(auto, unfolding(kan_grammar::specs::Data::Words::word_token))]
 pub(crate) fn word_token(word: &str) -> Token<'_>
     ensures { token_of result ≡ word_token word.now }
 {

@@ -1,8 +1,8 @@
 -- The counters of a stream's stores lie between its floor and its top.
 use Rattle.std.proofs.Common.{ℕ, ◌≤◌, List, [], ◌∷◌, arith, min, max}
-use Rattle.kan_model.specs.Stores.{Store}
-use Rattle.kan_model.specs.Streams.{Stream, heads}
-use Rattle.kan_model.specs.Bounds.{top, floor, stream_top, stream_floor, highest, lowest}
+use Rattle.kan_model.specs.Stores.Store.{Store}
+use Rattle.kan_model.specs.Streams.Stream.{Stream, heads}
+use Rattle.kan_model.specs.Streams.Bounds.{top, floor, stream_top, stream_floor, highest, lowest}
 use Rattle.stream_core.specs.Fitting.{Between}
 use Rattle.stream_core.specs.Machine.{Each}
 use Rattle.stream_core.proofs.MachineLaws.{Each-like}

@@ -6,12 +6,12 @@ use Rattle.std.proofs.lemmas.Bool.{and_parts, ltb-true}
 use Rattle.std.proofs.lemmas.List.{length-append}
 use Rattle.std.proofs.lemmas.List.Elements.{Contains-append_left}
 use Rattle.std.proofs.lemmas.Option.{slice_get-map}
-use Rattle.kan_model.specs.Goals.{Goal, Relation, Program, Template}
-use Rattle.kan_model.specs.Scope.{width, is_narrow, is_small, is_low, calls_there, body_in_scope, in_scope}
-use Rattle.kan_model.specs.Tables.{GoalEntry, RelationEntry, Tables, goal_at, goal_of, goals_after, goals_of, templates_of, program_of, is_grown, is_goal_grown, goals_grown, nothing_open}
-use Rattle.kan_model.specs.Programs as programs
+use Rattle.kan_model.specs.Programs.Goals.{Goal, Relation, Program, Template}
+use Rattle.kan_model.specs.Programs.Scope.{width, is_narrow, is_small, is_low, calls_there, body_in_scope, in_scope}
+use Rattle.kan_model.specs.Programs.Tables.{GoalEntry, RelationEntry, Tables, goal_at, goal_of, goals_after, goals_of, templates_of, program_of, is_grown, is_goal_grown, goals_grown, nothing_open}
+use Rattle.kan_model.specs.Programs.Closed as programs
 use Rattle.kan_model.specs.declared.program.Program as code
-use Rattle.kan_model.proofs.TableLaws.{grown-parts, goals-length}
+use Rattle.kan_model.proofs.Programs.TableLaws.{grown-parts, goals-length}
 use Rattle.stream_core.specs.Machine.{Each}
 use Rattle.stream_core.proofs.MachineLaws.{Each-like, Each-append}
 

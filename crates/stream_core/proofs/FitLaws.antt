@@ -6,14 +6,14 @@ use Rattle.std.proofs.lemmas.Bool.{and_from, and_parts, eqb-true}
 use Rattle.std.proofs.lemmas.List.{length-append}
 use Rattle.std.proofs.lemmas.List.Folds.{list_all-append}
 use Rattle.kan_terms.specs.Tree.{Tree, Tm}
-use Rattle.kan_model.specs.Goals.{Goal, Primitive, Relation, Program, Template, on_sides}
-use Rattle.kan_model.specs.Stores.{Store, with_prim, with_fresh}
-use Rattle.kan_model.specs.Kept.{is_kept}
-use Rattle.kan_model.specs.Flat.{is_flat}
-use Rattle.kan_model.specs.Streams.{Stream, Thunk, heads, append, append_each, bind_all, empty, one}
-use Rattle.kan_model.specs.Running.{Arguments, run, force, enter, variables, instance, instances, named, named_store}
-use Rattle.kan_model.specs.Scope.{width, all_below, in_scope, takes}
-use Rattle.kan_model.specs.Bounds.{Fits, StreamFits, top, floor, stream_top, stream_floor, highest, lowest}
+use Rattle.kan_model.specs.Programs.Goals.{Goal, Primitive, Relation, Program, Template, on_sides}
+use Rattle.kan_model.specs.Stores.Store.{Store, with_prim, with_fresh}
+use Rattle.kan_model.specs.Stores.Kept.{is_kept}
+use Rattle.kan_model.specs.Terms.Flat.{is_flat}
+use Rattle.kan_model.specs.Streams.Stream.{Stream, Thunk, heads, append, append_each, bind_all, empty, one}
+use Rattle.kan_model.specs.Streams.Running.{Arguments, run, force, enter, variables, instance, instances, named, named_store}
+use Rattle.kan_model.specs.Programs.Scope.{width, all_below, in_scope, takes}
+use Rattle.kan_model.specs.Streams.Bounds.{Fits, StreamFits, top, floor, stream_top, stream_floor, highest, lowest}
 use Rattle.stream_core.specs.Fitting.{Between, RestFits, TailFits}
 use Rattle.stream_core.specs.Machine.{Each}
 use Rattle.stream_core.specs.Naming.{NamesFirst}

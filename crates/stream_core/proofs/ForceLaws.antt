@@ -4,14 +4,14 @@ use Rattle.std.specs.Prelude.{Some, None, option_map, slice_get, nat_lt}
 use Rattle.std.specs.List.{list_all}
 use Rattle.std.proofs.lemmas.Option.{slice_get-map}
 use Rattle.kan_terms.specs.Tree.{Tm}
-use Rattle.kan_model.specs.Goals.{Goal, Relation, Program}
-use Rattle.kan_model.specs.Stores.{Store}
-use Rattle.kan_model.specs.Streams.{Stream, Thunk, heads}
-use Rattle.kan_model.specs.Running.{force}
-use Rattle.kan_model.specs.Scope.{all_below, in_scope}
-use Rattle.kan_model.specs.Tables.{Tables, RelationEntry, goal_at, goals_of, templates_of, program_of, is_grown}
-use Rattle.kan_model.specs.Bounds.{Fits, top, floor}
-use Rattle.kan_model.proofs.TableLaws.{grown-parts, goals-length}
+use Rattle.kan_model.specs.Programs.Goals.{Goal, Relation, Program}
+use Rattle.kan_model.specs.Stores.Store.{Store}
+use Rattle.kan_model.specs.Streams.Stream.{Stream, Thunk, heads}
+use Rattle.kan_model.specs.Streams.Running.{force}
+use Rattle.kan_model.specs.Programs.Scope.{all_below, in_scope}
+use Rattle.kan_model.specs.Programs.Tables.{Tables, RelationEntry, goal_at, goals_of, templates_of, program_of, is_grown}
+use Rattle.kan_model.specs.Streams.Bounds.{Fits, top, floor}
+use Rattle.kan_model.proofs.Programs.TableLaws.{grown-parts, goals-length}
 use Rattle.stream_core.specs.Fitting.{Between}
 use Rattle.stream_core.specs.Machine.{Each, IsOf, AreBelowRest}
 use Rattle.stream_core.specs.Forcing.{MayForce, inner_of}

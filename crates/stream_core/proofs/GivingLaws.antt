@@ -6,15 +6,15 @@ use Rattle.std.proofs.lemmas.Bool.{and_from, and_parts}
 use Rattle.kan_terms.specs.Tree.{Tree, Tm}
 use Rattle.kan_terms.specs.Terms.{tree}
 use Rattle.kan_terms.specs.declared.terms.Term.{Term}
-use Rattle.kan_model.specs.Goals.{Primitive, Template}
-use Rattle.kan_model.specs.Stores.{Store, with_prim, with_fresh}
-use Rattle.kan_model.specs.Kept.{is_kept}
-use Rattle.kan_model.specs.Streams.{Stream, Thunk, one, empty}
-use Rattle.kan_model.specs.StoreCalls.{Gives}
-use Rattle.kan_model.specs.Running.{assert, slot, instance, instances, named, named_store, suspended_call}
-use Rattle.kan_model.specs.Scope.{all_below, sides_below}
-use Rattle.kan_model.specs.Flat.{is_flat}
-use Rattle.kan_model.specs.Tables.{template_at, arguments_at}
+use Rattle.kan_model.specs.Programs.Goals.{Primitive, Template}
+use Rattle.kan_model.specs.Stores.Store.{Store, with_prim, with_fresh}
+use Rattle.kan_model.specs.Stores.Kept.{is_kept}
+use Rattle.kan_model.specs.Streams.Stream.{Stream, Thunk, one, empty}
+use Rattle.kan_model.specs.Stores.Calls.{Gives}
+use Rattle.kan_model.specs.Streams.Running.{assert, slot, instance, instances, named, named_store, suspended_call}
+use Rattle.kan_model.specs.Programs.Scope.{all_below, sides_below}
+use Rattle.kan_model.specs.Terms.Flat.{is_flat}
+use Rattle.kan_model.specs.Programs.Tables.{template_at, arguments_at}
 use Rattle.std.proofs.lemmas.List.{map-append, length-map}
 use Rattle.std.proofs.lemmas.List.Folds.{list_all-append}
 use Rattle.stream_core.specs.Naming.{NamesOne, NamesFirst, in_front}

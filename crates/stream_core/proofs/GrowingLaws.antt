@@ -3,10 +3,10 @@ use Rattle.std.proofs.Common.{◌≡◌, ℕ, zero, suc, ◌+◌, ◌<◌, Bool,
 use Rattle.std.specs.Prelude.{Option, Some, None, option_map, slice_get, unwrap_or}
 use Rattle.std.proofs.lemmas.Bool.{and_from, and_parts}
 use Rattle.std.proofs.lemmas.List.{length-append}
-use Rattle.kan_model.specs.Goals.{Goal, Program}
-use Rattle.kan_model.specs.Stores as facts
-use Rattle.kan_model.specs.Streams as model
-use Rattle.kan_model.specs.Environments.{terms_of}
+use Rattle.kan_model.specs.Programs.Goals.{Goal, Program}
+use Rattle.kan_model.specs.Stores.Store as facts
+use Rattle.kan_model.specs.Streams.Stream as model
+use Rattle.kan_model.specs.Programs.Environments.{terms_of}
 use Rattle.stream_core.specs.Standing as standing
 use Rattle.stream_core.specs.Growing.{no_thunk, tree_at, trees_after, is_below, tail_below, names_below, all_grown, is_placed, grown_tree}
 use Rattle.stream_core.specs.declared.streams.Thunk.{Thunk}

@@ -2,11 +2,11 @@
 use Rattle.std.proofs.Common.{◌≡◌, ◌≢◌, ◌⊎◌, inl, inr, ℕ, zero, suc, ◌<◌, Bool, true, false, List, [], ◌∷◌, ◌++◌, length, map, refl, sym, ◌∙◌, ap, ap₂, subst, arith, get_or, if◌then◌else◌}
 use Rattle.std.specs.Prelude.{Option, Some, None, option_map, slice_get, slice_set, unwrap_or, is_some, IfSome}
 use Rattle.std.proofs.lemmas.List.{map-append, length-map}
-use Rattle.kan_model.specs.Goals.{Program}
-use Rattle.kan_model.specs.Stores as facts
-use Rattle.kan_model.specs.Streams as model
-use Rattle.kan_model.specs.Running.{force}
-use Rattle.kan_model.specs.Bounds.{Fits}
+use Rattle.kan_model.specs.Programs.Goals.{Program}
+use Rattle.kan_model.specs.Stores.Store as facts
+use Rattle.kan_model.specs.Streams.Stream as model
+use Rattle.kan_model.specs.Streams.Running.{force}
+use Rattle.kan_model.specs.Streams.Bounds.{Fits}
 use Rattle.stream_core.specs.Standing as standing
 use Rattle.stream_core.specs.Standing.{Grows, ThunkBelongs, IsForce}
 use Rattle.stream_core.specs.Growing.{no_thunk, trees_after, all_grown, is_placed, grown_tree}

@@ -3,12 +3,12 @@ use Rattle.std.proofs.Common.{◌≡◌, ℕ, zero, suc, ◌+◌, ◌≤◌, Boo
 use Rattle.std.specs.List.{list_all}
 use Rattle.std.proofs.lemmas.Bool.{and_from, and_parts, ltb-true, lt-ltb}
 use Rattle.kan_terms.specs.Tree.{Tree, Tm}
-use Rattle.kan_model.specs.Goals.{Goal, Primitive, on_sides}
-use Rattle.kan_model.specs.Stores.{Store, with_prim, with_fresh}
-use Rattle.kan_model.specs.Kept.{is_kept}
-use Rattle.kan_model.specs.Streams.{Stream, Thunk, heads, append, append_each, bind_all, empty, one}
-use Rattle.kan_model.specs.Running.{run, variables, instance}
-use Rattle.kan_model.specs.Scope.{width, all_below}
+use Rattle.kan_model.specs.Programs.Goals.{Goal, Primitive, on_sides}
+use Rattle.kan_model.specs.Stores.Store.{Store, with_prim, with_fresh}
+use Rattle.kan_model.specs.Stores.Kept.{is_kept}
+use Rattle.kan_model.specs.Streams.Stream.{Stream, Thunk, heads, append, append_each, bind_all, empty, one}
+use Rattle.kan_model.specs.Streams.Running.{run, variables, instance}
+use Rattle.kan_model.specs.Programs.Scope.{width, all_below}
 use Rattle.stream_core.specs.Fitting.{Between}
 use Rattle.stream_core.specs.Machine.{Each}
 

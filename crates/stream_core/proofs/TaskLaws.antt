@@ -5,12 +5,12 @@ use Rattle.std.specs.List.{list_all}
 use Rattle.std.proofs.lemmas.Bool.{and_from, and_parts}
 use Rattle.std.proofs.lemmas.List.Folds.{list_all-append}
 use Rattle.kan_terms.specs.Tree.{Tm}
-use Rattle.kan_model.specs.Goals.{Goal, Program}
-use Rattle.kan_model.specs.Stores.{Store, with_fresh}
-use Rattle.kan_model.specs.Streams.{Stream, Thunk, heads, append, append_each, empty}
-use Rattle.kan_model.specs.Running.{run, variables}
-use Rattle.kan_model.specs.Scope.{width, all_below, in_scope}
-use Rattle.kan_model.specs.Bounds.{floor}
+use Rattle.kan_model.specs.Programs.Goals.{Goal, Program}
+use Rattle.kan_model.specs.Stores.Store.{Store, with_fresh}
+use Rattle.kan_model.specs.Streams.Stream.{Stream, Thunk, heads, append, append_each, empty}
+use Rattle.kan_model.specs.Streams.Running.{run, variables}
+use Rattle.kan_model.specs.Programs.Scope.{width, all_below, in_scope}
+use Rattle.kan_model.specs.Streams.Bounds.{floor}
 use Rattle.stream_core.specs.Fitting.{Between, RestFits}
 use Rattle.stream_core.specs.Machine.{Task, done, Each, HasRoom, IsOf, AreBelowRest, AreReady, for_each, count, left, Becomes, run_each, bound_last}
 use Rattle.stream_core.proofs.MachineLaws.{Each-like, run-between, env-more, variables-below}

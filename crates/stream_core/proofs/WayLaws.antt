@@ -1,10 +1,10 @@
 -- Steps on the way down from a suspension and up again.
 use Rattle.std.proofs.Common.{◌≡◌, List, [], ◌∷◌, ◌++◌, refl, sym, ◌∙◌, ap, ap₂, subst}
 use Rattle.std.specs.Prelude.{Option, Some}
-use Rattle.kan_model.specs.Goals.{Program}
-use Rattle.kan_model.specs.Stores as facts
-use Rattle.kan_model.specs.Streams as model
-use Rattle.kan_model.specs.Running.{force}
+use Rattle.kan_model.specs.Programs.Goals.{Program}
+use Rattle.kan_model.specs.Stores.Store as facts
+use Rattle.kan_model.specs.Streams.Stream as model
+use Rattle.kan_model.specs.Streams.Running.{force}
 use Rattle.stream_core.specs.Machine.{Each}
 use Rattle.stream_core.specs.Forcing.{MayForce, next, IsWay, inner_of}
 use Rattle.stream_core.specs.Standing.{Grows, IsForce}

@@ -1,9 +1,9 @@
 -- Streams that a program gives: the counters of their stores keep to bounds, and what they go on with fits the program.
 use Rattle.std.specs.Prelude.{ℕ, ◌+◌, ◌≤◌, ◌^◌}
-use Rattle.kan_model.specs.Goals.{Program}
-use Rattle.kan_model.specs.Stores.{Store}
-use Rattle.kan_model.specs.Streams.{Stream, heads}
-use Rattle.kan_model.specs.Bounds.{Fits, top, floor}
+use Rattle.kan_model.specs.Programs.Goals.{Program}
+use Rattle.kan_model.specs.Stores.Store.{Store}
+use Rattle.kan_model.specs.Streams.Stream.{Stream, heads}
+use Rattle.kan_model.specs.Streams.Bounds.{Fits, top, floor}
 use Rattle.stream_core.specs.Machine.{Each}
 
 -- a counter between two numbers

@@ -1,8 +1,8 @@
 -- Forcing a suspension by going down to its call and up again.
 use Rattle.std.specs.Prelude.{◌≡◌, ℕ, suc, ◌≤◌, ◌^◌, List, [], ◌∷◌, Option, Some, None}
-use Rattle.kan_model.specs.Goals.{Program}
-use Rattle.kan_model.specs.Streams.{Thunk}
-use Rattle.kan_model.specs.Bounds.{Fits, top}
+use Rattle.kan_model.specs.Programs.Goals.{Program}
+use Rattle.kan_model.specs.Streams.Stream.{Thunk}
+use Rattle.kan_model.specs.Streams.Bounds.{Fits, top}
 
 -- the suspension inside one, and a call itself
 abbrev pub inner_of : Thunk → Thunk

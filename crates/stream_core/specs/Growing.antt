@@ -1,8 +1,8 @@
 -- Suspensions in a list, each naming earlier ones by number, and the trees that they stand for.
 use Rattle.std.specs.Prelude.{ℕ, suc, Bool, true, ◌&&◌, nat_lt, List, [], ◌∷◌, ◌++◌, Option, Some, None, slice_get, unwrap_or, ◌<◌, length}
-use Rattle.kan_model.specs.Goals.{Goal, Program}
-use Rattle.kan_model.specs.Stores as facts
-use Rattle.kan_model.specs.Streams as model
+use Rattle.kan_model.specs.Programs.Goals.{Goal, Program}
+use Rattle.kan_model.specs.Stores.Store as facts
+use Rattle.kan_model.specs.Streams.Stream as model
 use Rattle.stream_core.specs.Standing as standing
 use Rattle.stream_core.specs.declared.streams.Thunk.{Thunk}
 use Rattle.stream_core.specs.declared.streams.Thunk.TheVariants.{Call, Swap, Bind}

@@ -1,9 +1,9 @@
 -- Rows of suspensions and the streams that are kept for them, and which ids stand for suspensions whose rows are in order.
 use Rattle.std.specs.Prelude.{ℕ, zero, suc, Bool, false, List, [], ◌∷◌, map, Option, Some, slice_get, is_some, IfSome}
-use Rattle.kan_model.specs.Goals.{Program}
-use Rattle.kan_model.specs.Stores as facts
-use Rattle.kan_model.specs.Streams as model
-use Rattle.kan_model.specs.Bounds.{Fits}
+use Rattle.kan_model.specs.Programs.Goals.{Program}
+use Rattle.kan_model.specs.Stores.Store as facts
+use Rattle.kan_model.specs.Streams.Stream as model
+use Rattle.kan_model.specs.Streams.Bounds.{Fits}
 use Rattle.stream_core.specs.Standing.{ThunkBelongs, IsForce}
 use Rattle.stream_core.specs.Growing.{is_placed, grown_tree}
 use Rattle.stream_core.specs.declared.streams.Thunk.{Thunk}

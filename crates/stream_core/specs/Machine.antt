@@ -2,12 +2,12 @@
 use Rattle.std.specs.Prelude.{◌≡◌, ℕ, ◌+◌, ◌≤◌, ◌<◌, ◌^◌, true, List, [], ◌∷◌, ◌++◌, length, Contains}
 use Rattle.std.specs.List.{list_all}
 use Rattle.kan_terms.specs.Tree.{Tm}
-use Rattle.kan_model.specs.Goals.{Goal, Program}
-use Rattle.kan_model.specs.Stores.{Store, with_fresh}
-use Rattle.kan_model.specs.Streams.{Stream, Thunk, heads, append, bind_all, empty}
-use Rattle.kan_model.specs.Running.{run, variables}
-use Rattle.kan_model.specs.Scope.{width, all_below, in_scope}
-use Rattle.kan_model.specs.Bounds.{floor}
+use Rattle.kan_model.specs.Programs.Goals.{Goal, Program}
+use Rattle.kan_model.specs.Stores.Store.{Store, with_fresh}
+use Rattle.kan_model.specs.Streams.Stream.{Stream, Thunk, heads, append, bind_all, empty}
+use Rattle.kan_model.specs.Streams.Running.{run, variables}
+use Rattle.kan_model.specs.Programs.Scope.{width, all_below, in_scope}
+use Rattle.kan_model.specs.Streams.Bounds.{floor}
 
 -- to run a goal at a store, to append the two streams on top, or to bind a goal to the one on top
 pub data Task : Type 0 where

@@ -2,9 +2,9 @@
 use Rattle.std.specs.Prelude.{◌≡◌, ◌+◌, ◌≤◌, true, List, ◌∷◌, ◌++◌}
 use Rattle.std.specs.List.{list_all}
 use Rattle.kan_terms.specs.Tree.{Tm}
-use Rattle.kan_model.specs.Stores.{Store}
-use Rattle.kan_model.specs.Running.{Arguments, named, and_value}
-use Rattle.kan_model.specs.Flat.{is_flat}
+use Rattle.kan_model.specs.Stores.Store.{Store}
+use Rattle.kan_model.specs.Streams.Running.{Arguments, named, and_value}
+use Rattle.kan_model.specs.Terms.Flat.{is_flat}
 
 -- an argument's value and the store after it: whatever follows, naming goes on from there
 pub record NamesOne (before : Store) (argument value : Tm) (after : Store) : Type 0 where

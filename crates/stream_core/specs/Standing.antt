@@ -1,11 +1,11 @@
 -- What suspensions and streams of the code stand for, given what their ids, stores and goals do.
 use Rattle.std.specs.Prelude.{◌≡◌, ℕ, List, map, Option, Some, None, option_map, IfSome}
-use Rattle.kan_model.specs.Goals.{Goal, Program}
-use Rattle.kan_model.specs.Tables.{goal_at}
-use Rattle.kan_model.specs.Stores as facts
-use Rattle.kan_model.specs.Streams as model
-use Rattle.kan_model.specs.Running.{force}
-use Rattle.kan_model.specs.Environments.{terms_of}
+use Rattle.kan_model.specs.Programs.Goals.{Goal, Program}
+use Rattle.kan_model.specs.Programs.Tables.{goal_at}
+use Rattle.kan_model.specs.Stores.Store as facts
+use Rattle.kan_model.specs.Streams.Stream as model
+use Rattle.kan_model.specs.Streams.Running.{force}
+use Rattle.kan_model.specs.Programs.Environments.{terms_of}
 use Rattle.stream_core.specs.declared.streams.Thunk.{Thunk}
 use Rattle.stream_core.specs.declared.streams.Thunk.TheVariants.{Call, Swap, Bind}
 use Rattle.stream_core.specs.declared.streams.Stream.{Stream}

@@ -1,9 +1,9 @@
 -- What tasks of the code stand for, and which goals are built.
 use Rattle.std.specs.Prelude.{ℕ, Bool, true, false, List, [], ◌∷◌, ◌++◌}
-use Rattle.kan_model.specs.Goals.{Goal}
-use Rattle.kan_model.specs.Stores as facts
-use Rattle.kan_model.specs.Tables.{GoalEntry}
-use Rattle.kan_model.specs.Environments.{terms_of}
+use Rattle.kan_model.specs.Programs.Goals.{Goal}
+use Rattle.kan_model.specs.Stores.Store as facts
+use Rattle.kan_model.specs.Programs.Tables.{GoalEntry}
+use Rattle.kan_model.specs.Programs.Environments.{terms_of}
 use Rattle.stream_core.specs.Machine as machine
 use Rattle.stream_core.specs.declared.tasks.Task.{Task}
 use Rattle.stream_core.specs.declared.tasks.Task.TheVariants.{Run, Append, Bind}

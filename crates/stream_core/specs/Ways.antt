@@ -1,8 +1,8 @@
 -- The way down from a suspension, by ids.
 use Rattle.std.specs.Prelude.{List, Option, IfSome}
-use Rattle.kan_model.specs.Goals.{Program}
-use Rattle.kan_model.specs.Stores as facts
-use Rattle.kan_model.specs.Streams as model
+use Rattle.kan_model.specs.Programs.Goals.{Program}
+use Rattle.kan_model.specs.Stores.Store as facts
+use Rattle.kan_model.specs.Streams.Stream as model
 use Rattle.stream_core.specs.Machine.{Each}
 use Rattle.stream_core.specs.Forcing.{MayForce, next, IsWay}
 use Rattle.stream_core.specs.Standing.{IsForce}

@@ -1,7 +1,7 @@
 //! Appending streams.
 
 ghost use Rattle.std.specs.Prelude.{◌≡◌, ℕ, ◌++◌, ◌∷◌, [], map, reverse, IfOk, OnOk};
-ghost use Rattle.kan_model.specs.Streams as model;
+ghost use Rattle.kan_model.specs.Streams.Stream as model;
 ghost use Rattle.stream_core.specs.Fitting.{TailFits};
 ghost use Rattle.stream_core.specs.Standing as standing;
 

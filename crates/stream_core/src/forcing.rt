@@ -2,12 +2,12 @@
 
 ghost use Rattle.std.specs.Prelude.{◌≡◌, ◌≤◌, ◌^◌, true, slice_get, IfOk, IfSome};
 ghost use Rattle.std.specs.List.{list_all};
-ghost use Rattle.kan_model.specs.Streams as model;
-ghost use Rattle.kan_model.specs.Running as running;
-ghost use Rattle.kan_model.specs.Scope.{is_small};
-ghost use Rattle.kan_model.specs.Bounds.{top, floor};
-ghost use Rattle.kan_model.specs.Environments.{terms_of};
-ghost use Rattle.kan_model.specs.Programs as programs;
+ghost use Rattle.kan_model.specs.Streams.Stream as model;
+ghost use Rattle.kan_model.specs.Streams.Running as running;
+ghost use Rattle.kan_model.specs.Programs.Scope.{is_small};
+ghost use Rattle.kan_model.specs.Streams.Bounds.{top, floor};
+ghost use Rattle.kan_model.specs.Programs.Environments.{terms_of};
+ghost use Rattle.kan_model.specs.Programs.Closed as programs;
 ghost use Rattle.stream_core.specs.Fitting.{TailFits};
 ghost use Rattle.stream_core.specs.Forcing.{inner_of, MayForce, IsInside};
 ghost use Rattle.stream_core.specs.Standing as standing;

@@ -4,14 +4,14 @@ ghost use Rattle.std.specs.Prelude.{◌≡◌, length, ◌+◌, ◌≤◌, ◌^�
 ghost use Rattle.std.specs.List.{list_all};
 ghost use Rattle.kan_terms.specs.Tree.{Tree};
 ghost use Rattle.kan_terms.specs.Terms.{tree};
-ghost use Rattle.kan_model.specs.Goals.{Goal, Primitive};
-ghost use Rattle.kan_model.specs.Streams as model;
-ghost use Rattle.kan_model.specs.Running.{assert as asserted, instance, instances, named, named_store, suspended_call, run};
-ghost use Rattle.kan_model.specs.Scope.{all_below, width, takes, calls_there};
-ghost use Rattle.kan_model.specs.Tables.{arguments_at};
-ghost use Rattle.kan_model.specs.Nodes.{goal_entry};
-ghost use Rattle.kan_model.specs.Environments.{terms_of};
-ghost use Rattle.kan_model.specs.Programs as programs;
+ghost use Rattle.kan_model.specs.Programs.Goals.{Goal, Primitive};
+ghost use Rattle.kan_model.specs.Streams.Stream as model;
+ghost use Rattle.kan_model.specs.Streams.Running.{assert as asserted, instance, instances, named, named_store, suspended_call, run};
+ghost use Rattle.kan_model.specs.Programs.Scope.{all_below, width, takes, calls_there};
+ghost use Rattle.kan_model.specs.Programs.Tables.{arguments_at};
+ghost use Rattle.kan_model.specs.Programs.Nodes.{goal_entry};
+ghost use Rattle.kan_model.specs.Programs.Environments.{terms_of};
+ghost use Rattle.kan_model.specs.Programs.Closed as programs;
 ghost use Rattle.stream_core.specs.Standing as standing;
 ghost use Rattle.stream_core.specs.Naming.{NamesOne, NamesFirst};
 

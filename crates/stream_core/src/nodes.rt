@@ -1,9 +1,9 @@
 //! Tables of suspensions.
 
 ghost use Rattle.std.specs.Prelude.{◌≡◌, ◌≢◌, Bool, true, Option, Some, option_map, IfOk, OnErr, IfSome, is_some};
-ghost use Rattle.kan_model.specs.Goals as goals;
-ghost use Rattle.kan_model.specs.Streams as model;
-ghost use Rattle.kan_model.specs.Bounds.{Fits};
+ghost use Rattle.kan_model.specs.Programs.Goals as goals;
+ghost use Rattle.kan_model.specs.Streams.Stream as model;
+ghost use Rattle.kan_model.specs.Streams.Bounds.{Fits};
 ghost use Rattle.stream_core.specs.Standing as standing;
 
 use crate::streams::{Stream, Thunk};

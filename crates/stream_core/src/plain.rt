@@ -69,8 +69,8 @@ impl<'a, St: Store> PlainNodes<'a, St> {
 
 impl<'a, St: Store> Nodes<St> for PlainNodes<'a, St> {
     ghost use Rattle.std.specs.Prelude.{◌≢◌, true, option_map, OnErr};
-    ghost use Rattle.kan_model.specs.Bounds.{Fits};
-    ghost use Rattle.kan_model.specs.Programs as programs;
+    ghost use Rattle.kan_model.specs.Streams.Bounds.{Fits};
+    ghost use Rattle.kan_model.specs.Programs.Closed as programs;
     ghost use Rattle.stream_core.specs.Standing as standing;
     ghost use Rattle.stream_core.specs.Keeping.{BelongsTo, row_tree, told};
     ghost use Rattle.stream_core.specs.declared.plain.PlainId.{PlainId};

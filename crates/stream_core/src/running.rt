@@ -2,12 +2,12 @@
 
 ghost use Rattle.std.specs.Prelude.{◌≡◌, ◌+◌, ◌≤◌, ◌<◌, ◌^◌, ℕ, length, List, [], ◌∷◌, ◌++◌, map, true, option_map, IfSome, IfOk, OnOk};
 ghost use Rattle.std.specs.List.{list_all};
-ghost use Rattle.kan_model.specs.Stores as facts;
-ghost use Rattle.kan_model.specs.Streams as model;
-ghost use Rattle.kan_model.specs.Running.{run};
-ghost use Rattle.kan_model.specs.Scope.{width, all_below, in_scope, is_small};
-ghost use Rattle.kan_model.specs.Environments.{terms_of};
-ghost use Rattle.kan_model.specs.Programs as programs;
+ghost use Rattle.kan_model.specs.Stores.Store as facts;
+ghost use Rattle.kan_model.specs.Streams.Stream as model;
+ghost use Rattle.kan_model.specs.Streams.Running.{run};
+ghost use Rattle.kan_model.specs.Programs.Scope.{width, all_below, in_scope, is_small};
+ghost use Rattle.kan_model.specs.Programs.Environments.{terms_of};
+ghost use Rattle.kan_model.specs.Programs.Closed as programs;
 ghost use Rattle.stream_core.specs.Fitting.{TailFits};
 ghost use Rattle.stream_core.specs.Machine as machine;
 ghost use Rattle.stream_core.specs.Machine.{Each, IsOf, MayRun, AreBelowRest, Becomes, AreReady, done};

@@ -1,10 +1,10 @@
 //! Goals that are run by running others.
 
 ghost use Rattle.std.specs.Prelude.{◌≡◌, ◌+◌, ◌≤◌, ◌^◌, ℕ, ◌∷◌, ◌++◌, map, OnOk};
-ghost use Rattle.kan_model.specs.Goals.{Goal};
-ghost use Rattle.kan_model.specs.Stores.{with_fresh};
-ghost use Rattle.kan_model.specs.Running.{variables};
-ghost use Rattle.kan_model.specs.Environments.{terms_of};
+ghost use Rattle.kan_model.specs.Programs.Goals.{Goal};
+ghost use Rattle.kan_model.specs.Stores.Store.{with_fresh};
+ghost use Rattle.kan_model.specs.Streams.Running.{variables};
+ghost use Rattle.kan_model.specs.Programs.Environments.{terms_of};
 ghost use Rattle.stream_core.specs.Machine as machine;
 ghost use Rattle.stream_core.specs.Tasks.{task, stack};
 

@@ -4,13 +4,13 @@ use Rattle.std.proofs.lemmas.Bool.{eq-eqb, ne_eqb, true≢false, false_from_ne_t
 use Rattle.kan_terms.specs.Tree.{Tree, Tm, Gd, fill, occurs}
 use Rattle.kan_terms.specs.Bound.{bound_to}
 use Rattle.kan_terms.proofs.TreeLaws.{fill-fill, fill-same}
-use Rattle.kan_model.specs.Stores.{Equation}
-use Rattle.kan_model.specs.Solve.{Replacement, Solves, image, apply, left_first, solve}
-use Rattle.kan_model.specs.Unifiers.{Unifies, Factors, replaces}
-use Rattle.kan_model.proofs.SolveLaws.{solve_by-Solves}
-use Rattle.kan_model.proofs.UnifierLaws.{answer_unifies, answer_most_general, factors_unify}
-use Rattle.kan_model.proofs.ReplacedLaws.{applied_twice, apply-kept}
-use Rattle.kan_model.proofs.VariableCount.{occurs_replace}
+use Rattle.kan_model.specs.Stores.Store.{Equation}
+use Rattle.kan_model.specs.Stores.Solve.{Replacement, Solves, image, apply, left_first, solve}
+use Rattle.kan_model.specs.Stores.Unifiers.{Unifies, Factors, replaces}
+use Rattle.kan_model.proofs.Solving.SolveLaws.{solve_by-Solves}
+use Rattle.kan_model.proofs.Solving.UnifierLaws.{answer_unifies, answer_most_general, factors_unify}
+use Rattle.kan_model.proofs.Solving.ReplacedLaws.{applied_twice, apply-kept}
+use Rattle.kan_model.proofs.Solving.VariableCount.{occurs_replace}
 use Rattle.unify_core.specs.Walking.{Pairs, ends, full}
 use Rattle.unify_core.specs.Solutions.{IsSolution, bindings_solved, equation}
 use Rattle.unify_core.specs.Unifying.{Unifying}

@@ -2,7 +2,7 @@
 use Rattle.std.specs.Prelude.{◌≡◌, [], ◌∷◌, Some, refl}
 use Rattle.std.proofs.Common.{arith}
 use Rattle.kan_terms.specs.Tree.{Tree}
-use Rattle.kan_model.specs.Solve.{solve, solve_by, rounds, steps}
+use Rattle.kan_model.specs.Stores.Solve.{solve, solve_by, rounds, steps}
 use Rattle.unify_core.specs.Walking.{Pairs, walked, full}
 use Rattle.unify_core.specs.Cycles.{HasNoCycle}
 use Rattle.unify_core.specs.Solutions.{bindings_solved}

@@ -4,7 +4,7 @@ use Rattle.std.proofs.lemmas.Bool.{eq-eqb, eqb-true, eqb-false, ne_eqb}
 use Rattle.kan_terms.specs.Tree.{Tree, Tm, occurs}
 use Rattle.kan_terms.specs.Bound.{bound_to}
 use Rattle.kan_terms.proofs.TreeLaws.{fill-fill, fill-absent_leaf}
-use Rattle.kan_model.specs.Solve.{replace}
+use Rattle.kan_model.specs.Stores.Solve.{replace}
 use Rattle.unify_core.specs.Walking.{Pairs, ends, full}
 
 -- each pair was put in front for a variable that wasn't bound and doesn't stand in its term under the older ones

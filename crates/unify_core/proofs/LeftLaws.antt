@@ -2,9 +2,9 @@
 use Rattle.std.proofs.Common.{◌≡◌, ◌≢◌, ◌⊎◌, ℕ, Bool, true, false, eqb, List, [], ◌∷◌, ◌++◌, map, Option, Some, None, option_map, inl, inr, sym, ap, subst, refl, ◌∙◌, if◌then◌else◌}
 use Rattle.std.proofs.lemmas.Bool.{eqb-true, ne_eqb, or_cases, true≢false}
 use Rattle.kan_terms.specs.Tree.{Tree, Tm, occurs}
-use Rattle.kan_model.specs.Stores.{Equation}
-use Rattle.kan_model.specs.Solve.{Replacement, Work, Solves, work, replace_sides, left_first, put_first}
-use Rattle.kan_model.specs.Unifiers.{replaces}
+use Rattle.kan_model.specs.Stores.Store.{Equation}
+use Rattle.kan_model.specs.Stores.Solve.{Replacement, Work, Solves, work, replace_sides, left_first, put_first}
+use Rattle.kan_model.specs.Stores.Unifiers.{replaces}
 use Rattle.unify_core.specs.Solutions.{equation}
 
 -- the left sides are variables with a property, no two the same

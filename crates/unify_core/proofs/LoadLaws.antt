@@ -2,10 +2,10 @@
 use Rattle.std.proofs.Common.{◌≡◌, ◌≢◌, ℕ, suc, ◌+◌, ◌<◌, Bool, true, false, List, [], ◌∷◌, map, Option, inl, inr, sym, ap, ap₂, subst, refl, ◌∙◌, arith, if◌then◌else◌}
 use Rattle.kan_terms.specs.Tree.{Tree, Tm, occurs, term_eq, size}
 use Rattle.kan_terms.proofs.TreeLaws.{term_eq-true, eq-term_eq, size-positive}
-use Rattle.kan_model.specs.Stores.{Equation}
-use Rattle.kan_model.specs.Solve.{Replacement, Work, Solves, work, work_apart, replace_sides, left_first}
-use Rattle.kan_model.proofs.SolveLaws.{solve_by-Solves}
-use Rattle.kan_model.proofs.WorkLaws.{OneIs}
+use Rattle.kan_model.specs.Stores.Store.{Equation}
+use Rattle.kan_model.specs.Stores.Solve.{Replacement, Work, Solves, work, work_apart, replace_sides, left_first}
+use Rattle.kan_model.proofs.Solving.SolveLaws.{solve_by-Solves}
+use Rattle.kan_model.proofs.Solving.WorkLaws.{OneIs}
 use Rattle.unify_core.specs.Walking.{Pairs, walked, full}
 use Rattle.unify_core.specs.Solutions.{equation}
 use Rattle.unify_core.specs.Unifying.{Meeting, met}

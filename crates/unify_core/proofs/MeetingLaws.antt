@@ -3,8 +3,8 @@ use Rattle.std.proofs.Common.{◌≡◌, ◌≢◌, ℕ, Bool, true, false, eqb,
 use Rattle.std.proofs.lemmas.Bool.{eqb-true, eqb-false, true≢false}
 use Rattle.kan_terms.specs.Tree.{Tree, Tm, fill, term_eq}
 use Rattle.kan_terms.proofs.TreeLaws.{term_eq-true, eq-term_eq}
-use Rattle.kan_model.specs.Stores.{Equation}
-use Rattle.kan_model.proofs.WorkLaws.{OneIs}
+use Rattle.kan_model.specs.Stores.Store.{Equation}
+use Rattle.kan_model.proofs.Solving.WorkLaws.{OneIs}
 use Rattle.unify_core.specs.Walking.{Pairs, walked}
 use Rattle.unify_core.specs.Unifying.{Meeting, meeting, met}
 

@@ -5,7 +5,7 @@ use Rattle.kan_terms.specs.Tree.{Tree, Tm, occurs, size}
 use Rattle.kan_terms.specs.Terms.{tree}
 use Rattle.kan_terms.specs.declared.terms.Term.{Term}
 use Rattle.kan_terms.proofs.TreeLaws.{size-positive}
-use Rattle.kan_model.specs.Kept.{is_variable}
+use Rattle.kan_model.specs.Stores.Kept.{is_variable}
 use Rattle.unify_core.specs.Walking.{Pairs, walked, full}
 use Rattle.unify_core.specs.Cycles.{HasNoCycle}
 use Rattle.unify_core.specs.Lent.{waiting_trees, parts_of}

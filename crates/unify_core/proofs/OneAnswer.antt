@@ -1,7 +1,7 @@
 -- Unification over bindings has an answer, and only one.
 use Rattle.std.proofs.Common.{◌≡◌, ℕ, zero, suc, ◌<◌, Bool, true, false, List, [], ◌∷◌, Option, Some, None, option_map, sym, ap, subst, refl, ◌∙◌, arith}
 use Rattle.kan_terms.specs.Tree.{Tree, Tm, occurs}
-use Rattle.kan_model.specs.Stores.{Equation}
+use Rattle.kan_model.specs.Stores.Store.{Equation}
 use Rattle.unify_core.specs.Walking.{Pairs, full}
 use Rattle.unify_core.specs.Unifying.{Meeting, met, Unifying}
 use Rattle.unify_core.specs.Laws.{AddsOne}

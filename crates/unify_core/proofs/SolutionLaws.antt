@@ -3,10 +3,10 @@ use Rattle.std.proofs.Common.{◌≡◌, ℕ, Bool, true, false, eqb, List, [], 
 use Rattle.std.proofs.lemmas.Bool.{eq-eqb, eqb-true}
 use Rattle.kan_terms.specs.Tree.{Tree, Tm, fill}
 use Rattle.kan_terms.proofs.TreeLaws.{fill-fill, fill-leaf, fill-same}
-use Rattle.kan_model.specs.Stores.{Equation}
-use Rattle.kan_model.specs.Solve.{replace}
-use Rattle.kan_model.specs.Unifiers.{Unifies}
-use Rattle.kan_model.proofs.UnifierLaws.{given, fill-replace}
+use Rattle.kan_model.specs.Stores.Store.{Equation}
+use Rattle.kan_model.specs.Stores.Solve.{replace}
+use Rattle.kan_model.specs.Stores.Unifiers.{Unifies}
+use Rattle.kan_model.proofs.Solving.UnifierLaws.{given, fill-replace}
 use Rattle.unify_core.specs.Walking.{Pairs, walked, ends, full}
 use Rattle.unify_core.specs.Solutions.{IsSolution, bindings_solved, equation}
 use Rattle.unify_core.proofs.Grown.{Grown, full-newest, bound-newest, ends-bound}

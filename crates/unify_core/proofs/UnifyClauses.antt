@@ -3,8 +3,8 @@ use Rattle.std.proofs.Common.{◌≡◌, ◌↔◌, ℕ, List, [], ◌∷◌, �
 use Rattle.kan_terms.specs.Tree.{Tm, Gd, fill}
 use Rattle.kan_terms.specs.Terms.{tree}
 use Rattle.kan_terms.specs.Bound.{bound_to}
-use Rattle.kan_model.specs.Stores.{Equation}
-use Rattle.kan_model.specs.Solve.{solve}
+use Rattle.kan_model.specs.Stores.Store.{Equation}
+use Rattle.kan_model.specs.Stores.Solve.{solve}
 use Rattle.unify_core.specs.declared.walking.Lent.{Lent}
 use Rattle.unify_core.specs.Walking.{Pairs}
 use Rattle.unify_core.specs.Cycles.{HasNoCycle}

@@ -3,7 +3,7 @@ use Rattle.std.proofs.Common.{◌≡◌, ℕ, ◌<◌, Bool, true, false, List, 
 use Rattle.std.proofs.lemmas.List.{map_push}
 use Rattle.kan_terms.specs.Tree.{Tree, Tm}
 use Rattle.kan_terms.specs.Terms.{tree}
-use Rattle.kan_model.specs.Stores.{Equation}
+use Rattle.kan_model.specs.Stores.Store.{Equation}
 use Rattle.unify_core.specs.declared.walking.Lent.{Lent}
 use Rattle.unify_core.specs.declared.unifying.Sides.{Sides}
 use Rattle.unify_core.specs.Walking.{Pairs}

@@ -3,9 +3,9 @@ use Rattle.std.proofs.Common.{◌≡◌, ◌≢◌, ℕ, true, false, List, ◌�
 use Rattle.kan_terms.specs.Tree.{Tree, Tm, fill, occurs}
 use Rattle.kan_terms.specs.Bound.{bound_to}
 use Rattle.kan_terms.proofs.TreeLaws.{occurs-cyclic}
-use Rattle.kan_model.specs.Stores.{Equation}
-use Rattle.kan_model.specs.Unifiers.{Unifies}
-use Rattle.kan_model.proofs.WorkLaws.{OneIs}
+use Rattle.kan_model.specs.Stores.Store.{Equation}
+use Rattle.kan_model.specs.Stores.Unifiers.{Unifies}
+use Rattle.kan_model.proofs.Solving.WorkLaws.{OneIs}
 use Rattle.unify_core.specs.Walking.{Pairs, walked, full}
 use Rattle.unify_core.specs.Solutions.{IsSolution, AddedTo}
 use Rattle.unify_core.specs.Unifying.{Meeting, met, Unifying}

@@ -3,7 +3,7 @@ use Rattle.std.proofs.Common.{◌≡◌, ◌≢◌, ℕ, suc, ◌+◌, Bool, tru
 use Rattle.std.proofs.lemmas.Bool.{eq-eqb, eqb-true, ne_eqb, true≢false}
 use Rattle.kan_terms.specs.Tree.{Tree, Tm, occurs}
 use Rattle.kan_terms.specs.Bound.{bound_to}
-use Rattle.kan_model.specs.Solve.{replace}
+use Rattle.kan_model.specs.Stores.Solve.{replace}
 use Rattle.unify_core.specs.Walking.{Pairs, go_on, walked, full}
 use Rattle.unify_core.proofs.Grown.{Grown, eqb-turn, full-newest, bound-newest, bound-older, unbound_parts, ends-unbound, ends-bound}
 

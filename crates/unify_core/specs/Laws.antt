@@ -2,9 +2,9 @@
 use Rattle.std.specs.Prelude.{◌≡◌, ◌↔◌, ℕ, true, List, Option, Some, None}
 use Rattle.kan_terms.specs.Tree.{Tree, Tm, Gd, occurs}
 use Rattle.kan_terms.specs.Bound.{bound_to}
-use Rattle.kan_model.specs.Stores.{Equation}
-use Rattle.kan_model.specs.Solve.{Replacement, apply, solve}
-use Rattle.kan_model.specs.Unifiers.{Factors}
+use Rattle.kan_model.specs.Stores.Store.{Equation}
+use Rattle.kan_model.specs.Stores.Solve.{Replacement, apply, solve}
+use Rattle.kan_model.specs.Stores.Unifiers.{Factors}
 use Rattle.unify_core.specs.Walking.{Pairs, walked, full}
 use Rattle.unify_core.specs.Cycles.{HasNoCycle}
 use Rattle.unify_core.specs.Solutions.{IsSolution, bindings_solved}

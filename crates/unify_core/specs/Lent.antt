@@ -5,7 +5,7 @@ use Rattle.kan_terms.specs.Tree.{Tree, Tm, occurs}
 use Rattle.kan_terms.specs.Bound.{bound_to}
 use Rattle.kan_terms.specs.Terms.{tree}
 use Rattle.kan_terms.specs.declared.terms.Term.{Term}
-use Rattle.kan_model.specs.Stores.{Equation}
+use Rattle.kan_model.specs.Stores.Store.{Equation}
 use Rattle.unify_core.specs.Walking.{Pairs, full}
 use Rattle.unify_core.specs.Solutions.{equation}
 use Rattle.unify_core.specs.Unifying.{Meeting}

@@ -2,7 +2,7 @@
 use Rattle.std.specs.Prelude.{◌≡◌, ℕ, List, [], ◌∷◌, ◌++◌, None}
 use Rattle.kan_terms.specs.Tree.{Tree, Tm, fill}
 use Rattle.kan_terms.specs.Bound.{bound_to}
-use Rattle.kan_model.specs.Stores.{Equation}
+use Rattle.kan_model.specs.Stores.Store.{Equation}
 use Rattle.unify_core.specs.Walking.{Pairs, walked}
 
 -- what f puts for variables solves bindings: each variable has the value of its term

@@ -1,7 +1,7 @@
 -- Unification over bindings, case by case, which says what is bound and in which order.
 use Rattle.std.specs.Prelude.{◌≡◌, ℕ, Bool, true, false, eqb, List, [], ◌∷◌, Option, Some, None, option_map, if◌then◌else◌}
 use Rattle.kan_terms.specs.Tree.{Tree, Tm, occurs, term_eq}
-use Rattle.kan_model.specs.Stores.{Equation}
+use Rattle.kan_model.specs.Stores.Store.{Equation}
 use Rattle.unify_core.specs.Walking.{Pairs, walked, full}
 use Rattle.unify_core.specs.Solutions.{equation}
 

@@ -1,7 +1,7 @@
 -- Where terms lead under bindings, which are pairs of a variable and its term, the newest first.
 use Rattle.std.specs.Prelude.{ℕ, List, [], ◌∷◌, eqb, if◌then◌else◌}
 use Rattle.kan_terms.specs.Tree.{Tree, Tm, fill}
-use Rattle.kan_model.specs.Solve.{replace}
+use Rattle.kan_model.specs.Stores.Solve.{replace}
 
 -- bindings, as the trait's member gives them
 abbrev pub Pairs : Type 0

@@ -1,7 +1,7 @@
 //! Variables that stand in terms under bindings.
 
 ghost use Rattle.std.specs.Prelude.{◌≡◌, ◌++◌, [], IfOk, OnOk};
-ghost use Rattle.kan_model.specs.Kept as kept;
+ghost use Rattle.kan_model.specs.Stores.Kept as kept;
 ghost use Rattle.kan_terms.specs.Terms.{tree};
 ghost use Rattle.kan_terms.specs.Tree as trees;
 ghost use Rattle.unify_core.specs.Cycles.{HasNoCycle};

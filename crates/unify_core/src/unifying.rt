@@ -2,7 +2,7 @@
 
 ghost use Rattle.std.specs.Prelude.{◌≡◌, ◌↔◌, ◌++◌, [], ◌∷◌, ℕ, map, IfOk, IfSome, None};
 ghost use Rattle.std.specs.Option.{option_map};
-ghost use Rattle.kan_model.specs.Solve as solver;
+ghost use Rattle.kan_model.specs.Stores.Solve as solver;
 ghost use Rattle.kan_terms.specs.Terms.{sides, tree};
 ghost use Rattle.kan_terms.specs.Tree.{Gd, fill};
 ghost use Rattle.unify_core.specs.Cycles.{HasNoCycle};

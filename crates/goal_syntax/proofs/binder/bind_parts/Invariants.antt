@@ -1,5 +1,5 @@
 use Rattle.std.proofs.Common.{◌≡◌, ◌++◌, []}
-use Rattle.kan_model.specs.Binders.{bound_names, names_faults}
+use Rattle.kan_grammar.specs.Texts.Binders.{bound_names, names_faults}
 use Rattle.goal_syntax.specs.FaultLists.{fault_list}
 use Rattle.goal_syntax.specs.Parts.{sites, site_at}
 use Rattle.goal_syntax.proofs.binder.bind_parts.Given as goal

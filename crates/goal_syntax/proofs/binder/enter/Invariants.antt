@@ -1,5 +1,5 @@
 use Rattle.std.proofs.Common.{◌≡◌, take}
-use Rattle.kan_model.specs.Resolved.{within}
+use Rattle.kan_grammar.specs.Texts.Resolved.{within}
 use Rattle.goal_syntax.proofs.binder.enter.Given as goal
 
 -- the names so far are in scope

@@ -1,4 +1,4 @@
-use Rattle.kan_model.specs.Drafts.{tables}
+use Rattle.kan_model.specs.Programs.Drafts.{tables}
 use Rattle.goal_syntax.proofs.BuiltTextLaws.{query_means, none_asked}
 use Rattle.goal_syntax.proofs.build_form.build_form.Goals as goal
 

@@ -1,6 +1,6 @@
 use Rattle.std.proofs.Common.{arith, ap, length}
-use Rattle.kan_model.specs.Drafts.{tables}
-use Rattle.kan_model.specs.GoalForms.{goal_forms}
+use Rattle.kan_model.specs.Programs.Drafts.{tables}
+use Rattle.kan_grammar.specs.Texts.GoalForms.{goal_forms}
 use Rattle.goal_syntax.specs.Parts.{sites, site_at}
 use Rattle.goal_syntax.specs.Tabled.{relations}
 use Rattle.goal_syntax.proofs.BuiltTextLaws.{relation_means}

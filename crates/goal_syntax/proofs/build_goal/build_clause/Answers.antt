@@ -1,7 +1,7 @@
 use Rattle.goal_syntax.specs.Parts.{sites}
 use Rattle.goal_syntax.proofs.GoalWorkLaws.{clause_falls}
 use Rattle.std.proofs.Common.{sym}
-use Rattle.kan_model.specs.Drafts.{tables}
+use Rattle.kan_model.specs.Programs.Drafts.{tables}
 use Rattle.goal_syntax.specs.Built.{built}
 use Rattle.goal_syntax.specs.Tabled.{relations}
 use Rattle.goal_syntax.proofs.GoalWorkLaws.{clause_fails}

@@ -3,7 +3,7 @@ use Rattle.goal_syntax.specs.Tabled.{relations}
 use Rattle.goal_syntax.proofs.DraftLaws.{grows_on}
 use Rattle.goal_syntax.proofs.GoalWorkLaws.{work_done, work_falls}
 use Rattle.goal_syntax.proofs.BuildLowLaws.{low_on}
-use Rattle.kan_model.specs.Drafts.{tables}
+use Rattle.kan_model.specs.Programs.Drafts.{tables}
 use Rattle.std.proofs.Common.{arith}
 use Rattle.goal_syntax.proofs.BuiltLaws.{goal_called}
 use Rattle.goal_syntax.proofs.GoalWorkLaws.{works_done}

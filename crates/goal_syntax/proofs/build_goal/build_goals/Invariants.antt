@@ -1,7 +1,7 @@
 use Rattle.std.proofs.Common.{◌≡◌, [], reverse, length, true}
-use Rattle.kan_model.specs.Drafts.{tables}
-use Rattle.kan_model.specs.GoalForms.{goal_forms}
-use Rattle.kan_model.specs.Resolved.{conjunction, goals_in}
+use Rattle.kan_model.specs.Programs.Drafts.{tables}
+use Rattle.kan_grammar.specs.Texts.GoalForms.{goal_forms}
+use Rattle.kan_grammar.specs.Texts.Resolved.{conjunction, goals_in}
 use Rattle.goal_syntax.specs.Built.{built, with_goal}
 use Rattle.goal_syntax.specs.Drafting.{Grows, HasRoom}
 use Rattle.goal_syntax.specs.GoalWorks.{finish, works_size}

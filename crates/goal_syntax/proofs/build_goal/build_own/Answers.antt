@@ -1,5 +1,5 @@
 use Rattle.std.proofs.Common.{◌∙◌, ap}
-use Rattle.kan_model.specs.Drafts.{tables}
+use Rattle.kan_model.specs.Programs.Drafts.{tables}
 use Rattle.goal_syntax.specs.Parts.{sites}
 use Rattle.goal_syntax.specs.Tabled.{relations}
 use Rattle.goal_syntax.specs.Built.{own_goal, with_maybe}

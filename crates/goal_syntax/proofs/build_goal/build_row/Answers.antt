@@ -2,7 +2,7 @@ use Rattle.goal_syntax.specs.Parts.{sites}
 use Rattle.goal_syntax.specs.Tabled.{relations}
 use Rattle.goal_syntax.proofs.GoalWorkLaws.{row_waits, row_falls}
 use Rattle.std.proofs.Common.{[], ◌∙◌, ap}
-use Rattle.kan_model.specs.Drafts.{tables}
+use Rattle.kan_model.specs.Programs.Drafts.{tables}
 use Rattle.goal_syntax.specs.Built.{built, with_entry}
 use Rattle.goal_syntax.specs.GoalWorks.{empty_entry, row_goal}
 use Rattle.goal_syntax.proofs.BuiltLaws.{stands_added, empty_stands}

@@ -1,4 +1,4 @@
-use Rattle.kan_model.specs.Drafts.{tables}
+use Rattle.kan_model.specs.Programs.Drafts.{tables}
 use Rattle.goal_syntax.proofs.DraftLaws.{grows_on}
 use Rattle.goal_syntax.proofs.BuiltTextLaws.{goals_there}
 use Rattle.goal_syntax.specs.Parts.{sites}

@@ -1,10 +1,10 @@
 use Rattle.std.proofs.Common.{length}
 use Rattle.std.proofs.lemmas.Bool.{lt-ltb}
-use Rattle.kan_model.specs.Drafts.{tables}
+use Rattle.kan_model.specs.Programs.Drafts.{tables}
 use Rattle.goal_syntax.proofs.DraftLaws.{grows_on}
 use Rattle.std.proofs.Common.{ap, ◌∙◌}
-use Rattle.kan_model.specs.GoalForms.{goal_forms}
-use Rattle.kan_model.specs.Resolved.{within}
+use Rattle.kan_grammar.specs.Texts.GoalForms.{goal_forms}
+use Rattle.kan_grammar.specs.Texts.Resolved.{within}
 use Rattle.goal_syntax.specs.Parts.{sites, site_at}
 use Rattle.goal_syntax.specs.Tabled.{relations}
 use Rattle.goal_syntax.proofs.CalledLaws.{run_closed}

@@ -1,4 +1,4 @@
-use Rattle.kan_model.specs.Drafts.{tables}
+use Rattle.kan_model.specs.Programs.Drafts.{tables}
 use Rattle.goal_syntax.proofs.DraftLaws.{grows_on}
 use Rattle.goal_syntax.proofs.build_term.build_arguments.Goals as goal
 

@@ -1,5 +1,5 @@
 use Rattle.std.proofs.Common.{arith, refl}
-use Rattle.kan_model.specs.Drafts.{tables}
+use Rattle.kan_model.specs.Programs.Drafts.{tables}
 use Rattle.goal_syntax.specs.Building.{AddsTerms}
 use Rattle.goal_syntax.proofs.BuildLaws.{adds_on, both_there, slots_next}
 use Rattle.goal_syntax.proofs.BuildLowLaws.{slots_low}

@@ -1,8 +1,8 @@
 use Rattle.std.proofs.Common.{◌≡◌, true, ◌+◌, ◌≤◌, drop, length}
-use Rattle.kan_model.specs.Drafts.{tables, templates}
-use Rattle.kan_model.specs.Scope.{is_low}
+use Rattle.kan_model.specs.Programs.Drafts.{tables, templates}
+use Rattle.kan_model.specs.Programs.Scope.{is_low}
 use Rattle.std.specs.List.{list_all}
-use Rattle.kan_model.specs.ProgramText.{slot_list}
+use Rattle.kan_grammar.specs.Texts.ProgramText.{slot_list}
 use Rattle.goal_syntax.specs.Building.{AddsTerms}
 use Rattle.goal_syntax.specs.Drafting.{HasTemplate}
 use Rattle.goal_syntax.proofs.build_term.build_slots.Given as goal

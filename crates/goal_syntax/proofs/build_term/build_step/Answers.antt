@@ -1,7 +1,7 @@
 use Rattle.goal_syntax.specs.Parts.{sites}
 use Rattle.goal_syntax.proofs.BuildLaws.{pair_falls, same_falls}
 use Rattle.goal_syntax.proofs.BuildLowLaws.{pair_low}
-use Rattle.kan_model.specs.Drafts.{templates}
+use Rattle.kan_model.specs.Programs.Drafts.{templates}
 use Rattle.goal_syntax.proofs.build_term.build_step.Goals as goal
 
 pub returns-in_ok-push-in-Pair-3-clause-falls : goal.returns-in_ok-push-in-Pair-3-clause-falls

@@ -1,12 +1,12 @@
 use Rattle.std.proofs.Common.{arith}
-use Rattle.kan_model.specs.Drafts.{tables}
+use Rattle.kan_model.specs.Programs.Drafts.{tables}
 use Rattle.goal_syntax.specs.Parts.{sites}
 use Rattle.goal_syntax.proofs.BuildLaws.{adds_on, work_done, work_falls, top_built, all_done}
 use Rattle.goal_syntax.proofs.BuildLowLaws.{work_low}
 use Rattle.std.proofs.Common.{[], ◌∷◌, ◌++◌, ap, ◌∙◌}
 use Rattle.goal_syntax.proofs.BuildLowLaws.{first_low, first_made, first_below}
 use Rattle.goal_syntax.proofs.BuildLaws.{adds_none}
-use Rattle.kan_model.specs.Drafts.{templates}
+use Rattle.kan_model.specs.Programs.Drafts.{templates}
 use Rattle.goal_syntax.specs.declared.build_term.Work.TheVariants.{Term}
 use Rattle.goal_syntax.proofs.build_term.build_term.Goals as goal
 

@@ -1,9 +1,9 @@
 use Rattle.std.proofs.Common.{◌≡◌, ◌∷◌, [], reverse, length, true}
-use Rattle.kan_model.specs.Drafts.{tables, templates}
-use Rattle.kan_model.specs.Resolved.{template_in}
+use Rattle.kan_model.specs.Programs.Drafts.{tables, templates}
+use Rattle.kan_grammar.specs.Texts.Resolved.{template_in}
 use Rattle.goal_syntax.specs.Building.{AddsTerms, built, finish, works_size}
 use Rattle.std.specs.List.{list_all}
-use Rattle.kan_model.specs.Scope.{is_low}
+use Rattle.kan_model.specs.Programs.Scope.{is_low}
 use Rattle.goal_syntax.specs.BuildLow.{WorksLow}
 use Rattle.goal_syntax.specs.Low.{AreLow}
 use Rattle.goal_syntax.specs.Parts.{sites}

@@ -1,8 +1,8 @@
 use Rattle.std.proofs.Common.{◌≡◌, ◌++◌, map, length, true}
-use Rattle.kan_model.specs.Drafts.{tables, templates}
-use Rattle.kan_model.specs.GoalForms.{term_forms}
-use Rattle.kan_model.specs.Resolved.{template_in}
-use Rattle.kan_model.specs.Tables.{template_at}
+use Rattle.kan_model.specs.Programs.Drafts.{tables, templates}
+use Rattle.kan_grammar.specs.Texts.GoalForms.{term_forms}
+use Rattle.kan_grammar.specs.Texts.Resolved.{template_in}
+use Rattle.kan_model.specs.Programs.Tables.{template_at}
 use Rattle.goal_syntax.specs.Building.{AddsTerms}
 use Rattle.goal_syntax.specs.Low.{KeepsLow}
 use Rattle.goal_syntax.specs.Parts.{sites, site_at}

@@ -1,5 +1,5 @@
 use Rattle.std.proofs.Common.{reverse}
-use Rattle.kan_model.specs.Drafts.{templates}
+use Rattle.kan_model.specs.Programs.Drafts.{templates}
 use Rattle.goal_syntax.specs.Parts.{sites}
 use Rattle.goal_syntax.proofs.BuildLowLaws.{joined_low}
 use Rattle.goal_syntax.proofs.build_term.build_work.Goals as goal

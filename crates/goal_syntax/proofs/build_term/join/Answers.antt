@@ -1,5 +1,5 @@
 use Rattle.std.specs.Prelude.{length}
-use Rattle.kan_model.specs.Drafts.{tables, templates}
+use Rattle.kan_model.specs.Programs.Drafts.{tables, templates}
 use Rattle.goal_syntax.proofs.BuildLaws.{pair_there, rest_below, join_made}
 use Rattle.goal_syntax.proofs.BuildLowLaws.{join_low}
 use Rattle.goal_syntax.proofs.build_term.join.Goals as goal

@@ -1,4 +1,4 @@
-use Rattle.kan_model.specs.Drafts.{tables}
+use Rattle.kan_model.specs.Programs.Drafts.{tables}
 use Rattle.goal_syntax.proofs.BuildLaws.{put_built, put_below}
 use Rattle.goal_syntax.proofs.build_term.put.Goals as goal
 

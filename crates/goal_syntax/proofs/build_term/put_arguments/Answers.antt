@@ -1,5 +1,5 @@
 use Rattle.std.specs.Prelude.{length}
-use Rattle.kan_model.specs.Drafts.{tables}
+use Rattle.kan_model.specs.Programs.Drafts.{tables}
 use Rattle.goal_syntax.proofs.BuildLaws.{adds_on, adds_argument, arguments_put, first_below, later_below}
 use Rattle.goal_syntax.proofs.build_term.put_arguments.Goals as goal
 

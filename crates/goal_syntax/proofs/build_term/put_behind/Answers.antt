@@ -1,4 +1,4 @@
-use Rattle.kan_model.specs.Drafts.{tables}
+use Rattle.kan_model.specs.Programs.Drafts.{tables}
 use Rattle.goal_syntax.proofs.BuildLaws.{adds_on, adds_argument, below_within, put_next}
 use Rattle.goal_syntax.proofs.build_term.put_behind.Goals as goal
 

@@ -1,5 +1,5 @@
 use Rattle.std.proofs.Common.{◌≡◌, take}
-use Rattle.kan_model.specs.Drafts.{tables}
+use Rattle.kan_model.specs.Programs.Drafts.{tables}
 use Rattle.goal_syntax.specs.Building.{AddsTerms, with_arguments}
 use Rattle.goal_syntax.proofs.build_term.put_behind.Given as goal
 

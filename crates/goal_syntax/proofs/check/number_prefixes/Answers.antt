@@ -1,5 +1,5 @@
-use Rattle.kan_model.specs.Printed.{prefix_name}
-use Rattle.kan_model.specs.Words.{quote, quasiquote, unquote}
+use Rattle.kan_grammar.specs.Data.Printed.{prefix_name}
+use Rattle.kan_grammar.specs.Data.Words.{quote, quasiquote, unquote}
 use Rattle.goal_syntax.proofs.CheckLaws.{keeps_number, numbered, each_prefix}
 use Rattle.goal_syntax.proofs.check.number_prefixes.Goals as goal
 

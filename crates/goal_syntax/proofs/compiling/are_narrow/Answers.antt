@@ -1,5 +1,5 @@
 use Rattle.std.proofs.Common.{arith}
-use Rattle.kan_model.specs.Programs as programs
+use Rattle.kan_model.specs.Programs.Closed as programs
 use Rattle.goal_syntax.proofs.CompilingLaws.{narrow_next, wide_found, narrow_all}
 use Rattle.goal_syntax.proofs.compiling.are_narrow.Goals as goal
 

@@ -1,7 +1,7 @@
 use Rattle.std.proofs.Common.{◌≡◌, ◌≤◌, ◌-◌, take, length, true}
 use Rattle.std.specs.List.{list_all}
-use Rattle.kan_model.specs.Programs as programs
-use Rattle.kan_model.specs.Scope.{is_narrow}
+use Rattle.kan_model.specs.Programs.Closed as programs
+use Rattle.kan_model.specs.Programs.Scope.{is_narrow}
 use Rattle.goal_syntax.proofs.compiling.are_narrow.Given as goal
 
 -- the goals so far are narrow

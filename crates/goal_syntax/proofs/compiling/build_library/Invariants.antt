@@ -1,9 +1,9 @@
 use Rattle.std.proofs.Common.{◌≡◌, ◌++◌, List, map, take}
 use Rattle.std.specs.Prelude.{◌&&◌}
 use Rattle.std.specs.List.{list_all}
-use Rattle.kan_model.specs.Drafts.{tables}
-use Rattle.kan_model.specs.Goals as model
-use Rattle.kan_model.specs.ProgramText.{relations_of}
+use Rattle.kan_model.specs.Programs.Drafts.{tables}
+use Rattle.kan_model.specs.Programs.Goals as model
+use Rattle.kan_grammar.specs.Texts.ProgramText.{relations_of}
 use Rattle.kan_model.specs.declared.nodes.Query.{Query}
 use Rattle.goal_syntax.specs.BuiltText.{Means}
 use Rattle.goal_syntax.specs.Called.{KeepsClosed, bodies_named}

@@ -1,8 +1,8 @@
 use Rattle.std.proofs.Common.{◌≡◌, ◌++◌, List, map, take}
 use Rattle.std.specs.Prelude.{◌&&◌}
-use Rattle.kan_model.specs.Drafts.{tables}
-use Rattle.kan_model.specs.Goals as model
-use Rattle.kan_model.specs.ProgramText.{relations_of, queries_of}
+use Rattle.kan_model.specs.Programs.Drafts.{tables}
+use Rattle.kan_model.specs.Programs.Goals as model
+use Rattle.kan_grammar.specs.Texts.ProgramText.{relations_of, queries_of}
 use Rattle.goal_syntax.specs.BuiltText.{Means}
 use Rattle.goal_syntax.specs.Called.{KeepsClosed, all_named}
 use Rattle.goal_syntax.specs.Drafting.{HasRoom}

@@ -1,6 +1,6 @@
 use Rattle.std.proofs.Common.{[], arith, ap, ◌∙◌, length, map}
 use Rattle.std.specs.List.{list_all}
-use Rattle.kan_model.specs.TextFaults.{faults_of}
+use Rattle.kan_grammar.specs.Texts.TextFaults.{faults_of}
 use Rattle.goal_syntax.specs.Low.{is_low_datum}
 use Rattle.goal_syntax.specs.Parts.{sites, site_at}
 use Rattle.goal_syntax.proofs.CheckLaws.{places_made, split_places}

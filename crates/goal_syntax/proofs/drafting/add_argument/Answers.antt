@@ -1,4 +1,4 @@
-use Rattle.kan_model.specs.Drafts.{tables}
+use Rattle.kan_model.specs.Programs.Drafts.{tables}
 use Rattle.goal_syntax.proofs.DraftLaws.{grows_argument, grows_to}
 use Rattle.goal_syntax.proofs.drafting.add_argument.Goals as goal
 

@@ -1,5 +1,5 @@
-use Rattle.kan_model.specs.Drafts.{tables}
-use Rattle.kan_model.specs.Nodes.{goal_entry}
+use Rattle.kan_model.specs.Programs.Drafts.{tables}
+use Rattle.kan_model.specs.Programs.Nodes.{goal_entry}
 use Rattle.goal_syntax.proofs.DraftLaws.{goal_made, goal_equational, goal_called, grows_goal, grows_to}
 use Rattle.goal_syntax.proofs.drafting.add_goal.Goals as goal
 

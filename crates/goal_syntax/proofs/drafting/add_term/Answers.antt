@@ -1,5 +1,5 @@
-use Rattle.kan_model.specs.Drafts.{tables}
-use Rattle.kan_model.specs.Nodes.{term_entry}
+use Rattle.kan_model.specs.Programs.Drafts.{tables}
+use Rattle.kan_model.specs.Programs.Nodes.{term_entry}
 use Rattle.goal_syntax.proofs.DraftLaws.{term_made, grows_term, grows_to}
 use Rattle.goal_syntax.proofs.BuildLowLaws.{term_low}
 use Rattle.goal_syntax.proofs.drafting.add_term.Goals as goal

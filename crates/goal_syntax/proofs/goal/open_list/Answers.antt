@@ -1,6 +1,6 @@
 use Rattle.std.proofs.Common.{◌∙◌, ap, sym}
-use Rattle.kan_model.specs.Sited.{pair}
-use Rattle.kan_model.specs.GoalForms.{goal_form}
+use Rattle.kan_grammar.specs.Texts.Sited.{pair}
+use Rattle.kan_grammar.specs.Texts.GoalForms.{goal_form}
 use Rattle.goal_syntax.specs.Parts.{sites, site_at, part_site}
 use Rattle.goal_syntax.proofs.goal.open_list.Goals as goal
 

@@ -1,6 +1,6 @@
 use Rattle.std.proofs.Common.{sym, ap, ◌∙◌, length}
 use Rattle.std.proofs.lemmas.Bool.{lt-ltb}
-use Rattle.kan_model.specs.Drafts.{tables}
+use Rattle.kan_model.specs.Programs.Drafts.{tables}
 use Rattle.goal_syntax.specs.Turning.{are_below}
 use Rattle.goal_syntax.proofs.TurnLaws.{below-split}
 use Rattle.goal_syntax.proofs.join_goal.add_slots.Goals as goal

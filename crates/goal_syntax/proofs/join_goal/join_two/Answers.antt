@@ -1,6 +1,6 @@
 use Rattle.std.proofs.Common.{length}
-use Rattle.kan_model.specs.Drafts.{tables}
-use Rattle.kan_model.specs.Nodes.{goal_entry}
+use Rattle.kan_model.specs.Programs.Drafts.{tables}
+use Rattle.kan_model.specs.Programs.Nodes.{goal_entry}
 use Rattle.goal_syntax.proofs.BuiltLaws.{top_two, join_grown}
 use Rattle.goal_syntax.proofs.BuiltLaws.{two_joined}
 use Rattle.goal_syntax.proofs.join_goal.join_two.Goals as goal

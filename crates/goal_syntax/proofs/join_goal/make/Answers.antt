@@ -1,5 +1,5 @@
-use Rattle.kan_model.specs.Drafts.{tables}
-use Rattle.kan_model.specs.Nodes.{goal_entry}
+use Rattle.kan_model.specs.Programs.Drafts.{tables}
+use Rattle.kan_model.specs.Programs.Nodes.{goal_entry}
 use Rattle.goal_syntax.proofs.BuiltLaws.{made_top, made_below}
 use Rattle.goal_syntax.proofs.join_goal.make.Goals as goal
 

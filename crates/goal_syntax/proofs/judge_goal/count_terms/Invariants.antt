@@ -1,6 +1,6 @@
 use Rattle.std.proofs.Common.{◌≡◌, ◌+◌, ◌≤◌, length}
-use Rattle.kan_model.specs.Text.{Table}
-use Rattle.kan_model.specs.GoalForms.{term_forms}
+use Rattle.kan_model.specs.Answers.Text.{Table}
+use Rattle.kan_grammar.specs.Texts.GoalForms.{term_forms}
 use Rattle.goal_syntax.specs.Parts.{sites, site_at}
 use Rattle.goal_syntax.proofs.judge_goal.count_terms.Given as goal
 

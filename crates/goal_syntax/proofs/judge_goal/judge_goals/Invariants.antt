@@ -1,6 +1,6 @@
 use Rattle.std.proofs.Common.{◌≡◌, ◌++◌, reverse}
-use Rattle.kan_model.specs.GoalForms.{goal_forms}
-use Rattle.kan_model.specs.TextFaults.{goals_faults}
+use Rattle.kan_grammar.specs.Texts.GoalForms.{goal_forms}
+use Rattle.kan_grammar.specs.Texts.TextFaults.{goals_faults}
 use Rattle.goal_syntax.specs.FaultLists.{fault_list}
 use Rattle.goal_syntax.specs.Parts.{sites, site_at}
 use Rattle.goal_syntax.specs.Tabled.{relations}

@@ -1,7 +1,7 @@
 use Rattle.std.proofs.Common.{◌≡◌, ◌++◌}
 use Rattle.std.specs.List.{flat_map}
-use Rattle.kan_model.specs.GoalForms.{term_forms}
-use Rattle.kan_model.specs.TextFaults.{term_faults}
+use Rattle.kan_grammar.specs.Texts.GoalForms.{term_forms}
+use Rattle.kan_grammar.specs.Texts.TextFaults.{term_faults}
 use Rattle.goal_syntax.specs.FaultLists.{fault_list}
 use Rattle.goal_syntax.specs.Parts.{sites, site_at}
 use Rattle.goal_syntax.proofs.judge_goal.judge_terms.Given as goal

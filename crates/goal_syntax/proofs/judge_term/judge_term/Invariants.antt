@@ -1,6 +1,6 @@
 use Rattle.std.proofs.Common.{◌≡◌, ◌++◌}
 use Rattle.std.specs.List.{flat_map}
-use Rattle.kan_model.specs.TextFaults.{use_faults, term_faults}
+use Rattle.kan_grammar.specs.Texts.TextFaults.{use_faults, term_faults}
 use Rattle.goal_syntax.specs.FaultLists.{fault_list}
 use Rattle.goal_syntax.specs.Parts.{sites}
 use Rattle.goal_syntax.specs.TermSteps.{task_form}

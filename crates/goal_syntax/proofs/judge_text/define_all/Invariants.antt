@@ -1,5 +1,5 @@
 use Rattle.std.proofs.Common.{◌≡◌, ◌++◌, map, take}
-use Rattle.kan_model.specs.TopForms.{defined}
+use Rattle.kan_grammar.specs.Texts.TopForms.{defined}
 use Rattle.goal_syntax.specs.Parts.{sites, site_at}
 use Rattle.goal_syntax.specs.Related.{related}
 use Rattle.goal_syntax.proofs.judge_text.define_all.Given as goal

@@ -1,5 +1,5 @@
 use Rattle.std.proofs.Common.{arith, ap, ◌∙◌, ◌++◌, take}
-use Rattle.kan_model.specs.TextFaults.{form_faults}
+use Rattle.kan_grammar.specs.Texts.TextFaults.{form_faults}
 use Rattle.goal_syntax.specs.FaultLists.{fault_list}
 use Rattle.goal_syntax.specs.Parts.{sites}
 use Rattle.goal_syntax.specs.Tabled.{relations}

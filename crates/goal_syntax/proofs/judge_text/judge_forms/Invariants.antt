@@ -1,6 +1,6 @@
 use Rattle.std.proofs.Common.{◌≡◌, ◌≤◌, ◌++◌, map, take, drop, length}
-use Rattle.kan_model.specs.TopForms.{defined}
-use Rattle.kan_model.specs.TextFaults.{forms_faults}
+use Rattle.kan_grammar.specs.Texts.TopForms.{defined}
+use Rattle.kan_grammar.specs.Texts.TextFaults.{forms_faults}
 use Rattle.goal_syntax.specs.FaultLists.{fault_list}
 use Rattle.goal_syntax.specs.Parts.{sites, site_at}
 use Rattle.goal_syntax.specs.Tabled.{relations}

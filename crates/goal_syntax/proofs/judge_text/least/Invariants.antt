@@ -1,6 +1,6 @@
 use Rattle.std.proofs.Common.{◌≡◌, length}
 use Rattle.std.specs.Prelude.{option_map}
-use Rattle.kan_model.specs.TextFaults.{least}
+use Rattle.kan_grammar.specs.Texts.TextFaults.{least}
 use Rattle.goal_syntax.specs.FaultLists.{fault_of, fault_list}
 use Rattle.goal_syntax.specs.Firsts.{least_before}
 use Rattle.goal_syntax.proofs.judge_text.least.Given as goal

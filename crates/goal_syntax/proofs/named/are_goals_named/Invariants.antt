@@ -1,6 +1,6 @@
 use Rattle.std.proofs.Common.{◌≡◌, ◌≤◌, ◌-◌, length, drop}
 use Rattle.std.specs.List.{list_all}
-use Rattle.kan_model.specs.Programs as programs
+use Rattle.kan_model.specs.Programs.Closed as programs
 use Rattle.goal_syntax.specs.Named.{is_goal_named}
 use Rattle.goal_syntax.proofs.named.are_goals_named.Given as goal
 

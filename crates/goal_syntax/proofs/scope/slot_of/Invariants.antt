@@ -1,5 +1,5 @@
 use Rattle.std.proofs.Common.{◌≡◌, ◌≤◌, take, length}
-use Rattle.kan_model.specs.Resolved.{slot_of}
+use Rattle.kan_grammar.specs.Texts.Resolved.{slot_of}
 use Rattle.goal_syntax.proofs.scope.slot_of.Given as goal
 
 -- none of the slots from the end on has the name

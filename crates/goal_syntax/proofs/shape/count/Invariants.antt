@@ -1,6 +1,6 @@
 use Rattle.std.proofs.Common.{◌≡◌, ◌+◌, ◌≤◌}
 use Rattle.std.specs.Prelude.{option_map}
-use Rattle.kan_model.specs.Sited.{count}
+use Rattle.kan_grammar.specs.Texts.Sited.{count}
 use Rattle.goal_syntax.specs.Parts.{sites, site_at}
 use Rattle.goal_syntax.proofs.shape.count.Given as goal
 

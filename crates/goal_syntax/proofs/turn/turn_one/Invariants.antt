@@ -1,5 +1,5 @@
 use Rattle.std.proofs.Common.{◌≡◌, ◌∷◌, reverse, length, true}
-use Rattle.kan_model.specs.Sited.{sited}
+use Rattle.kan_grammar.specs.Texts.Sited.{sited}
 use Rattle.sexpr.specs.Seen.{written}
 use Rattle.std.specs.List.{list_all}
 use Rattle.goal_syntax.specs.Low.{is_low_datum, AreLow}

@@ -1,5 +1,5 @@
 use Rattle.std.proofs.Common.{rules, ap, sym}
-use Rattle.kan_model.specs.Letters.{only_one}
+use Rattle.kan_model.specs.Terms.Letters.{only_one}
 use Rattle.kan_model.proofs.LettersLaws.{built_step, built_stop, gives_some, gives_none}
 use Rattle.kan_model.proofs.letters.build.Goals as goal
 

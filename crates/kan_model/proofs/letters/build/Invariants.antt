@@ -1,5 +1,5 @@
 use Rattle.std.proofs.Common.{◌≡◌, [], length}
-use Rattle.kan_model.specs.Letters.{built_from, stack_terms}
+use Rattle.kan_model.specs.Terms.Letters.{built_from, stack_terms}
 use Rattle.kan_model.proofs.letters.build.Given as goal
 
 -- the letters that are left, in front of the terms on the stack, build what all letters build

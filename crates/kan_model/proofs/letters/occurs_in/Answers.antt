@@ -1,7 +1,7 @@
 use Rattle.std.proofs.Common.{ap, ◌∙◌}
 use Rattle.std.specs.List.{list_any}
 use Rattle.kan_terms.specs.Terms.{tree}
-use Rattle.kan_model.specs.Letters.{is_letter_of}
+use Rattle.kan_model.specs.Terms.Letters.{is_letter_of}
 use Rattle.kan_model.proofs.LettersLaws.{occurs-letters}
 use Rattle.kan_model.proofs.letters.occurs_in.Goals as goal
 

@@ -1,6 +1,6 @@
 use Rattle.std.proofs.Common.{◌≡◌, ◌++◌, length}
 use Rattle.kan_terms.specs.Terms.{tree}
-use Rattle.kan_model.specs.Letters.{spelling, waiting_spelling}
+use Rattle.kan_model.specs.Terms.Letters.{spelling, waiting_spelling}
 use Rattle.kan_model.proofs.letters.spell.Given as goal
 
 -- what was written and what the waiting terms spell is what the term spells

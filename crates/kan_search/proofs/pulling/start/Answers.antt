@@ -1,7 +1,7 @@
 use Rattle.std.proofs.Common.{◌∙◌, ap, map}
-use Rattle.kan_model.specs.Environments.{terms_of}
-use Rattle.kan_model.specs.Programs as programs
-use Rattle.kan_model.specs.Scope.{is_small}
+use Rattle.kan_model.specs.Programs.Environments.{terms_of}
+use Rattle.kan_model.specs.Programs.Closed as programs
+use Rattle.kan_model.specs.Programs.Scope.{is_small}
 use Rattle.kan_search.specs.Suspensions.{tree_of}
 use Rattle.kan_search.proofs.StartLaws.{turned-is, started, start-room}
 use Rattle.kan_search.proofs.pulling.start.Goals as goal

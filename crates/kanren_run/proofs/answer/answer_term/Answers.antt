@@ -1,9 +1,9 @@
 use Rattle.std.proofs.Common.{◌∙◌, ap, ap₂, map, eqb}
 use Rattle.std.specs.Option.{option_map}
 use Rattle.kan_terms.specs.Terms.{tree}
-use Rattle.kan_model.specs.Solve.{image}
-use Rattle.kan_model.specs.Order.{each_once}
-use Rattle.kan_model.specs.StoreCalls.{answer}
+use Rattle.kan_model.specs.Stores.Solve.{image}
+use Rattle.kan_model.specs.Answers.Order.{each_once}
+use Rattle.kan_model.specs.Stores.Calls.{answer}
 use Rattle.kanren_run.specs.Naming.{variables_of, renamed}
 use Rattle.kanren_run.proofs.NamingLaws.{answer_built}
 use Rattle.kanren_run.proofs.answer.answer_term.Goals as goal

@@ -4,7 +4,7 @@ use Rattle.std.specs.List.{list_all}
 use Rattle.std.specs.Char.{is_ascii_digit}
 use Rattle.std.proofs.lemmas.Iterator.{YieldsList-from_slice}
 use Rattle.std.proofs.lemmas.Iterator.Search.{all_from_yields_List}
-use Rattle.kan_model.specs.Words.{all_digits}
+use Rattle.kan_grammar.specs.Data.Words.{all_digits}
 use Rattle.kanren_run.proofs.command.all_digits.Goals as goal
 
 same : (bs : List ℕ) → list_all is_ascii_digit bs ≡ all_digits bs

@@ -3,7 +3,7 @@ use Rattle.std.proofs.Common.{◌≡◌, ◌<◌, true, List, ℕ, length, ◌^�
 use Rattle.std.specs.Result.{OkIff}
 use Rattle.std.specs.Str.Parse.{digits_value}
 use Rattle.std.proofs.lemmas.Str.Parse.{IsNumeralModel, numerals_by_value, parse_digits}
-use Rattle.kan_model.specs.Words.{all_digits}
+use Rattle.kan_grammar.specs.Data.Words.{all_digits}
 use Rattle.kanren_run.proofs.CommandLaws.{no_fuel, some_fuel}
 use Rattle.kanren_run.proofs.command.fuel_of_word.Goals as goal
 

@@ -1,5 +1,5 @@
 use Rattle.std.proofs.Common.{◌≡◌, eqb, take}
-use Rattle.kan_model.specs.Order.{each_once}
+use Rattle.kan_model.specs.Answers.Order.{each_once}
 use Rattle.kanren_run.specs.Naming.{variables_of}
 use Rattle.kanren_run.proofs.naming.named_variables.Given as goal
 

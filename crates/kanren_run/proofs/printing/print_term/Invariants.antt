@@ -1,6 +1,6 @@
 use Rattle.std.proofs.Common.{◌≡◌, ◌++◌, string_bytes}
 use Rattle.kan_terms.specs.Terms.{tree}
-use Rattle.kan_model.specs.Text.{name_text, print}
+use Rattle.kan_model.specs.Answers.Text.{name_text, print}
 use Rattle.kanren_run.specs.Printing.{frames_text, frames_cost}
 use Rattle.kanren_run.proofs.printing.print_term.Given as goal
 

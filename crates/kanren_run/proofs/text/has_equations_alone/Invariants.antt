@@ -1,5 +1,5 @@
 use Rattle.std.proofs.Common.{◌≡◌, ◌≤◌, ◌-◌, length, drop}
-use Rattle.kan_model.specs.Programs as programs
+use Rattle.kan_model.specs.Programs.Closed as programs
 use Rattle.goal_syntax.specs.Equational.{are_equational_entries}
 use Rattle.kanren_run.proofs.text.has_equations_alone.Given as goal
 

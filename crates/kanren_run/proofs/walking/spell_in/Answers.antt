@@ -1,5 +1,5 @@
 use Rattle.kan_terms.specs.Terms.{tree}
-use Rattle.kan_model.specs.StoreCalls.{answer}
+use Rattle.kan_model.specs.Stores.Calls.{answer}
 use Rattle.kanren_run.proofs.WalkingLaws.{walked_step, walked_fewer}
 use Rattle.kanren_run.proofs.walking.spell_in.Goals as goal
 

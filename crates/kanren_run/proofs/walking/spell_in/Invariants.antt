@@ -1,8 +1,8 @@
 use Rattle.std.proofs.Common.{◌≡◌, ◌++◌, length}
 use Rattle.kan_terms.specs.Terms.{tree}
-use Rattle.kan_model.specs.Letters.{spelling}
-use Rattle.kan_model.specs.Solve.{apply}
-use Rattle.kan_model.specs.StoreCalls.{answer}
+use Rattle.kan_model.specs.Terms.Letters.{spelling}
+use Rattle.kan_model.specs.Stores.Solve.{apply}
+use Rattle.kan_model.specs.Stores.Calls.{answer}
 use Rattle.kanren_run.specs.Walking.{waiting_under}
 use Rattle.kanren_run.proofs.walking.spell_in.Given as goal
 

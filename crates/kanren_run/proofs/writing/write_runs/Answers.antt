@@ -1,5 +1,5 @@
 use Rattle.std.proofs.Common.{ap, ◌∙◌}
-use Rattle.kan_model.specs.Programs as programs
+use Rattle.kan_model.specs.Programs.Closed as programs
 use Rattle.kan_search.specs.Batches.{query_of}
 use Rattle.kanren_run.specs.Answers.{is_fuel}
 use Rattle.kanren_run.proofs.WritingLaws.{can-at, err_puts, runs-written, runs-stopped, spends-at}

@@ -1,6 +1,6 @@
 use Rattle.std.proofs.Common.{◌≡◌, true, [], ◌∷◌, sym, subst}
-use Rattle.kan_model.specs.Programs as programs
-use Rattle.kan_model.specs.Tables.{nothing_open}
+use Rattle.kan_model.specs.Programs.Closed as programs
+use Rattle.kan_model.specs.Programs.Tables.{nothing_open}
 use Rattle.kanren_tests.proofs.BuiltLaws.{first_run_closed}
 use Rattle.kanren_tests.proofs.compiled.first_run.Goals as goal
 

@@ -1,6 +1,6 @@
 use Rattle.std.proofs.Common.{◌≡◌, ◌≤◌, ◌-◌, length, drop}
 use Rattle.std.specs.List.{list_all}
-use Rattle.kan_model.specs.Programs as programs
+use Rattle.kan_model.specs.Programs.Closed as programs
 use Rattle.stream_core.specs.Tasks.{is_built}
 use Rattle.kanren_tests.proofs.compiled.has_built_goals.Given as goal
 

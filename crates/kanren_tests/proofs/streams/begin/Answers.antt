@@ -1,5 +1,5 @@
 use Rattle.std.proofs.Common.{map, refl}
-use Rattle.kan_model.specs.Programs as programs
+use Rattle.kan_model.specs.Programs.Closed as programs
 use Rattle.kan_search.specs.Suspensions.{tree_of}
 use Rattle.kan_search.proofs.StartLaws.{start-room}
 use Rattle.kanren_tests.proofs.streams.begin.Goals as goal

@@ -1,6 +1,6 @@
 use Rattle.std.proofs.Common.{◌≡◌}
-use Rattle.kan_model.specs.Bounds.{top}
-use Rattle.kan_model.specs.Programs as programs
+use Rattle.kan_model.specs.Streams.Bounds.{top}
+use Rattle.kan_model.specs.Programs.Closed as programs
 use Rattle.kan_search.specs.Suspensions.{tree_of, IsOf}
 use Rattle.kanren_tests.proofs.streams.nested.Given as goal
 

@@ -1,7 +1,7 @@
 -- A word's bytes are cut off as a text, which is the word of the piece.
 use Rattle.std.proofs.Common.{◌≡◌, ◌+◌, ℕ, take, ap, sym, ◌∙◌, arith}
-use Rattle.kan_model.specs.Words.{word_token}
-use Rattle.kan_model.specs.Tokens.{start, in_word}
+use Rattle.kan_grammar.specs.Data.Words.{word_token}
+use Rattle.kan_grammar.specs.Data.Tokens.{start, in_word}
 use Rattle.sexpr.specs.Meaning.{token_of, piece_of}
 use Rattle.sexpr.proofs.PieceLaws.{text_word_boundary, text_word_piece}
 use Rattle.sexpr.proofs.lexer.piece_begun.Goals as goal

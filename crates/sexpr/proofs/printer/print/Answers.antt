@@ -1,6 +1,6 @@
 -- Each step prints what it takes from the stack.
 use Rattle.std.proofs.Common.{string_bytes}
-use Rattle.kan_model.specs.Printed.{datum_text}
+use Rattle.kan_grammar.specs.Data.Printed.{datum_text}
 use Rattle.sexpr.specs.Seen.{written}
 use Rattle.sexpr.proofs.PrintLaws.{work_prints, work_falls}
 use Rattle.sexpr.proofs.printer.print.Goals as goal

@@ -1,6 +1,6 @@
 -- What is printed and what is left to print are the text of the datum.
 use Rattle.std.proofs.Common.{◌≡◌, ◌++◌, string_bytes}
-use Rattle.kan_model.specs.Printed.{datum_text}
+use Rattle.kan_grammar.specs.Data.Printed.{datum_text}
 use Rattle.sexpr.specs.Seen.{written}
 use Rattle.sexpr.specs.Works.{works_text, works_cost}
 use Rattle.sexpr.proofs.printer.print.Given as goal

@@ -2,7 +2,7 @@
 use Rattle.std.proofs.Common.{◌+◌, ◌<◌, length, sym, ap, ◌∙◌, subst, arith}
 use Rattle.std.specs.Str.{IsUtf8}
 use Rattle.std.proofs.lemmas.Bool.Decides.{nat_tests}
-use Rattle.kan_model.specs.Faults.{refused, fault}
+use Rattle.kan_grammar.specs.Data.Faults.{refused, fault}
 use Rattle.sexpr.specs.Meaning.{piece_of}
 use Rattle.sexpr.proofs.ReadLaws.{not_a_text, left_first, left_more, left_next, left_refused, left_none, left_later, extends_same, extends_on, reads_error}
 use Rattle.sexpr.proofs.reader.read.Goals as goal

@@ -2,8 +2,8 @@
 use Rattle.std.proofs.Common.{◌≡◌, ◌+◌, ◌++◌, length}
 use denote.Text.{Utf8}
 use denote.Shadow.{shadow}
-use Rattle.kan_model.specs.Tokens.{tokens_from}
-use Rattle.kan_model.specs.Faults.{run, going, finish, read_text}
+use Rattle.kan_grammar.specs.Data.Tokens.{tokens_from}
+use Rattle.kan_grammar.specs.Data.Faults.{run, going, finish, read_text}
 use Rattle.sexpr.specs.Seen.{Table, as_kept}
 use Rattle.sexpr.specs.Reads.{Extends}
 use Rattle.sexpr.specs.Frames.{HasDepth, open_of}

@@ -1,7 +1,7 @@
 -- A symbol stands for its text, which is in the table now.
 use Rattle.std.proofs.Common.{◌≡◌, sym, ap, ◌∙◌, ◌++◌}
-use Rattle.kan_model.specs.Words.{symbol}
-use Rattle.kan_model.specs.Written.{single, is_allowed_atom}
+use Rattle.kan_grammar.specs.Data.Words.{symbol}
+use Rattle.kan_grammar.specs.Data.Written.{single, is_allowed_atom}
 use Rattle.sexpr.specs.Meaning.{atom_of}
 use Rattle.sexpr.proofs.FrameLaws.{on_ok}
 use Rattle.sexpr.proofs.ReadLaws.{written_interned}

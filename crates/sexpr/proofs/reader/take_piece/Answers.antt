@@ -1,6 +1,6 @@
 -- A piece with a token is its token before the tokens that follow.
 use Rattle.std.proofs.Common.{ap, ◌∙◌, ◌++◌}
-use Rattle.kan_model.specs.Faults.{run, going}
+use Rattle.kan_grammar.specs.Data.Faults.{run, going}
 use Rattle.sexpr.specs.Meaning.{token_of}
 use Rattle.sexpr.specs.Seen.{as_kept}
 use Rattle.sexpr.specs.Frames.{open_of}

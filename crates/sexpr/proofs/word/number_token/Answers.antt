@@ -6,7 +6,7 @@ use Rattle.std.specs.Int.RustNames.{FitsSigned}
 use Rattle.std.specs.Str.Parse.{without_leading_sign, signed_digits_value, digits_value}
 use Rattle.std.proofs.lemmas.Bool.Decides.{nat_tests}
 use Rattle.std.proofs.lemmas.Str.Parse.{IsNumeralModel, numerals_by_value}
-use Rattle.kan_model.specs.Words.{out_of_range, atom, all_digits, begins_with_digit, without_leading_point, is_in_range, number_token}
+use Rattle.kan_grammar.specs.Data.Words.{out_of_range, atom, all_digits, begins_with_digit, without_leading_point, is_in_range, number_token}
 use Rattle.sexpr.proofs.word.number_token.Goals as goal
 
 own : IsNumeralModel (λ ds. all_digits ds ≡ true) (digits_value 10)

@@ -1,7 +1,7 @@
 use Rattle.std.proofs.Common.{ap, subst, map}
 use Rattle.std.specs.Prelude.{IfSome, option_map}
-use Rattle.kan_model.specs.Environments.{terms_of}
-use Rattle.kan_model.specs.Programs as programs
+use Rattle.kan_model.specs.Programs.Environments.{terms_of}
+use Rattle.kan_model.specs.Programs.Closed as programs
 use Rattle.stream_core.specs.Forcing.{inner_of}
 use Rattle.stream_core.specs.Standing as standing
 use Rattle.stream_core.proofs.ClosedLaws.{program-closed}

@@ -1,10 +1,10 @@
 use Rattle.std.proofs.Common.{ap, sym, ◌∙◌}
 use Rattle.std.specs.Prelude.{option_map}
 use Rattle.std.specs.Option.{option_copied}
-use Rattle.kan_model.specs.Nodes.{relation_entry}
-use Rattle.kan_model.specs.Running as running
-use Rattle.kan_model.specs.Environments.{terms_of}
-use Rattle.kan_model.specs.Programs as programs
+use Rattle.kan_model.specs.Programs.Nodes.{relation_entry}
+use Rattle.kan_model.specs.Streams.Running as running
+use Rattle.kan_model.specs.Programs.Environments.{terms_of}
+use Rattle.kan_model.specs.Programs.Closed as programs
 use Rattle.stream_core.proofs.ClosedLaws.{program-closed}
 use Rattle.stream_core.proofs.ForceLaws.{relation-found, body-placed, body-slots}
 use Rattle.stream_core.proofs.forcing.enter_call.Goals as goal

@@ -1,7 +1,7 @@
 use Rattle.std.proofs.Common.{◌∙◌, refl, subst, rules}
 use Rattle.std.specs.Prelude.{IfSome}
-use Rattle.kan_model.specs.Bounds.{Fits}
-use Rattle.kan_model.specs.Programs as programs
+use Rattle.kan_model.specs.Streams.Bounds.{Fits}
+use Rattle.kan_model.specs.Programs.Closed as programs
 use Rattle.stream_core.specs.Standing as standing
 use Rattle.stream_core.proofs.ClosedLaws.{program-closed}
 use Rattle.stream_core.proofs.FitLaws.{force-fits, fits-moved}

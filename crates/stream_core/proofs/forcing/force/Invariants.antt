@@ -1,5 +1,5 @@
 use Rattle.std.proofs.Common.{◌≡◌, length}
-use Rattle.kan_model.specs.Programs as programs
+use Rattle.kan_model.specs.Programs.Closed as programs
 use Rattle.stream_core.specs.Standing as standing
 use Rattle.stream_core.specs.Ways.{IsWayDown}
 use Rattle.stream_core.proofs.forcing.force.Given as goal

@@ -1,8 +1,8 @@
 use Rattle.std.proofs.Common.{ap, ap₂, ◌∙◌, map}
-use Rattle.kan_model.specs.Streams as model
-use Rattle.kan_model.specs.Environments.{terms_of}
-use Rattle.kan_model.specs.Programs as programs
-use Rattle.kan_model.specs.Tables.{arguments_at}
+use Rattle.kan_model.specs.Streams.Stream as model
+use Rattle.kan_model.specs.Programs.Environments.{terms_of}
+use Rattle.kan_model.specs.Programs.Closed as programs
+use Rattle.kan_model.specs.Programs.Tables.{arguments_at}
 use Rattle.stream_core.proofs.FitLaws.{call-fits}
 use Rattle.stream_core.proofs.GivingLaws.{call-waits}
 use Rattle.stream_core.proofs.giving.call_stream.Goals as goal

@@ -1,6 +1,6 @@
 use Rattle.kan_terms.specs.Terms.{tree}
-use Rattle.kan_model.specs.Environments.{terms_of}
-use Rattle.kan_model.specs.Programs as programs
+use Rattle.kan_model.specs.Programs.Environments.{terms_of}
+use Rattle.kan_model.specs.Programs.Closed as programs
 use Rattle.stream_core.proofs.GivingLaws.{sides-are-below, instance-below}
 use Rattle.stream_core.proofs.giving.equated.Goals as goal
 

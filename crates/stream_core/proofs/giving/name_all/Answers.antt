@@ -1,7 +1,7 @@
 use Rattle.std.proofs.Common.{arith}
 use Rattle.kan_terms.specs.Terms.{tree}
-use Rattle.kan_model.specs.Environments.{terms_of}
-use Rattle.kan_model.specs.Programs as programs
+use Rattle.kan_model.specs.Programs.Environments.{terms_of}
+use Rattle.kan_model.specs.Programs.Closed as programs
 use Rattle.stream_core.proofs.MachineLaws.{env-more}
 use Rattle.stream_core.proofs.GivingLaws.{instance-below, names-step, arguments-reach}
 use Rattle.stream_core.proofs.giving.name_all.Goals as goal

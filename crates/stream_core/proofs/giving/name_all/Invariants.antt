@@ -1,9 +1,9 @@
 use Rattle.std.proofs.Common.{◌+◌, ◌≤◌, map}
 use Rattle.kan_terms.specs.Terms.{tree}
-use Rattle.kan_model.specs.Running.{instances}
-use Rattle.kan_model.specs.Tables.{arguments_at}
-use Rattle.kan_model.specs.Environments.{terms_of}
-use Rattle.kan_model.specs.Programs as programs
+use Rattle.kan_model.specs.Streams.Running.{instances}
+use Rattle.kan_model.specs.Programs.Tables.{arguments_at}
+use Rattle.kan_model.specs.Programs.Environments.{terms_of}
+use Rattle.kan_model.specs.Programs.Closed as programs
 use Rattle.stream_core.specs.Naming.{NamesFirst}
 use Rattle.stream_core.proofs.giving.name_all.Given as goal
 

@@ -1,7 +1,7 @@
 use Rattle.std.proofs.Common.{ap, [], refl, map}
 use Rattle.std.specs.Prelude.{option_map}
-use Rattle.kan_model.specs.Environments.{terms_of}
-use Rattle.kan_model.specs.Programs as programs
+use Rattle.kan_model.specs.Programs.Environments.{terms_of}
+use Rattle.kan_model.specs.Programs.Closed as programs
 use Rattle.stream_core.specs.Standing as standing
 use Rattle.stream_core.specs.Tasks.{task, stack}
 use Rattle.stream_core.proofs.ClosedLaws.{program-closed}

@@ -1,6 +1,6 @@
 use Rattle.std.proofs.Common.{ap, ◌∙◌, ◌∷◌, map}
 use Rattle.std.specs.Prelude.{option_map}
-use Rattle.kan_model.specs.Environments.{terms_of}
+use Rattle.kan_model.specs.Programs.Environments.{terms_of}
 use Rattle.stream_core.specs.Standing as standing
 use Rattle.stream_core.proofs.RunningLaws.{becomes-bound-top, below-going, top-may-bind, heads-going, stack-grows, all-belong, Each-last, Each-front}
 use Rattle.stream_core.proofs.StackLaws.{stack-pop}

@@ -1,5 +1,5 @@
 use Rattle.std.proofs.Common.{ap, ◌∙◌}
-use Rattle.kan_model.specs.Programs as programs
+use Rattle.kan_model.specs.Programs.Closed as programs
 use Rattle.stream_core.specs.Standing as standing
 use Rattle.stream_core.specs.Tasks.{task, stack}
 use Rattle.stream_core.proofs.RunningLaws.{first-ready, step-done, step-fewer, top-is, grows-twice, Each-front}

@@ -1,5 +1,5 @@
 use Rattle.std.proofs.Common.{◌≡◌}
-use Rattle.kan_model.specs.Programs as programs
+use Rattle.kan_model.specs.Programs.Closed as programs
 use Rattle.stream_core.specs.Machine.{AreReady, Each, done, left}
 use Rattle.stream_core.specs.Standing as standing
 use Rattle.stream_core.specs.Tasks.{task, stack}

@@ -1,6 +1,6 @@
 use Rattle.std.proofs.Common.{ap, [], refl}
-use Rattle.kan_model.specs.Environments.{terms_of}
-use Rattle.kan_model.specs.Programs as programs
+use Rattle.kan_model.specs.Programs.Environments.{terms_of}
+use Rattle.kan_model.specs.Programs.Closed as programs
 use Rattle.stream_core.specs.Standing as standing
 use Rattle.stream_core.specs.Tasks.{task, stack}
 use Rattle.stream_core.proofs.ClosedLaws.{program-closed, goal-there}

@@ -1,8 +1,8 @@
 use Rattle.std.proofs.Common.{ap, refl, ◌∙◌, sym}
-use Rattle.kan_model.specs.Nodes.{goal_entry}
-use Rattle.kan_model.specs.Running.{run}
-use Rattle.kan_model.specs.Environments.{terms_of}
-use Rattle.kan_model.specs.Programs as programs
+use Rattle.kan_model.specs.Programs.Nodes.{goal_entry}
+use Rattle.kan_model.specs.Streams.Running.{run}
+use Rattle.kan_model.specs.Programs.Environments.{terms_of}
+use Rattle.kan_model.specs.Programs.Closed as programs
 use Rattle.stream_core.specs.Standing as standing
 use Rattle.stream_core.proofs.TaskLaws.{becomes-both, becomes-either, becomes-fresh}
 use Rattle.stream_core.proofs.ClosedLaws.{program-closed}

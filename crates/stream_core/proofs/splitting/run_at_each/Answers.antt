@@ -1,6 +1,6 @@
 use Rattle.std.proofs.Common.{ap, sym, ◌∙◌, ◌∷◌, [], map, reverse}
 use Rattle.std.proofs.lemmas.List.{reverse-append}
-use Rattle.kan_model.specs.Environments.{terms_of}
+use Rattle.kan_model.specs.Programs.Environments.{terms_of}
 use Rattle.stream_core.specs.Machine as machine
 use Rattle.stream_core.specs.Tasks.{task, stack}
 use Rattle.stream_core.proofs.splitting.run_at_each.Goals as goal

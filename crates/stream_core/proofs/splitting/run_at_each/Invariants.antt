@@ -1,6 +1,6 @@
 use Rattle.std.proofs.Common.{◌≡◌, ℕ, length, reverse, map}
-use Rattle.kan_model.specs.Goals.{Goal}
-use Rattle.kan_model.specs.Environments.{terms_of}
+use Rattle.kan_model.specs.Programs.Goals.{Goal}
+use Rattle.kan_model.specs.Programs.Environments.{terms_of}
 use Rattle.stream_core.specs.Machine as machine
 use Rattle.stream_core.specs.Tasks.{task, stack}
 use Rattle.stream_core.proofs.splitting.run_at_each.Given as goal

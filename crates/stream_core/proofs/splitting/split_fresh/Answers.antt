@@ -1,6 +1,6 @@
 use Rattle.std.proofs.Common.{ap, ap₂, refl, ◌∙◌, ◌++◌}
-use Rattle.kan_model.specs.Running.{variables}
-use Rattle.kan_model.specs.Environments.{terms_of}
+use Rattle.kan_model.specs.Streams.Running.{variables}
+use Rattle.kan_model.specs.Programs.Environments.{terms_of}
 use Rattle.stream_core.specs.Machine as machine
 use Rattle.stream_core.specs.Tasks.{task}
 use Rattle.stream_core.proofs.StackLaws.{pushed-one}

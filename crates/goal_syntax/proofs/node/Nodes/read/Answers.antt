@@ -1,6 +1,6 @@
 use Rattle.goal_syntax.proofs.PartLaws.{read_part, read_none, read_grown, read_offset}
 use Rattle.std.proofs.Common.{sym, ap}
-use Rattle.kan_model.specs.Sited.{site}
+use Rattle.kan_grammar.specs.Texts.Sited.{site}
 use Rattle.goal_syntax.specs.Parts.{sites}
 use Rattle.goal_syntax.proofs.node.Nodes.read.Goals as goal
 

@@ -1,7 +1,7 @@
 use Rattle.std.proofs.Common.{◌≡◌, ℕ, take}
 use Rattle.std.specs.Prelude.{nat_eq}
 use Rattle.std.specs.HashMap.{get}
-use Rattle.kan_model.specs.Resolved.{relation_number}
+use Rattle.kan_grammar.specs.Texts.Resolved.{relation_number}
 use Rattle.goal_syntax.specs.Related.{related}
 use Rattle.goal_syntax.proofs.relations.Relations.of.Given as goal
 

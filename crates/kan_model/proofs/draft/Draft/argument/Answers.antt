@@ -1,11 +1,11 @@
 use Rattle.std.specs.Prelude.{IsTrue}
-use Rattle.kan_model.specs.Tables.{is_grown, goals_of}
-use Rattle.kan_model.specs.Nodes.{tables_from}
-use Rattle.kan_model.specs.Notes.{WidthsNoted, GoalSlotsNoted}
-use Rattle.kan_model.specs.Drafts.{tables}
-use Rattle.kan_model.proofs.TableLaws.{goals-with_argument, grown-with_argument}
+use Rattle.kan_model.specs.Programs.Tables.{is_grown, goals_of}
+use Rattle.kan_model.specs.Programs.Nodes.{tables_from}
+use Rattle.kan_model.specs.Programs.Rows.{WidthsNoted, GoalSlotsNoted}
+use Rattle.kan_model.specs.Programs.Drafts.{tables}
+use Rattle.kan_model.proofs.Programs.TableLaws.{goals-with_argument, grown-with_argument}
 use Rattle.std.proofs.Common.{sym, subst}
-use Rattle.kan_model.proofs.RowLaws.{pushed}
+use Rattle.kan_model.proofs.Programs.RowLaws.{pushed}
 use Rattle.kan_model.proofs.draft.Draft.argument.Goals as goal
 
 pub invariant_of-self : goal.invariant_of-self

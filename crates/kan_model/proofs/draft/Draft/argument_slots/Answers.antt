@@ -1,7 +1,7 @@
 use Rattle.std.proofs.Common.{ap, ◌∙◌}
 use Rattle.std.specs.Prelude.{max}
-use Rattle.kan_model.specs.Drafts.{templates}
-use Rattle.kan_model.proofs.NoteLaws.{slots-step}
+use Rattle.kan_model.specs.Programs.Drafts.{templates}
+use Rattle.kan_model.proofs.Programs.NoteLaws.{slots-step}
 use Rattle.kan_model.proofs.draft.Draft.argument_slots.Goals as goal
 
 pub loop-term-preserved : goal.loop-term-preserved

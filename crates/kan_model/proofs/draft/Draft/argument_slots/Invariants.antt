@@ -1,7 +1,7 @@
 use Rattle.std.proofs.Common.{◌≡◌, map, take}
-use Rattle.kan_model.specs.Needs.{most_slots}
-use Rattle.kan_model.specs.Tables.{template_at, templates_of}
-use Rattle.kan_model.specs.Nodes.{term_entries}
+use Rattle.kan_model.specs.Programs.Measures.{most_slots}
+use Rattle.kan_model.specs.Programs.Tables.{template_at, templates_of}
+use Rattle.kan_model.specs.Programs.Nodes.{term_entries}
 use Rattle.kan_model.proofs.draft.Draft.argument_slots.Given as goal
 
 abbrev pub invariant-loop-term : goal.invariant-loop-term

@@ -1,8 +1,8 @@
 use Rattle.std.specs.Prelude.{IsTrue}
-use Rattle.kan_model.specs.Tables.{is_grown, goals_of}
-use Rattle.kan_model.specs.Nodes.{tables_from}
-use Rattle.kan_model.specs.Notes.{WidthsNoted, GoalSlotsNoted}
-use Rattle.kan_model.proofs.RowLaws.{pushed, goal-grown, goal-widths, goal-needs}
+use Rattle.kan_model.specs.Programs.Tables.{is_grown, goals_of}
+use Rattle.kan_model.specs.Programs.Nodes.{tables_from}
+use Rattle.kan_model.specs.Programs.Rows.{WidthsNoted, GoalSlotsNoted}
+use Rattle.kan_model.proofs.Programs.RowLaws.{pushed, goal-grown, goal-widths, goal-needs}
 use Rattle.kan_model.proofs.draft.Draft.goal.Goals as goal
 
 pub invariant_of-self : goal.invariant_of-self

@@ -1,12 +1,12 @@
 use Rattle.std.proofs.Common.{ap, sym, ◌∙◌, map, length}
 use Rattle.std.specs.Prelude.{◌&&◌, nat_lt}
 use Rattle.std.proofs.lemmas.List.Folds.{list_all-map}
-use Rattle.kan_model.specs.Scope.{in_scope}
-use Rattle.kan_model.specs.Calls.{call_there}
-use Rattle.kan_model.specs.Tables.{goal_at}
-use Rattle.kan_model.specs.Nodes.{goal_entry, relation_entry, goal_place}
-use Rattle.kan_model.specs.Drafts as drafts
-use Rattle.kan_model.proofs.ScopeLaws.{all-low, tests-say}
+use Rattle.kan_model.specs.Programs.Scope.{in_scope}
+use Rattle.kan_model.specs.Programs.Calls.{call_there}
+use Rattle.kan_model.specs.Programs.Tables.{goal_at}
+use Rattle.kan_model.specs.Programs.Nodes.{goal_entry, relation_entry, goal_place}
+use Rattle.kan_model.specs.Programs.Drafts as drafts
+use Rattle.kan_model.proofs.Programs.ScopeLaws.{all-low, tests-say}
 use Rattle.kan_model.proofs.draft.Draft.is_closed.Goals as goal
 
 pub returns : goal.returns

@@ -2,11 +2,11 @@ use Rattle.std.proofs.Common.{ltb-true, ap, sym, ◌∙◌}
 use Rattle.std.specs.Prelude.{nat_lt, length, min, ◌+◌}
 use Rattle.std.proofs.lemmas.Bool.{and_parts}
 use Rattle.kan_terms.specs.Tree.{Tree}
-use Rattle.kan_model.specs.Needs.{noted_height}
-use Rattle.kan_model.specs.Nodes.{term_entry}
-use Rattle.kan_model.specs.Tables.{template_of, template_at, is_term_grown}
-use Rattle.kan_model.specs.Drafts.{templates}
-use Rattle.kan_model.proofs.NoteLaws.{noted, pair-height}
+use Rattle.kan_model.specs.Programs.Measures.{noted_height}
+use Rattle.kan_model.specs.Programs.Nodes.{term_entry}
+use Rattle.kan_model.specs.Programs.Tables.{template_of, template_at, is_term_grown}
+use Rattle.kan_model.specs.Programs.Drafts.{templates}
+use Rattle.kan_model.proofs.Programs.NoteLaws.{noted, pair-height}
 use Rattle.kan_model.proofs.draft.Draft.noted_height.Goals as goal
 
 pub returns-in-Pair : goal.returns-in-Pair

@@ -1,7 +1,7 @@
-use Rattle.kan_model.specs.Goals.{Goal}
-use Rattle.kan_model.specs.Needs.{goal_slots}
-use Rattle.kan_model.specs.Drafts.{goals}
-use Rattle.kan_model.proofs.NoteLaws.{noted}
+use Rattle.kan_model.specs.Programs.Goals.{Goal}
+use Rattle.kan_model.specs.Programs.Measures.{goal_slots}
+use Rattle.kan_model.specs.Programs.Drafts.{goals}
+use Rattle.kan_model.proofs.Programs.NoteLaws.{noted}
 use Rattle.kan_model.proofs.draft.Draft.one_goal_slots.Goals as goal
 
 pub returns : goal.returns

@@ -1,7 +1,7 @@
 use Rattle.kan_terms.specs.Tree.{Tree}
-use Rattle.kan_model.specs.Needs.{slots}
-use Rattle.kan_model.specs.Drafts.{templates}
-use Rattle.kan_model.proofs.NoteLaws.{noted}
+use Rattle.kan_model.specs.Programs.Measures.{slots}
+use Rattle.kan_model.specs.Programs.Drafts.{templates}
+use Rattle.kan_model.proofs.Programs.NoteLaws.{noted}
 use Rattle.kan_model.proofs.draft.Draft.one_slots.Goals as goal
 
 pub returns : goal.returns

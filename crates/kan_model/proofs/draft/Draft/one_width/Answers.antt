@@ -1,7 +1,7 @@
-use Rattle.kan_model.specs.Goals.{Goal}
-use Rattle.kan_model.specs.Needs.{noted_width}
-use Rattle.kan_model.specs.Drafts.{goals}
-use Rattle.kan_model.proofs.NoteLaws.{noted}
+use Rattle.kan_model.specs.Programs.Goals.{Goal}
+use Rattle.kan_model.specs.Programs.Measures.{noted_width}
+use Rattle.kan_model.specs.Programs.Drafts.{goals}
+use Rattle.kan_model.proofs.Programs.NoteLaws.{noted}
 use Rattle.kan_model.proofs.draft.Draft.one_width.Goals as goal
 
 pub returns : goal.returns

@@ -1,9 +1,9 @@
 use Rattle.std.specs.Prelude.{IsTrue}
 use Rattle.std.proofs.Common.{sym, subst}
-use Rattle.kan_model.specs.Tables.{is_grown, goals_of, templates_of}
-use Rattle.kan_model.specs.Nodes.{tables_from, term_entries}
-use Rattle.kan_model.specs.Notes.{HeightsNoted, SlotsNoted, WidthsNoted, GoalSlotsNoted}
-use Rattle.kan_model.proofs.RowLaws.{pushed, term-grown, term-heights, term-slots, term-goals}
+use Rattle.kan_model.specs.Programs.Tables.{is_grown, goals_of, templates_of}
+use Rattle.kan_model.specs.Programs.Nodes.{tables_from, term_entries}
+use Rattle.kan_model.specs.Programs.Rows.{HeightsNoted, SlotsNoted, WidthsNoted, GoalSlotsNoted}
+use Rattle.kan_model.proofs.Programs.RowLaws.{pushed, term-grown, term-heights, term-slots, term-goals}
 use Rattle.kan_model.proofs.draft.Draft.term.Goals as goal
 
 pub invariant_of-self : goal.invariant_of-self

@@ -2,11 +2,11 @@ use Rattle.std.proofs.Common.{ap, sym, ◌∙◌}
 use Rattle.std.specs.Prelude.{nat_le, nat_lt, ◌&&◌}
 use Rattle.std.specs.Option.{option_copied}
 use Rattle.std.proofs.lemmas.List.{length-map}
-use Rattle.kan_model.specs.Scope.{in_scope}
-use Rattle.kan_model.specs.Tables.{goal_at}
-use Rattle.kan_model.specs.Nodes.{goal_entry}
-use Rattle.kan_model.specs.Drafts as drafts
-use Rattle.kan_model.proofs.ScopeLaws.{row-uses}
+use Rattle.kan_model.specs.Programs.Scope.{in_scope}
+use Rattle.kan_model.specs.Programs.Tables.{goal_at}
+use Rattle.kan_model.specs.Programs.Nodes.{goal_entry}
+use Rattle.kan_model.specs.Programs.Drafts as drafts
+use Rattle.kan_model.proofs.Programs.ScopeLaws.{row-uses}
 use Rattle.kan_model.proofs.draft.Draft.uses_only.Goals as goal
 
 pub returns-in-Some : goal.returns-in-Some

@@ -1,7 +1,7 @@
 use Rattle.std.proofs.Common.{ap, ◌∙◌, ◌++◌, ◌∷◌, [], ◌+◌}
 use Rattle.kan_terms.specs.declared.terms.Term.TheVariants.{Var}
-use Rattle.kan_model.specs.Environments.{terms_of}
-use Rattle.kan_model.proofs.EnvironmentLaws.{extended-step, extended-flat}
+use Rattle.kan_model.specs.Programs.Environments.{terms_of}
+use Rattle.kan_model.proofs.Programs.EnvironmentLaws.{extended-step, extended-flat}
 use Rattle.kan_model.proofs.environment.Env.extend.Goals as goal
 
 pub loop-offset-preserved : goal.loop-offset-preserved

@@ -1,7 +1,7 @@
 use Rattle.std.proofs.Common.{◌≡◌, ◌++◌, map}
 use Rattle.kan_terms.specs.Terms.{tree}
-use Rattle.kan_model.specs.Running.{variables}
-use Rattle.kan_model.specs.Environments.{terms_of}
+use Rattle.kan_model.specs.Streams.Running.{variables}
+use Rattle.kan_model.specs.Programs.Environments.{terms_of}
 use Rattle.kan_model.proofs.environment.Env.extend.Given as goal
 
 abbrev pub invariant-loop-offset : goal.invariant-loop-offset

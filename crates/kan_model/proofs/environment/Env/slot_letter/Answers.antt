@@ -1,6 +1,6 @@
 use Rattle.std.proofs.Common.{ap, sym, ◌∙◌}
 use Rattle.std.specs.Option.{option_copied}
-use Rattle.kan_model.proofs.EnvironmentLaws.{slot-letter, letter_found}
+use Rattle.kan_model.proofs.Programs.EnvironmentLaws.{slot-letter, letter_found}
 use Rattle.kan_model.proofs.environment.Env.slot_letter.Goals as goal
 
 pub returns-in-Some : goal.returns-in-Some

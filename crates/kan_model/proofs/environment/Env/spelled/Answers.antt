@@ -1,7 +1,7 @@
-use Rattle.kan_model.specs.Running.{instance}
-use Rattle.kan_model.specs.Programs as programs
-use Rattle.kan_model.specs.Environments.{terms_of}
-use Rattle.kan_model.proofs.EnvironmentLaws.{spelled-step, fewer-wait}
+use Rattle.kan_model.specs.Streams.Running.{instance}
+use Rattle.kan_model.specs.Programs.Closed as programs
+use Rattle.kan_model.specs.Programs.Environments.{terms_of}
+use Rattle.kan_model.proofs.Programs.EnvironmentLaws.{spelled-step, fewer-wait}
 use Rattle.kan_model.proofs.environment.Env.spelled.Goals as goal
 
 pub loop-next-smaller : goal.loop-next-smaller

@@ -1,9 +1,9 @@
 use Rattle.std.proofs.Common.{◌≡◌, ◌++◌, length, map}
-use Rattle.kan_model.specs.Letters.{spelling}
-use Rattle.kan_model.specs.Running.{instance}
-use Rattle.kan_model.specs.Flat.{letters_waiting}
-use Rattle.kan_model.specs.Programs as programs
-use Rattle.kan_model.specs.Environments.{terms_of}
+use Rattle.kan_model.specs.Terms.Letters.{spelling}
+use Rattle.kan_model.specs.Streams.Running.{instance}
+use Rattle.kan_model.specs.Terms.Flat.{letters_waiting}
+use Rattle.kan_model.specs.Programs.Closed as programs
+use Rattle.kan_model.specs.Programs.Environments.{terms_of}
 use Rattle.kan_model.proofs.environment.Env.spelled.Given as goal
 
 -- what was written and what the waiting templates spell is what the template's term spells

@@ -1,7 +1,7 @@
 use Rattle.std.proofs.Common.{ap}
 use Rattle.std.specs.Prelude.{option_map}
 use Rattle.kan_terms.specs.Terms.{tree}
-use Rattle.kan_model.proofs.EnvironmentLaws.{built-is}
+use Rattle.kan_model.proofs.Programs.EnvironmentLaws.{built-is}
 use Rattle.kan_model.proofs.environment.Env.value.Goals as goal
 
 pub returns-in-Some : goal.returns-in-Some

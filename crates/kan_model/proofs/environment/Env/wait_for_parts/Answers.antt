@@ -1,10 +1,10 @@
 use Rattle.std.proofs.Common.{ap, ◌∙◌}
-use Rattle.kan_model.specs.Running.{instance}
-use Rattle.kan_model.specs.Tables.{template_of}
-use Rattle.kan_model.specs.Nodes.{term_entry}
-use Rattle.kan_model.specs.Programs as programs
-use Rattle.kan_model.specs.Environments.{terms_of}
-use Rattle.kan_model.proofs.EnvironmentLaws.{pair-waits, node-waits}
+use Rattle.kan_model.specs.Streams.Running.{instance}
+use Rattle.kan_model.specs.Programs.Tables.{template_of}
+use Rattle.kan_model.specs.Programs.Nodes.{term_entry}
+use Rattle.kan_model.specs.Programs.Closed as programs
+use Rattle.kan_model.specs.Programs.Environments.{terms_of}
+use Rattle.kan_model.proofs.Programs.EnvironmentLaws.{pair-waits, node-waits}
 use Rattle.kan_model.proofs.environment.Env.wait_for_parts.Goals as goal
 
 pub returns-in_ok-push-in-Pair-2 : goal.returns-in_ok-push-in-Pair-2

@@ -1,9 +1,9 @@
 use Rattle.std.proofs.Common.{ap, ◌∙◌}
 use Rattle.std.specs.Prelude.{option_map}
 use Rattle.std.specs.Option.{option_copied}
-use Rattle.kan_model.specs.Nodes.{goal_entry}
-use Rattle.kan_model.specs.Programs as programs
-use Rattle.kan_model.proofs.EntryLaws.{goal-found, goal_found}
+use Rattle.kan_model.specs.Programs.Nodes.{goal_entry}
+use Rattle.kan_model.specs.Programs.Closed as programs
+use Rattle.kan_model.proofs.Programs.EntryLaws.{goal-found, goal_found}
 use Rattle.kan_model.proofs.program.Program.goal_node.Goals as goal
 
 pub returns-in-Some : goal.returns-in-Some

@@ -1,9 +1,9 @@
 use Rattle.std.proofs.Common.{ap, sym, ◌∙◌}
 use Rattle.std.specs.Prelude.{option_map}
 use Rattle.std.specs.Option.{option_copied}
-use Rattle.kan_model.specs.Needs.{noted_width}
-use Rattle.kan_model.specs.Programs as programs
-use Rattle.kan_model.proofs.NoteLaws.{noted-read}
+use Rattle.kan_model.specs.Programs.Measures.{noted_width}
+use Rattle.kan_model.specs.Programs.Closed as programs
+use Rattle.kan_model.proofs.Programs.NoteLaws.{noted-read}
 use Rattle.kan_model.proofs.program.Program.width.Goals as goal
 
 pub returns-in-Some : goal.returns-in-Some

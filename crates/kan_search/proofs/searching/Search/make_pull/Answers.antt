@@ -1,6 +1,6 @@
 use Rattle.std.proofs.Common.{◌∙◌, ap}
-use Rattle.kan_model.specs.Programs as programs
-use Rattle.kan_model.specs.Scope.{is_small}
+use Rattle.kan_model.specs.Programs.Closed as programs
+use Rattle.kan_model.specs.Programs.Scope.{is_small}
 use Rattle.kan_search.specs.Suspensions.{tree_of}
 use Rattle.kan_search.proofs.KnownLaws.{tail-known, tail-stays, room-stays}
 use Rattle.kan_search.proofs.PullLaws.{built-alike, left-pulled, room-before, room-after}

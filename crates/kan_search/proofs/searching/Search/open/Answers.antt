@@ -1,9 +1,9 @@
 use Rattle.std.proofs.Common.{◌∙◌, ap, ap₂, subst}
 use Rattle.std.specs.Prelude.{IfSome}
-use Rattle.kan_model.specs.Programs as programs
-use Rattle.kan_model.specs.Running.{start}
-use Rattle.kan_model.specs.Scope.{is_small}
-use Rattle.kan_model.specs.Taking.{take}
+use Rattle.kan_model.specs.Programs.Closed as programs
+use Rattle.kan_model.specs.Streams.Running.{start}
+use Rattle.kan_model.specs.Programs.Scope.{is_small}
+use Rattle.kan_model.specs.Streams.Taking.{take}
 use Rattle.kan_search.specs.Suspensions.{LeavesRoom, tree_of}
 use Rattle.kan_search.proofs.PullLaws.{built-alike}
 use Rattle.kan_search.proofs.searching.Search.open.Goals as goal

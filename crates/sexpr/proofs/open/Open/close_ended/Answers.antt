@@ -3,7 +3,7 @@ use Rattle.std.proofs.Common.{ap, map, ◌∙◌}
 use Rattle.std.specs.Prelude.{Some}
 use Rattle.sexpr.specs.Seen.{as_kept, list_of, written}
 use Rattle.sexpr.specs.Frames.{place}
-use Rattle.kan_model.specs.Open.{put}
+use Rattle.kan_grammar.specs.Data.Enclosing.{put}
 use Rattle.sexpr.proofs.SeenLaws.{written_dotted}
 use Rattle.sexpr.proofs.FrameLaws.{on_ok}
 use Rattle.sexpr.proofs.open.Open.close_ended.Goals as goal

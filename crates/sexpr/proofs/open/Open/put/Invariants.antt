@@ -1,7 +1,7 @@
 -- What is left to put gives what putting the datum at the start gives.
 use Rattle.std.proofs.Common.{◌≡◌, ◌<◌, None, vec_len}
 use Rattle.std.specs.List.{fold}
-use Rattle.kan_model.specs.Open.{put}
+use Rattle.kan_grammar.specs.Data.Enclosing.{put}
 use Rattle.sexpr.specs.Seen.{Table, written, as_kept}
 use Rattle.sexpr.specs.Frames.{deepened, place}
 use Rattle.sexpr.proofs.open.Open.put.Given as goal

@@ -1,6 +1,6 @@
 -- Where a datum may begin, the atom itself is refused.
 use Rattle.std.proofs.Common.{refl}
-use Rattle.kan_model.specs.Words.{atom, reserved}
+use Rattle.kan_grammar.specs.Data.Words.{atom, reserved}
 use Rattle.sexpr.proofs.FrameLaws.{refused_last}
 use Rattle.sexpr.proofs.open.Open.reserved.Goals as goal
 

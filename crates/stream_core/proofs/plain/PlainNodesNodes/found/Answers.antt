@@ -1,7 +1,7 @@
 use Rattle.std.proofs.Common.{◌≡◌, length, arith, rules, ap, sym, ◌∙◌}
 use Rattle.std.specs.Vec.{vec_len}
 use Rattle.std.specs.Prelude.{is_some}
-use Rattle.kan_model.specs.Programs as programs
+use Rattle.kan_model.specs.Programs.Closed as programs
 use Rattle.stream_core.proofs.KeepingLaws.{placed-within, kept-is-force, told-row}
 use Rattle.stream_core.proofs.plain.PlainNodesNodes.found.Goals as goal
 

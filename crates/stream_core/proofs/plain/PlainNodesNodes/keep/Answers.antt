@@ -1,6 +1,6 @@
 use Rattle.std.proofs.Common.{◌≡◌, length, arith, rules, refl}
 use Rattle.std.specs.Vec.{vec_len}
-use Rattle.kan_model.specs.Programs as programs
+use Rattle.kan_model.specs.Programs.Closed as programs
 use Rattle.stream_core.proofs.KeepingLaws.{placed-within, rows-kept, kept-grows, force-grows, kept-told, others-told}
 use Rattle.stream_core.proofs.plain.PlainNodesNodes.keep.Goals as goal
 

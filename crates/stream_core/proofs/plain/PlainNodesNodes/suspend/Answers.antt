@@ -1,5 +1,5 @@
 use Rattle.std.proofs.Common.{◌≡◌, length, refl, rules}
-use Rattle.kan_model.specs.Programs as programs
+use Rattle.kan_model.specs.Programs.Closed as programs
 use Rattle.stream_core.proofs.KeepingLaws.{rows-grown, pushed-grows, pushed-told, pushed-belongs}
 use Rattle.stream_core.proofs.plain.PlainNodesNodes.suspend.Goals as goal
 

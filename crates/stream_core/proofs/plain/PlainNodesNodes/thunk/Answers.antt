@@ -1,6 +1,6 @@
 use Rattle.std.proofs.Common.{◌≡◌, length, arith, rules}
 use Rattle.std.specs.Vec.{vec_len}
-use Rattle.kan_model.specs.Programs as programs
+use Rattle.kan_model.specs.Programs.Closed as programs
 use Rattle.stream_core.proofs.KeepingLaws.{placed-within, row-belongs, row-stands}
 use Rattle.stream_core.proofs.plain.PlainNodesNodes.thunk.Goals as goal
 

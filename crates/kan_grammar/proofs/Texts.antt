@@ -1,0 +1,4 @@
+-- The grammar of texts.
+mod TextExamples
+mod FaultExamples
+mod ProgramExamples

@@ -1,0 +1,5 @@
+use Rattle.kan_grammar.proofs.Data.First.{refuses_first}
+use Rattle.kan_grammar.proofs.reading_laws.refuses_first.Goals as goal
+
+pub returns : goal.returns
+returns c = refuses_first

@@ -1,0 +1,10 @@
+-- The grammar of texts.
+pub mod Sited
+pub mod Language
+pub mod Binders
+pub mod TermForms
+pub mod GoalForms
+pub mod TopForms
+pub mod Resolved
+pub mod ProgramText
+pub mod TextFaults

@@ -1,0 +1,9 @@
+-- Answers and their text.
+pub mod AnswerExamples
+pub mod AnswerLaws
+pub mod ByteOrder
+pub mod FormLaws
+pub mod NameLaws
+pub mod OwnForm
+pub mod SolvedForms
+pub mod OutputExamples

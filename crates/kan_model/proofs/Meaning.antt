@@ -1,0 +1,3 @@
+-- What goals mean, without any search.
+pub mod DerivationLaws
+pub mod MeaningExamples

@@ -1,0 +1,3 @@
+-- Streams: running, forcing and taking.
+pub mod StreamLaws
+pub mod RunExamples

@@ -1,8 +1,0 @@
-use Rattle.std.proofs.Common.{◌≡◌, map, take}
-use Rattle.kan_model.specs.Stores.{equations}
-use Rattle.kan_model.specs.Prims.{prim as primitive}
-use Rattle.kan_model.specs.Solving.{equation}
-use Rattle.kan_model.proofs.plain.list_equations.Given as goal
-
-abbrev pub invariant-loop-prim : goal.invariant-loop-prim
-invariant-loop-prim l = map equation l.listed.items ≡ equations (map primitive (take l.prim-index l.prims))

@@ -1,5 +1,0 @@
-use Rattle.kan_model.proofs.Cutting.{cuts_before}
-use Rattle.kan_model.proofs.reading_laws.cuts_before.Goals as goal
-
-pub returns : goal.returns
-returns c = cuts_before

@@ -1,0 +1,3 @@
+-- What goals mean, without any search.
+pub mod Holds
+pub mod Derivations

@@ -1,0 +1,45 @@
+-- What a program of the code stands for.
+use Rattle.std.specs.Prelude.{◌≡◌, ℕ, List, true, false, Result, Ok, Err}
+use Rattle.kan_model.specs.Programs.Goals as model
+use Rattle.kan_model.specs.Programs.Goals.{Template, Goal}
+use Rattle.kan_model.specs.Programs.Tables as facts
+use Rattle.kan_model.specs.Programs.Tables.{Tables, program_of, nothing_open}
+use Rattle.kan_model.specs.Programs.Drafts as drafts
+use Rattle.kan_model.specs.declared.draft.Draft.{Draft}
+use Rattle.kan_model.specs.declared.program.Program.{Program}
+use Rattle.kan_model.specs.declared.program.CloseRefused.{CloseRefused}
+use Rattle.kan_model.specs.declared.program.CloseRefused.TheVariants.{Open, Memory}
+
+abbrev pub tables : Program → Tables
+tables p = drafts.tables p.draft
+
+-- the templates, the goals and the program that its tables stand for
+abbrev pub templates : Program → List Template
+templates p = drafts.templates p.draft
+
+abbrev pub goals : Program → List Goal
+goals p = drafts.goals p.draft
+
+abbrev pub meaning : Program → model.Program
+meaning p = program_of (tables p)
+
+-- the template and the goal at a place
+abbrev pub template : Program → ℕ → Template
+template p i = facts.template_at (templates p) i
+
+abbrev pub goal : Program → ℕ → Goal
+goal p i = facts.goal_at (goals p) i
+
+-- the goal of an entry, from the goals of the program
+abbrev pub entry_goal : Program → facts.GoalEntry → Goal
+entry_goal p e = facts.goal_of (templates p) (tables p).arguments (goals p) e
+
+-- a refused draft is the one that was given, and is open where that is said
+abbrev pub HandsBack : Draft → List ℕ → CloseRefused → Type 0
+HandsBack d queries (Open back) = (back ≡ d) × (nothing_open (drafts.tables d) queries ≡ false)
+HandsBack d queries (Memory back) = back ≡ d
+
+-- what closing a draft for the goals of queries gives: its tables, where nothing is open
+abbrev pub Closes : Draft → List ℕ → Result Program CloseRefused → Type 0
+Closes d queries (Ok p) = (tables p ≡ drafts.tables d) × (nothing_open (drafts.tables d) queries ≡ true)
+Closes d queries (Err refused) = HandsBack d queries refused

@@ -1,0 +1,3 @@
+-- Terms as letters.
+pub mod Letters
+pub mod Flat

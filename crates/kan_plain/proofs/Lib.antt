@@ -1,0 +1,3 @@
+pub mod SolvingLaws
+pub mod SolvingSteps
+pub mod PlainLaws

@@ -1,0 +1,152 @@
+-- How many steps solving takes, and what each step leaves.
+use Rattle.std.proofs.Common.{◌≡◌, ℕ, suc, Bool, ◌<◌, List, [], ◌∷◌, ◌++◌, map, refl, sym, ◌∙◌, ap, subst, Option, Some, None, option_map, arith, true, false, true≢false}
+use Rattle.std.proofs.lemmas.List.{map_push, map-append}
+use Rattle.kan_terms.specs.Tree.{Tm}
+use Rattle.kan_terms.specs.declared.terms.TermPair.{TermPair}
+use Rattle.kan_model.specs.Stores.Store.{Equation}
+use Rattle.kan_model.specs.Stores.Solve.{Replacement, Work, Solves, work, put_first, replace_sides, solve, left_first}
+use Rattle.kan_plain.specs.Solving.{backwards, stacked, finished, apply_sides, StepTo}
+use Rattle.kan_model.specs.Stores.Prims.{equation}
+use Rattle.kan_model.proofs.Solving.SolveLaws.{solve_by-Solves, solve_by-identical, solve_by-parts, solve_by-substitute, solve_by-clash, solve_by-nothing}
+use Rattle.kan_plain.proofs.SolvingLaws.{finished-push}
+
+-- how many steps an answer took
+abbrev pub cost : {left : ℕ → ℕ → Bool} {es : List Equation} {r : Option Replacement} → Solves left es r → ℕ
+cost Solves.no_equation = 0
+cost (Solves.identical h d) = suc (cost d)
+cost (Solves.parted h d) = suc (cost d)
+cost (Solves.replaced h d) = suc (cost d)
+cost (Solves.no_answer h) = 1
+
+-- what the steps come from, by the work on the first equation
+abbrev CostFrom : (ℕ → ℕ → Bool) → List Equation → ℕ → Work → Type 0
+CostFrom left es n Work.identical = (r : Option Replacement) × (d : Solves left es r) × (n ≡ suc (cost d))
+CostFrom left es n (Work.parts first rest) = (r : Option Replacement) × (d : Solves left (first ∷ rest ∷ es) r) × (n ≡ suc (cost d))
+CostFrom left es n (Work.substitute x t) = (r : Option Replacement) × (d : Solves left (map (replace_sides x t) es) r) × (n ≡ suc (cost d))
+CostFrom left es n Work.clash = n ≡ 1
+
+cost_from : (left : ℕ → ℕ → Bool) (e : Equation) (es : List Equation) (r : Option Replacement) (d : Solves left (e ∷ es) r) → CostFrom left es (cost d) (work left e)
+cost_from left e es r (Solves.identical {r = q} h d) = rw h (q, d, refl)
+cost_from left e es r (Solves.parted {r = q} h d) = rw h (q, d, refl)
+cost_from left e es r (Solves.replaced {r = q} h d) = rw h (q, d, refl)
+cost_from left e es r (Solves.no_answer h) = rw h refl
+
+no_cost : (left : ℕ → ℕ → Bool) (r : Option Replacement) (d : Solves left [] r) → 0 ≡ cost d
+no_cost left r Solves.no_equation = refl
+
+-- all answers of equations take the same steps
+cost_one : (left : ℕ → ℕ → Bool) (es : List Equation) (r q : Option Replacement) (d : Solves left es r) (other : Solves left es q) → cost d ≡ cost other
+cost_one left es r q Solves.no_equation other = no_cost left q other
+cost_one left es r q (Solves.identical {e = e} {es = rest} h d) other =
+    let (q', d', same) = subst (CostFrom left rest (cost other)) h (cost_from left e rest q other) in
+    ap suc (cost_one left rest r q' d d') ∙ sym same
+cost_one left es r q (Solves.parted {e = e} {first = first} {rest = last} {es = rest} h d) other =
+    let (q', d', same) = subst (CostFrom left rest (cost other)) h (cost_from left e rest q other) in
+    ap suc (cost_one left (first ∷ last ∷ rest) r q' d d') ∙ sym same
+cost_one left es r q (Solves.replaced {e = e} {x = x} {t = t} {es = rest} {r = r'} h d) other =
+    let (q', d', same) = subst (CostFrom left rest (cost other)) h (cost_from left e rest q other) in
+    ap suc (cost_one left (map (replace_sides x t) rest) r' q' d d') ∙ sym same
+cost_one left es r q (Solves.no_answer {e = e} {es = rest} h) other = sym (subst (CostFrom left rest (cost other)) h (cost_from left e rest q other))
+
+-- how many steps equations take
+pub steps_for : List Equation → ℕ
+steps_for es = cost (solve_by-Solves left_first es)
+
+pub steps_identical : (e : Equation) (es : List Equation) → work left_first e ≡ Work.identical → steps_for es < steps_for (e ∷ es)
+unfolding steps_for
+steps_identical e es h =
+    let same = cost_one left_first (e ∷ es) _ _ (solve_by-Solves left_first (e ∷ es)) (Solves.identical h (solve_by-Solves left_first es)) in
+    omega (arith, same)
+
+pub steps_parts : (e first rest : Equation) (es : List Equation) → work left_first e ≡ Work.parts first rest → steps_for (first ∷ rest ∷ es) < steps_for (e ∷ es)
+unfolding steps_for
+steps_parts e first rest es h =
+    let same = cost_one left_first (e ∷ es) _ _ (solve_by-Solves left_first (e ∷ es)) (Solves.parted h (solve_by-Solves left_first (first ∷ rest ∷ es))) in
+    omega (arith, same)
+
+pub steps_substitute : (e : Equation) (x : ℕ) (t : Tm) (es : List Equation) → work left_first e ≡ Work.substitute x t → steps_for (map (replace_sides x t) es) < steps_for (e ∷ es)
+unfolding steps_for
+steps_substitute e x t es h =
+    let same = cost_one left_first (e ∷ es) _ _ (solve_by-Solves left_first (e ∷ es)) (Solves.replaced h (solve_by-Solves left_first (map (replace_sides x t) es))) in
+    omega (arith, same)
+
+-- the top of a stack comes first
+pub backwards-push : {X : Type 0} (xs : List X) (x : X) → backwards (xs ++ x ∷ []) ≡ x ∷ backwards xs
+backwards-push [] x = refl
+backwards-push (y ∷ ys) x = ap (λ zs. zs ++ y ∷ []) (backwards-push ys x)
+
+pub stacked-push : (pending : List TermPair) (e : TermPair) → stacked (pending ++ e ∷ []) ≡ equation e ∷ stacked pending
+stacked-push pending e = ap backwards (map_push equation pending e) ∙ backwards-push (map equation pending) (equation e)
+
+pub backwards-map : {X Y : Type 0} (f : X → Y) (xs : List X) → backwards (map f xs) ≡ map f (backwards xs)
+backwards-map f [] = refl
+backwards-map f (x ∷ xs) = ap (λ ys. ys ++ f x ∷ []) (backwards-map f xs) ∙ sym (map-append f (backwards xs) (x ∷ []))
+
+-- a step keeps the whole answer, and leaves fewer steps
+pub step_keeps : (e : Equation) (es es' : List Equation) (ms ms' : Replacement) (goes_on : Bool) →
+    StepTo es ms goes_on es' ms' (work left_first e) → goes_on ≡ true →
+    (finished ms' (solve es') ≡ finished ms (solve (e ∷ es))) × (steps_for es' < steps_for (e ∷ es))
+step_keeps e es es' ms ms' goes_on moved on = by (work left_first e) refl moved
+  where
+    by : (w : Work) → work left_first e ≡ w → StepTo es ms goes_on es' ms' w →
+        (finished ms' (solve es') ≡ finished ms (solve (e ∷ es))) × (steps_for es' < steps_for (e ∷ es))
+    by Work.identical h (_, left, made) = rw (left, made) (ap (finished ms) (sym (solve_by-identical left_first e es h)), steps_identical e es h)
+    by (Work.parts first rest) h (_, left, made) = rw (left, made) (ap (finished ms) (sym (solve_by-parts left_first e first rest es h)), steps_parts e first rest es h)
+    by (Work.substitute x t) h (_, left, made) =
+        rw (left, made) (
+          finished-push ms (record { var = x; by = t }) (solve (map (replace_sides x t) es)) ∙ ap (finished ms) (sym (solve_by-substitute left_first e x t es h)),
+          steps_substitute e x t es h,
+        )
+    by Work.clash h stopped = absurd (true≢false (sym on ∙ stopped))
+
+-- a step that stops finds no answer
+pub step_stops : (e : Equation) (es es' : List Equation) (ms ms' : Replacement) (goes_on : Bool) →
+    StepTo es ms goes_on es' ms' (work left_first e) → goes_on ≡ false → solve (e ∷ es) ≡ None
+step_stops e es es' ms ms' goes_on moved off = by (work left_first e) refl moved
+  where
+    by : (w : Work) → work left_first e ≡ w → StepTo es ms goes_on es' ms' w → solve (e ∷ es) ≡ None
+    by Work.identical h (on, _, _) = absurd (true≢false (sym on ∙ off))
+    by (Work.parts first rest) h (on, _, _) = absurd (true≢false (sym on ∙ off))
+    by (Work.substitute x t) h (on, _, _) = absurd (true≢false (sym on ∙ off))
+    by Work.clash h stopped = solve_by-clash left_first e es h
+
+-- replacements in front of no answer
+finished_none : (ms : Replacement) → finished ms None ≡ None
+finished_none [] = refl
+finished_none (m ∷ ms) = ap (option_map (put_first m.var m.by)) (finished_none ms)
+
+-- the loop of steps: what one of them does to the stack
+pub loop_keeps : (old rest new : List TermPair) (e : TermPair) (ms ms' : Replacement) (goes_on : Bool) (whole : Option Replacement) →
+    old ≡ rest ++ e ∷ [] → StepTo (stacked rest) ms goes_on (stacked new) ms' (work left_first (equation e)) → goes_on ≡ true →
+    finished ms (solve (stacked old)) ≡ whole → finished ms' (solve (stacked new)) ≡ whole
+loop_keeps old rest new e ms ms' goes_on whole split moved on kept =
+    (step_keeps (equation e) (stacked rest) (stacked new) ms ms' goes_on moved on).0 ∙ ap (λ es. finished ms (solve es)) (sym (stacked-push rest e) ∙ sym (ap stacked split)) ∙ kept
+
+pub loop_falls : (old rest new : List TermPair) (e : TermPair) (ms ms' : Replacement) (goes_on : Bool) →
+    old ≡ rest ++ e ∷ [] → StepTo (stacked rest) ms goes_on (stacked new) ms' (work left_first (equation e)) → goes_on ≡ true →
+    steps_for (stacked new) < steps_for (stacked old)
+loop_falls old rest new e ms ms' goes_on split moved on =
+    rw (split, stacked-push) (step_keeps (equation e) (stacked rest) (stacked new) ms ms' goes_on moved on).1
+
+pub loop_stops : (old rest new : List TermPair) (e : TermPair) (ms ms' : Replacement) (goes_on : Bool) (whole : Option Replacement) →
+    old ≡ rest ++ e ∷ [] → StepTo (stacked rest) ms goes_on (stacked new) ms' (work left_first (equation e)) → goes_on ≡ false →
+    finished ms (solve (stacked old)) ≡ whole → None ≡ whole
+loop_stops old rest new e ms ms' goes_on whole split moved off kept =
+    let none : solve (stacked old) ≡ None = ap solve (ap stacked split ∙ stacked-push rest e) ∙ step_stops (equation e) (stacked rest) (stacked new) ms ms' goes_on moved off in
+    sym (finished_none ms) ∙ ap (finished ms) (sym none) ∙ kept
+
+pub loop_ends : (old : List TermPair) (ms : Replacement) (r whole : Option Replacement) →
+    old ≡ [] → r ≡ finished ms (Some []) → finished ms (solve (stacked old)) ≡ whole → r ≡ whole
+loop_ends old ms r whole none all kept =
+    all ∙ ap (finished ms) (sym (ap (λ pending. solve (stacked pending)) none ∙ solve_by-nothing left_first)) ∙ kept
+
+-- a replacement that goes through a stack
+pub stacked-apply : (x : ℕ) (t : Tm) (after pending : List TermPair) →
+    map equation after ≡ map (apply_sides (record { var = x; by = t } ∷ [])) (map equation pending) → stacked after ≡ map (replace_sides x t) (stacked pending)
+stacked-apply x t after pending h = ap backwards h ∙ backwards-map (replace_sides x t) (map equation pending)
+
+-- the two equations of a pair on the stack
+pub parts_step : (old mid new : List TermPair) (first rest : TermPair) (ms : Replacement) (w : Work) →
+    w ≡ Work.parts (equation first) (equation rest) → mid ≡ old ++ rest ∷ [] → new ≡ mid ++ first ∷ [] → StepTo (stacked old) ms true (stacked new) ms w
+parts_step old mid new first rest ms w is_parts one two =
+    rw is_parts (refl, ap stacked two ∙ stacked-push mid first ∙ ap (λ es. equation first ∷ es) (ap stacked one ∙ stacked-push old rest), refl)
