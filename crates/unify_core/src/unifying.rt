@@ -10,7 +10,7 @@ ghost use Rattle.unify_core.specs.Lent.{Binds, Fresh, Parts, StepTo, equation_of
 ghost use Rattle.unify_core.specs.Solutions.{AddedTo, IsSolution, bindings_solved, equation};
 ghost use Rattle.unify_core.specs.Unifying.{Unifying, met, same_atoms, taken_apart};
 
-use crate::occurring::{is_variable, occurs_on};
+use crate::occurring::{is_inside, is_variable};
 use crate::walking::{Lent, walk_on};
 use kan_terms::{Bindings, Memory, Term, TermPair, TermPairs};
 use std::alloc::Global;
@@ -82,7 +82,7 @@ fn bind_unless_inside<'a, B: Bindings>(
     requires { HasNoCycle (with_lent lent.old.items (B.pairs bindings.now)) }
     ensures { IfOk result (λ fits. Binds (B.pairs bindings.now) lent.old.items fits lent.new.items var (tree term.now)) }
 {
-    if occurs_on(alloc, var, term, bindings, lent)? {
+    if is_inside(alloc, var, term, bindings, lent)? {
         return Ok(false);
     }
     lent.push(Lent { var, term })?;
@@ -129,7 +129,10 @@ fn lend_bindings<'a, B: Bindings>(
 {
     let mut lent = Vec::new(alloc);
     let mut waiting = Vec::new(alloc);
-    waiting.push(Sides { left, right })?;
+    let both = Sides { left, right };
+    if !step(alloc, both, bindings, &mut lent, &mut waiting)? {
+        return Ok(None);
+    }
     while let Some(next) = waiting.pop() {
         let goes_on = step(alloc, next, bindings, &mut lent, &mut waiting)?;
         if !goes_on {
@@ -152,7 +155,7 @@ fn take_over<'a, B: Bindings>(
     let mut made = bindings.again()?;
     let mut added = TermPairs::new(alloc);
     for one in lent {
-        made = made.bind(one.var, one.term)?;
+        made = made.bind_owned(one.var, one.term)?;
         let pair = TermPair {
             first: Term::Var(one.var),
             rest: one.term.again()?,
