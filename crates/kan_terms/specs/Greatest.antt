@@ -12,6 +12,7 @@ greater (Some x) (Some y) = Some (max x y)
 abbrev pub greatest_in : Tm → Option ℕ
 greatest_in (Tree.leaf v) = Some v
 greatest_in (Tree.sym s) = None
+greatest_in (Tree.str s) = None
 greatest_in (Tree.num n) = None
 greatest_in (Tree.truth b) = None
 greatest_in Tree.nil = None

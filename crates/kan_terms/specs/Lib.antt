@@ -3,10 +3,11 @@ pub mod Greatest
 pub mod Lists
 pub mod Memory
 pub mod PartsFall
-pub mod TermCode
 pub mod Reading
 pub mod Spelling
 pub mod Table
+pub mod TableCode
+pub mod TermCode
 pub mod Tree
 pub mod Terms
 pub mod Valuations

@@ -2,7 +2,7 @@
 use Rattle.std.specs.Prelude.{◌≤◌, ◌+◌, max}
 use Rattle.std.proofs.Common.{arith}
 use Rattle.kan_terms.specs.declared.terms.Term.{Term}
-use Rattle.kan_terms.specs.declared.terms.Term.TheVariants.{Var, Sym, Num, Truth, Nil, Pair}
+use Rattle.kan_terms.specs.declared.terms.Term.TheVariants.{Var, Sym, Str, Num, Truth, Nil, Pair}
 use Rattle.kan_terms.specs.declared.terms.PairParts.TheDeep.{deep-Term}
 use Rattle.kan_terms.specs.Tree.{Tree, size}
 use Rattle.kan_terms.specs.Terms.{tree}
@@ -11,6 +11,7 @@ use Rattle.kan_terms.specs.Terms.{tree}
 pub deep_le : (t : Term) → deep-Term t ≤ size (tree t)
 deep_le (Var v) = omega arith
 deep_le (Sym s) = omega arith
+deep_le (Str s) = omega arith
 deep_le (Num n) = omega arith
 deep_le (Truth b) = omega arith
 deep_le Nil = omega arith

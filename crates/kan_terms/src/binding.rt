@@ -29,7 +29,7 @@ pub trait Bindings: Sized + Drop {
         requires { bound_to var (pairs self.now) ≡ None }
         ensures { IfOk result (λ made. pairs made ≡ (var, tree term.now) ∷ pairs self.now) };
 
-    /// The same bindings with one more, by value: they are changed in place where nobody else holds them.
+    /// What `bind` gives, made of these bindings themselves: in place where nobody else holds them.
     fn bind_owned(self, var: u64, term: &Term) -> Result<Self, Memory>
         requires { bound_to var (pairs self) ≡ None }
         ensures { IfOk result (λ made. pairs made ≡ (var, tree term.now) ∷ pairs self) };

@@ -32,12 +32,13 @@ impl<T: Drop> From<AllocFailed<T>> for Memory {
 
 /// A term of the engine.
 #[cycle(term)]
-#[derive(Drop)]
 pub enum Term {
     /// A logic variable, by its number.
     Var(u64),
     /// A symbol, by its number in the table of names.
     Sym(u32),
+    /// A string, by its number in the table of strings.
+    Str(u32),
     /// A whole number.
     Num(i128),
     /// A truth value.
@@ -46,6 +47,32 @@ pub enum Term {
     Nil,
     /// A pair, which may be shared with other terms.
     Pair(Arc<PairParts>),
+}
+
+// A loop along the rests, so that a long list is dropped in little stack: only first parts are dropped by recursion.
+impl Drop for Term {
+    fn drop(mut self) {
+        loop {
+            match self {
+                Term::Pair(parts) => match Arc::into_inner(parts) {
+                    Some(
+                        PairParts {
+                            first: _,
+                            rest,
+                            greatest: _,
+                        },
+                    ) => self = rest,
+                    None => return,
+                },
+                Term::Var(_) => return,
+                Term::Sym(_) => return,
+                Term::Str(_) => return,
+                Term::Num(_) => return,
+                Term::Truth(_) => return,
+                Term::Nil => return,
+            }
+        }
+    }
 }
 
 /// The two parts of a pair.
@@ -61,9 +88,9 @@ pub struct PairParts {
 
 impl Model for PairParts {
     ghost use Rattle.std.specs.Prelude.{◌+◌, ◌≡◌};
+    ghost use Rattle.kan_terms.specs.Greatest.{greater, greatest_in};
     ghost use Rattle.kan_terms.specs.Tree.{Tm};
     ghost use Rattle.kan_terms.specs.Tree as trees;
-    ghost use Rattle.kan_terms.specs.Greatest.{greater, greatest_in};
     ghost use Rattle.kan_terms.specs.TermCode.{sides_code};
 
     ghost Value = { Tm × Tm };
@@ -119,7 +146,7 @@ impl Term {
     {
         match self {
             Term::Var(var) => Some(*var),
-            Term::Sym(_) | Term::Num(_) | Term::Truth(_) | Term::Nil => None,
+            Term::Sym(_) | Term::Str(_) | Term::Num(_) | Term::Truth(_) | Term::Nil => None,
             Term::Pair(parts) => parts.greatest_variable(),
         }
     }
@@ -145,6 +172,7 @@ impl Term {
         Ok(match self {
             Term::Var(var) => Term::Var(*var),
             Term::Sym(name) => Term::Sym(*name),
+            Term::Str(text) => Term::Str(*text),
             Term::Num(number) => Term::Num(*number),
             Term::Truth(truth) => Term::Truth(*truth),
             Term::Nil => Term::Nil,
