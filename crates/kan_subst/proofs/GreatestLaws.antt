@@ -1,6 +1,5 @@
 -- The greatest variable of bindings that are gone through from the last one on.
 use Rattle.std.proofs.Common.{◌≡◌, ℕ, suc, ◌+◌, ◌-◌, ◌<◌, ◌≤◌, List, [], map, length, get_or, drop, sym, ◌∙◌, ap, drop-cons, Option, Some, None, refl, arith}
-
 use Rattle.kan_terms.specs.Terms.{tree}
 use Rattle.kan_terms.specs.Greatest.{greater, greatest_in, greatest_bound}
 use Rattle.kan_subst.specs.Stored.{pair}

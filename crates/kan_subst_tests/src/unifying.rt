@@ -18,12 +18,14 @@ fn adds_in_order<B: Bindings>(alloc: Global) -> Result<bool, Memory> {
     let Some(made) = unify(alloc, &left, &right, &bindings)? else {
         return Ok(false);
     };
-    Ok(made.added.len() == 2
-        && binds(made.added.get(0), 0, 2)
-        && binds(made.added.get(1), 1, 1)
-        && is_number(made.bindings.get(0), 2)
-        && is_number(made.bindings.get(1), 1)
-        && bindings.get(0).is_none())
+    Ok(
+        made.added.len() == 2
+            && binds(made.added.get(0), 0, 2)
+            && binds(made.added.get(1), 1, 1)
+            && is_number(made.bindings.get(0), 2)
+            && is_number(made.bindings.get(1), 1)
+            && bindings.get(0).is_none(),
+    )
 }
 
 // Whether the left variable is bound to the right one.
@@ -80,9 +82,11 @@ fn goes_through<B: Bindings>(alloc: Global, left: &Term, right: &Term) -> Result
     let Some(made) = unify(alloc, left, right, &bindings)? else {
         return Ok(false);
     };
-    Ok(made.added.len() == 1
-        && binds(made.added.get(0), 0, 7)
-        && unify(alloc, &Term::Var(0), left, &bindings)?.is_none())
+    Ok(
+        made.added.len() == 1
+            && binds(made.added.get(0), 0, 7)
+            && unify(alloc, &Term::Var(0), left, &bindings)?.is_none(),
+    )
 }
 
 // A list of numbers that stands in the bindings pair by pair: each variable is bound to a pair whose rest is the next variable.

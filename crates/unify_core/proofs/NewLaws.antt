@@ -28,6 +28,7 @@ up_to-right y (Some g) (Some k) h = omega (arith, h)
 pub occurs-up_to : (y : ℕ) (t : Tm) → occurs y t ≡ true → IsUpTo y (greatest_in t)
 occurs-up_to y (Tree.leaf v) inside = omega (arith, eqb-true y v inside)
 occurs-up_to y (Tree.sym s) inside = cc
+occurs-up_to y (Tree.str s) inside = cc
 occurs-up_to y (Tree.num n) inside = cc
 occurs-up_to y (Tree.truth b) inside = cc
 occurs-up_to y Tree.nil inside = cc
@@ -41,7 +42,7 @@ occurs-up_to y (Tree.pair a b) inside =
 pub none_in_full : (bound : Pairs) (x : ℕ) (t : Tm) → greatest_in t ≡ None → occurs x (full bound t) ≡ false
 none_in_full bound x t none =
     false_from_ne_true (occurs x (full bound t)) (λ inside.
-      let (z, in_t, same) = occurs-fill x (ends bound) t inside in absurd (subst (IsUpTo z) none (occurs-up_to z t in_t)))
+    let (z, in_t, same) = occurs-fill x (ends bound) t inside in absurd (subst (IsUpTo z) none (occurs-up_to z t in_t)))
 
 -- no variable of a term is above a number
 abbrev pub UpTo : ℕ → Tm → Type 0

@@ -55,6 +55,7 @@ found_here : (bound : Pairs) → HasNoCycle bound → (x : ℕ) (t w : Tm) → w
 found_here bound h x t (Tree.leaf y) reached e =
     ap (occurs x) (sym (full-walked bound (grown bound h) t) ∙ ap (full bound) (sym reached) ∙ ends-unbound bound y (walked-end bound (grown bound h) t y (sym reached))) ∙ e
 found_here bound h x t (Tree.sym s) reached e = cc
+found_here bound h x t (Tree.str s) reached e = cc
 found_here bound h x t (Tree.num n) reached e = cc
 found_here bound h x t (Tree.truth b) reached e = cc
 found_here bound h x t Tree.nil reached e = cc
@@ -75,6 +76,7 @@ in_parts bound h x t w ts reached e = by w (λ y same. ends-unbound bound y (wal
     by : (w : Tm) → ((y : ℕ) → w ≡ Tree.leaf y → full bound (Tree.leaf y) ≡ Tree.leaf y) → is_variable x w ≡ false → stands_in bound x (open_parts w ++ ts) ≡ (occurs x (full bound w) || stands_in bound x ts)
     by (Tree.leaf y) own e = sym (ap (λ c. c || stands_in bound x ts) (ap (occurs x) (own y refl) ∙ e))
     by (Tree.sym s) own e = refl
+    by (Tree.str s) own e = refl
     by (Tree.num n) own e = refl
     by (Tree.truth b) own e = refl
     by Tree.nil own e = refl
@@ -94,6 +96,7 @@ fewer_nodes bound h t w ts reached = by w whole
     by : (w : Tm) → size (full bound w) ≡ size (full bound t) → nodes bound (open_parts w ++ ts) < nodes bound (t ∷ ts)
     by (Tree.leaf y) same = omega (arith, size-positive (full bound t))
     by (Tree.sym s) same = omega (arith, same)
+    by (Tree.str s) same = omega (arith, same)
     by (Tree.num n) same = omega (arith, same)
     by (Tree.truth b) same = omega (arith, same)
     by Tree.nil same = omega (arith, same)

@@ -38,6 +38,7 @@ fn same_atom(left: &Term, right: &Term) -> bool
     match left {
         Term::Var(var) => is_variable(right, *var),
         Term::Sym(name) => matches!(right, Term::Sym(other) if *name == *other),
+        Term::Str(text) => matches!(right, Term::Str(other) if *text == *other),
         Term::Num(number) => matches!(right, Term::Num(other) if *number == *other),
         Term::Truth(truth) => matches!(right, Term::Truth(other) if *truth == *other),
         Term::Nil => matches!(right, Term::Nil),
