@@ -1,5 +1,5 @@
 -- Trees: what terms, templates and ground terms have in common. The leaves that stand for something else are of any type.
-use Rattle.std.specs.Prelude.{ℕ, ◌+◌, ℤ, Bool, true, false, ◌&&◌, ◌||◌, eqb, List, [], ◌∷◌, ◌++◌}
+use Rattle.std.specs.Prelude.{ℕ, ◌+◌, ◌-◌, ◌^◌, min, ℤ, Bool, true, false, ◌&&◌, ◌||◌, eqb, List, [], ◌∷◌, ◌++◌}
 use Rattle.std.specs.Ordering.{int_eq}
 
 -- a tree with leaves of the type V beside the six kinds of constants
@@ -95,6 +95,10 @@ size (Tree.num n) = 1
 size (Tree.truth b) = 1
 size Tree.nil = 1
 size (Tree.pair a b) = 1 + size a + size b
+
+-- the same, as far as the greatest number of 64 bits
+abbrev pub noted_size : {V : Type 0} → Tree V → ℕ
+noted_size t = min (size t) (2 ^ 64 - 1)
 
 -- the first two trees, joined
 abbrev pub join_two : {V : Type 0} → List (Tree V) → List (Tree V)

@@ -10,8 +10,8 @@ ghost use Rattle.kan_terms.specs.Tree.{Tm};
 use crate::terms::{Memory, Term};
 use std::alloc::Global;
 
-/// Terms that variables are bound to. A binding is never changed or taken back: `bind` makes new bindings beside the old
-/// ones, which stay as they were.
+/// Terms that variables are bound to. A binding is never changed or taken back: `bind` makes new
+/// bindings beside the old ones, which stay as they were.
 pub trait Bindings: Sized + Drop {
     // The pairs of a variable and the term that it is bound to, the newest first.
     ghost pairs: { Self → List (ℕ × Tm) };
