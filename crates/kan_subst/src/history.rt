@@ -12,7 +12,8 @@ pub trait Tells<X> {
     ghost pairs: { X → List (ℕ × Tm) };
 }
 
-/// The pairs of bindings, the newest first. It has no bytes and owns nothing, so only a clause ties `pairs`.
+/// The pairs of bindings, the newest first. It has no bytes and owns nothing, so only a clause ties
+/// `pairs`.
 pub struct History {
     marker: PhantomData<()>,
     pub ghost pairs: { List (ℕ × Tm) } by { pairs_code },

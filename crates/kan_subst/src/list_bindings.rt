@@ -26,7 +26,8 @@ pub struct ListBindings {
 
 // Writes bindings once more, behind those that are there.
 fn copy_behind(stored: &[Binding], made: &mut Vec<Binding>) -> Result<(), Memory>
-    ensures { OnOk result (map pair made.new.items ≡ map pair made.old.items ++ map pair stored.now) }
+    ensures { OnOk result (map pair made.new.items ≡ map pair made.old.items ++
+        map pair stored.now) }
 {
     for binding in stored {
         made.push(Binding {

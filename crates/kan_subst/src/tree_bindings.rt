@@ -33,7 +33,8 @@ impl Model for TreeBindings {
 
     ghost view = { λ bindings. bindings.history.pairs };
 
-    ghost invariant = { λ bindings. ((x : ℕ) → found tree bindings.terms x ≡ bound_to x bindings.history.pairs)
+    ghost invariant = { λ bindings. ((x : ℕ) → found tree bindings.terms x ≡
+        bound_to x bindings.history.pairs)
         × (bindings.greatest ≡ greatest_bound bindings.history.pairs) };
 }
 

@@ -77,7 +77,8 @@ fn meets_old_terms<B: Bindings>(alloc: Global) -> Result<bool, Memory> {
     Ok(new && !inside)
 }
 
-// Whether a new variable is looked for in an old term whose variable was bound in this call to a term around the new one.
+// Whether a new variable is looked for in an old term whose variable was bound in this call to a
+// term around the new one.
 fn meets_what_was_lent<B: Bindings>(alloc: Global) -> Result<bool, Memory> {
     let y = Term::Var(3);
     let around_z = after_number(alloc, 1, Term::Var(5))?;

@@ -89,7 +89,8 @@ fn goes_through<B: Bindings>(alloc: Global, left: &Term, right: &Term) -> Result
     )
 }
 
-// A list of numbers that stands in the bindings pair by pair: each variable is bound to a pair whose rest is the next variable.
+// A list of numbers that stands in the bindings pair by pair: each variable is bound to a pair
+// whose rest is the next variable.
 fn bind_list<B: Bindings>(alloc: Global, count: u64) -> Result<Option<B>, Memory>
     requires { count < 1000000 }
     ensures { IfOk result (λ found. IfSome found (λ made. HasNoCycle (B.pairs made))) }

@@ -35,7 +35,8 @@ fn versions_to<B: Bindings>(alloc: Global, count: u64) -> Result<Vec<B>, Memory>
     Ok(versions)
 }
 
-// Whether each version has exactly the variables below its number, as far as its first, its last and its next one show.
+// Whether each version has exactly the variables below its number, as far as its first, its last
+// and its next one show.
 fn are_versions<B: Bindings>(versions: &[B]) -> bool {
     let mut number: u64 = 0;
     for version in versions {

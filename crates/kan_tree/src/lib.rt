@@ -1,4 +1,5 @@
-//! A persistent tree from variables to values, which is changed in place where nobody else holds it.
+//! A persistent tree from variables to values, which is changed in place where nobody else holds
+//! it.
 #![tactic(auto)]
 
 mod again;

@@ -1,6 +1,7 @@
 //! The nodes of the tree, which have a place for each digit of a key.
 
-ghost use Rattle.std.specs.Prelude.{◌≡◌, ◌<◌, ◌/◌, ◌%◌, ◌*◌, ◌^◌, ℕ, Some, None, eqb, if◌then◌else◌, OnOk, OnErr, IfOk};
+ghost use Rattle.std.specs.Prelude.{◌≡◌, ◌<◌, ◌/◌, ◌%◌, ◌*◌, ◌^◌, ℕ, Some, None, eqb};
+ghost use Rattle.std.specs.Prelude.{if◌then◌else◌, OnOk, OnErr, IfOk};
 ghost use Rattle.std.specs.Option.{option_map};
 ghost use Rattle.kan_tree.specs.Slots.{at};
 ghost use Rattle.std.specs.Arc.{arc_value};
@@ -57,7 +58,8 @@ pub fn find<T: Again>(node: &Node<T>, level: u32, key: u64) -> Option<&T>
 /// A node with one key.
 pub fn fresh<T: Again>(alloc: Global, level: u32, key: u64, value: T) -> Result<Node<T>, Memory>
     requires { level < 16 }
-    ensures { IfOk result (λ made. (k : ℕ) → look T.meaning level k made ≡ (if agree level k key then Some (T.meaning value) else None)) }
+    ensures { IfOk result (λ made. (k : ℕ) → look T.meaning level k made ≡
+        (if agree level k key then Some (T.meaning value) else None)) }
 {
     if level == 0 {
         let mut slots = Slots::empty(alloc);
@@ -72,7 +74,8 @@ pub fn fresh<T: Again>(alloc: Global, level: u32, key: u64, value: T) -> Result<
 
 // A copy of a node, which shares all nodes below.
 fn again<T: Again>(alloc: Global, node: &Node<T>) -> Result<Node<T>, Memory>
-    ensures { IfOk result (λ copy. (level : ℕ) (k : ℕ) → look T.meaning level k copy ≡ look T.meaning level k node.now) }
+    ensures { IfOk result (λ copy. (level : ℕ) (k : ℕ) → look T.meaning level k copy ≡
+        look T.meaning level k node.now) }
 {
     match node {
         Node::Leaf(slots) => Ok(Node::Leaf(slots.again(alloc)?)),
@@ -82,7 +85,8 @@ fn again<T: Again>(alloc: Global, node: &Node<T>) -> Result<Node<T>, Memory>
 
 // Copies the node behind a pointer, unless the pointer is its only owner.
 fn own<T: Again>(alloc: Global, node: &mut Arc<Node<T>>) -> Result<(), Memory>
-    ensures { (level : ℕ) (k : ℕ) → look T.meaning level k (arc_value node.new) ≡ look T.meaning level k (arc_value node.old) }
+    ensures { (level : ℕ) (k : ℕ) → look T.meaning level k (arc_value node.new) ≡
+        look T.meaning level k (arc_value node.old) }
 {
     if Arc::strong_count(node) != 1 {
         let copy = again(alloc, &**node)?;
@@ -91,7 +95,8 @@ fn own<T: Again>(alloc: Global, node: &mut Arc<Node<T>>) -> Result<(), Memory>
     Ok(())
 }
 
-/// Puts a value at a key into a node behind a pointer, in place where nobody else holds the nodes on the way.
+/// Puts a value at a key into a node behind a pointer, in place where nobody else holds the nodes
+/// on the way.
 #[cycle(put)]
 pub fn put_arc<T: Again>(
     alloc: Global,
@@ -101,8 +106,11 @@ pub fn put_arc<T: Again>(
     value: T,
 ) -> Result<(), Memory>
     requires { level < 16 }
-    ensures ok { OnOk result ((k : ℕ) → look T.meaning level k (arc_value node.new) ≡ (if agree level k key then Some (T.meaning value) else look T.meaning level k (arc_value node.old))) }
-    ensures err { OnErr result ((k : ℕ) → look T.meaning level k (arc_value node.new) ≡ look T.meaning level k (arc_value node.old)) }
+    ensures ok { OnOk result ((k : ℕ) → look T.meaning level k (arc_value node.new) ≡
+        (if agree level k key then Some (T.meaning value)
+        else look T.meaning level k (arc_value node.old))) }
+    ensures err { OnErr result ((k : ℕ) → look T.meaning level k (arc_value node.new) ≡
+        look T.meaning level k (arc_value node.old)) }
 {
     own(alloc, node)?;
     match Arc::get_mut(node) {
@@ -122,8 +130,11 @@ fn put_below<T: Again>(
 ) -> Result<(), Memory>
     requires high { 0 < level }
     requires low { level < 16 }
-    ensures ok { OnOk result ((k : ℕ) → look T.meaning level k (Node.Inner slots.new) ≡ (if agree level k key then Some (T.meaning value) else look T.meaning level k (Node.Inner slots.old))) }
-    ensures err { OnErr result ((k : ℕ) → look T.meaning level k (Node.Inner slots.new) ≡ look T.meaning level k (Node.Inner slots.old)) }
+    ensures ok { OnOk result ((k : ℕ) → look T.meaning level k (Node.Inner slots.new) ≡
+        (if agree level k key then Some (T.meaning value)
+        else look T.meaning level k (Node.Inner slots.old))) }
+    ensures err { OnErr result ((k : ℕ) → look T.meaning level k (Node.Inner slots.new) ≡
+        look T.meaning level k (Node.Inner slots.old)) }
 {
     let place = digit(key, level);
     let index = slots.index_of(place);
@@ -138,8 +149,11 @@ fn put_below<T: Again>(
 
 // Puts a value at a key into a leaf.
 fn put_leaf<T: Again>(slots: &mut Slots<T>, key: u64, value: T) -> Result<(), Memory>
-    ensures ok { OnOk result ((k : ℕ) → look T.meaning 0 k (Node.Leaf slots.new) ≡ (if agree 0 k key then Some (T.meaning value) else look T.meaning 0 k (Node.Leaf slots.old))) }
-    ensures err { OnErr result ((k : ℕ) → look T.meaning 0 k (Node.Leaf slots.new) ≡ look T.meaning 0 k (Node.Leaf slots.old)) }
+    ensures ok { OnOk result ((k : ℕ) → look T.meaning 0 k (Node.Leaf slots.new) ≡
+        (if agree 0 k key then Some (T.meaning value)
+        else look T.meaning 0 k (Node.Leaf slots.old))) }
+    ensures err { OnErr result ((k : ℕ) → look T.meaning 0 k (Node.Leaf slots.new) ≡
+        look T.meaning 0 k (Node.Leaf slots.old)) }
 {
     slots.put(digit(key, 0), value)
 }
@@ -154,8 +168,10 @@ fn put_node<T: Again>(
     value: T,
 ) -> Result<(), Memory>
     requires { level < 16 }
-    ensures ok { OnOk result ((k : ℕ) → look T.meaning level k node.new ≡ (if agree level k key then Some (T.meaning value) else look T.meaning level k node.old)) }
-    ensures err { OnErr result ((k : ℕ) → look T.meaning level k node.new ≡ look T.meaning level k node.old) }
+    ensures ok { OnOk result ((k : ℕ) → look T.meaning level k node.new ≡
+        (if agree level k key then Some (T.meaning value) else look T.meaning level k node.old)) }
+    ensures err { OnErr result ((k : ℕ) → look T.meaning level k node.new ≡
+        look T.meaning level k node.old) }
 {
     match node {
         Node::Leaf(slots) => {

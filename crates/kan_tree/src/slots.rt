@@ -1,6 +1,7 @@
 //! The sixteen places of a node, of which those that are filled have an entry.
 
-ghost use Rattle.std.specs.Prelude.{◌≡◌, ◌<◌, ◌≤◌, ℕ, Some, None, eqb, if◌then◌else◌, OnOk, OnErr, IfOk, IfSome, map, slice_get};
+ghost use Rattle.std.specs.Prelude.{◌≡◌, ◌<◌, ◌≤◌, ℕ, Some, None, eqb, if◌then◌else◌, OnOk, OnErr};
+ghost use Rattle.std.specs.Prelude.{IfOk, IfSome, map, slice_get};
 ghost use Rattle.std.specs.Option.{option_map};
 ghost use Rattle.std.specs.Borrow.{sem};
 ghost use Rattle.kan_tree.specs.Slots.{at, index_in};
@@ -10,7 +11,8 @@ use crate::again::Again;
 use kan_terms::Memory;
 use std::alloc::Global;
 
-/// Sixteen places. One is filled where the entry at its index has it for its owner, so nothing needs to hold of the others.
+/// Sixteen places. One is filled where the entry at its index has it for its owner, so nothing
+/// needs to hold of the others.
 #[derive(Drop)]
 pub struct Slots<E> {
     // The index of each place's entry, if it has one.
@@ -57,7 +59,8 @@ impl<E> Slots<E> {
     /// The entry at an index, to be changed.
     pub fn entry_mut(&mut self, index: usize) -> Option<&mut E>
         ensures* writes_back { sem 𝓛 (lends_entry E.row self.entry index result) }
-        ensures value { option_map (λ entry. entry.now) result ≡ slice_get self.old.entries.items index }
+        ensures value { option_map (λ entry. entry.now) result ≡
+            slice_get self.old.entries.items index }
     {
         self.entries.get_mut(index)
     }
@@ -67,7 +70,8 @@ impl<E: Drop> Slots<E> {
     /// Puts an entry at a place, over the one that is there.
     pub fn put(&mut self, place: usize, entry: E) -> Result<(), Memory>
         requires { place < 16 }
-        ensures ok { OnOk result ((d : ℕ) → at self.new d ≡ (if eqb d place then Some entry else at self.old d)) }
+        ensures ok { OnOk result ((d : ℕ) → at self.new d ≡
+            (if eqb d place then Some entry else at self.old d)) }
         ensures err { OnErr result ((d : ℕ) → at self.new d ≡ at self.old d) }
     {
         let index = self.index_of(place);
@@ -100,7 +104,8 @@ fn copied<E: Again>(alloc: Global, from: &[E], room: usize) -> Result<Vec<E>, Me
 impl<E: Again> Slots<E> {
     /// The places once more, with room for one more entry.
     pub fn again(&self, alloc: Global) -> Result<Slots<E>, Memory>
-        ensures { IfOk result (λ made. (d : ℕ) → option_map E.meaning (at made d) ≡ option_map E.meaning (at self.now d)) }
+        ensures { IfOk result (λ made. (d : ℕ) → option_map E.meaning (at made d) ≡
+            option_map E.meaning (at self.now d)) }
     {
         Ok(Slots {
             indices: self.indices,

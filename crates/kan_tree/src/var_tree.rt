@@ -1,6 +1,7 @@
 //! A tree from variables to values.
 
-ghost use Rattle.std.specs.Prelude.{◌≡◌, ◌<◌, ℕ, suc, Some, None, eqb, ltb, ◌%◌, if◌then◌else◌, OnOk, OnErr, IfOk, IsTrue, true, ◌^◌};
+ghost use Rattle.std.specs.Prelude.{◌≡◌, ◌<◌, ℕ, suc, Some, None, eqb, ltb, ◌%◌, if◌then◌else◌};
+ghost use Rattle.std.specs.Prelude.{OnOk, OnErr, IfOk, IsTrue, true, ◌^◌};
 ghost use Rattle.std.specs.Option.{option_map};
 ghost use Rattle.std.specs.Arc.{arc_value};
 ghost use Rattle.kan_tree.specs.Nodes.{look, agree};
@@ -24,7 +25,8 @@ fn fits(key: u64, level: u32) -> bool
 
 // A node one level higher.
 fn above<T: Again>(alloc: Global, root: Arc<Node<T>>) -> Result<Arc<Node<T>>, Memory>
-    ensures { IfOk result (λ up. (level : ℕ) (k : ℕ) → seen T.meaning (suc level) (arc_value up) k ≡ seen T.meaning level (arc_value root) k) }
+    ensures { IfOk result (λ up. (level : ℕ) (k : ℕ) →
+        seen T.meaning (suc level) (arc_value up) k ≡ seen T.meaning level (arc_value root) k) }
 {
     let mut slots = Slots::empty(alloc);
     slots.put(0, root)?;
@@ -48,7 +50,8 @@ fn raise<T: Again>(
     requires { level < 16 }
     ensures low { IfOk result (λ r. r.level < 16) }
     ensures fits { IfOk result (λ r. key < bound r.level) }
-    ensures same { IfOk result (λ r. (k : ℕ) → seen T.meaning r.level (arc_value r.root) k ≡ seen T.meaning level (arc_value root) k) }
+    ensures same { IfOk result (λ r. (k : ℕ) → seen T.meaning r.level (arc_value r.root) k ≡
+        seen T.meaning level (arc_value root) k) }
 {
     if level >= 15 || fits(key, level) {
         return Ok(Raised { root, level });
@@ -68,7 +71,8 @@ fn level_of(key: u64, level: u32) -> u32
     level_of(key, level + 1)
 }
 
-/// A tree from variables to values. Trees share what they have in common, and contracts see each as a finite map.
+/// A tree from variables to values. Trees share what they have in common, and contracts see each as
+/// a finite map.
 #[derive(Drop)]
 pub struct VarTree<T: Drop> {
     root: Option<Arc<Node<T>>>,
@@ -90,7 +94,8 @@ impl<T: Again> VarTree<T> {
 
     /// The tree once more, in the same time for every tree.
     pub fn again(&self) -> Result<VarTree<T>, Memory>
-        ensures { IfOk result (λ copy. (k : ℕ) → found T.meaning copy k ≡ found T.meaning self.now k) }
+        ensures { IfOk result (λ copy. (k : ℕ) → found T.meaning copy k ≡
+            found T.meaning self.now k) }
     {
         let root = match &self.root {
             Some(root) => Some(Arc::try_clone(root)?),
@@ -139,10 +144,13 @@ impl<T: Again> VarTree<T> {
         Ok(())
     }
 
-    /// Puts a value at a key, over the one that is there. What nobody else holds is changed in place, the rest is copied: other trees stay.
+    /// Puts a value at a key, over the one that is there. What nobody else holds is changed in
+    /// place, the rest is copied: other trees stay.
     pub fn put(&mut self, key: u64, value: T) -> Result<(), Memory>
-        ensures ok { OnOk result ((k : ℕ) → found T.meaning self.new k ≡ (if eqb k key then Some (T.meaning value) else found T.meaning self.old k)) }
-        ensures err { OnErr result ((k : ℕ) → found T.meaning self.new k ≡ found T.meaning self.old k) }
+        ensures ok { OnOk result ((k : ℕ) → found T.meaning self.new k ≡
+            (if eqb k key then Some (T.meaning value) else found T.meaning self.old k)) }
+        ensures err { OnErr result ((k : ℕ) → found T.meaning self.new k ≡
+            found T.meaning self.old k) }
     {
         self.grow(key)?;
         match &mut self.root {
@@ -158,7 +166,8 @@ impl<T: Again> VarTree<T> {
 
     /// A tree with a value at a key beside this one, which stays as it was.
     pub fn with(&self, key: u64, value: T) -> Result<VarTree<T>, Memory>
-        ensures { IfOk result (λ made. (k : ℕ) → found T.meaning made k ≡ (if eqb k key then Some (T.meaning value) else found T.meaning self.now k)) }
+        ensures { IfOk result (λ made. (k : ℕ) → found T.meaning made k ≡
+            (if eqb k key then Some (T.meaning value) else found T.meaning self.now k)) }
     {
         let mut made = self.again()?;
         made.put(key, value)?;

@@ -22,9 +22,11 @@ pub fn is_variable(term: &Term, var: u64) -> bool
     }
 }
 
-// Puts the parts of a pair on a stack of waiting terms, the first part on top, unless it has no variable.
+// Puts the parts of a pair on a stack of waiting terms, the first part on top, unless it has no
+// variable.
 fn wait_for_parts<'a>(term: &'a Term, waiting: &mut Vec<&'a Term>) -> Result<(), Memory>
-    ensures { OnOk result (waiting_trees waiting.new.items ≡ open_parts (tree term.now) ++ waiting_trees waiting.old.items) }
+    ensures { OnOk result (waiting_trees waiting.new.items ≡ open_parts (tree term.now) ++
+        waiting_trees waiting.old.items) }
 {
     if term.greatest_variable().is_none() {
         return Ok(());
@@ -45,9 +47,12 @@ fn look_at<'a, B: Bindings>(
     waiting: &mut Vec<&'a Term>,
 ) -> Result<bool, Memory>
     requires { HasNoCycle (with_lent lent.now (B.pairs bindings.now)) }
-    ensures found { IfOk result (λ found. found ≡ kept.is_variable var (walked (with_lent lent.now (B.pairs bindings.now)) (tree term.now))) }
+    ensures found { IfOk result (λ found. found ≡
+        kept.is_variable var (walked (with_lent lent.now (B.pairs bindings.now)) (tree term.now))) }
     ensures waits { IfOk result (λ found. found ≡ false →
-        waiting_trees waiting.new.items ≡ open_parts (walked (with_lent lent.now (B.pairs bindings.now)) (tree term.now)) ++ waiting_trees waiting.old.items) }
+        waiting_trees waiting.new.items ≡
+        open_parts (walked (with_lent lent.now (B.pairs bindings.now)) (tree term.now)) ++
+        waiting_trees waiting.old.items) }
 {
     let reached = walk_on(term, bindings, lent);
     if is_variable(reached, var) {
@@ -66,7 +71,9 @@ pub fn occurs_on<'a, B: Bindings>(
     lent: &[Lent<'a>],
 ) -> Result<bool, Memory>
     requires { HasNoCycle (with_lent lent.now (B.pairs bindings.now)) }
-    ensures { IfOk result (λ found. found ≡ trees.occurs var (full (with_lent lent.now (B.pairs bindings.now)) (tree term.now))) }
+    ensures { IfOk result
+        (λ found. found ≡
+        trees.occurs var (full (with_lent lent.now (B.pairs bindings.now)) (tree term.now))) }
 {
     let mut waiting = Vec::new(alloc);
     if look_at(var, term, bindings, lent, &mut waiting)? {
@@ -92,10 +99,12 @@ fn all_above<'a>(low: u64, lent: &[Lent<'a>]) -> bool
     true
 }
 
-// Whether it is known without a look that the variable doesn't stand in the term: the term has no variable, or it has old ones alone, and the variable and
-// all that were lent are new.
+// Whether it is known without a look that the variable doesn't stand in the term: the term has no
+// variable, or it has old ones alone, and the variable and all that were lent are new.
 fn is_apart<'a, B: Bindings>(var: u64, term: &Term, bindings: &B, lent: &[Lent<'a>]) -> bool
-    ensures { IsTrue result → trees.occurs var (full (with_lent lent.now (B.pairs bindings.now)) (tree term.now)) ≡ false }
+    ensures { IsTrue result →
+        trees.occurs var (full (with_lent lent.now (B.pairs bindings.now)) (tree term.now)) ≡
+        false }
 {
     match term.greatest_variable() {
         None => true,
@@ -111,7 +120,8 @@ fn is_apart<'a, B: Bindings>(var: u64, term: &Term, bindings: &B, lent: &[Lent<'
     }
 }
 
-/// Whether a variable stands in a term under bindings with lent ones in front of them, with no look at the term where the answer is known.
+/// Whether a variable stands in a term under bindings with lent ones in front of them, with no look
+/// at the term where the answer is known.
 pub fn is_inside<'a, B: Bindings>(
     alloc: Global,
     var: u64,
@@ -120,7 +130,9 @@ pub fn is_inside<'a, B: Bindings>(
     lent: &[Lent<'a>],
 ) -> Result<bool, Memory>
     requires { HasNoCycle (with_lent lent.now (B.pairs bindings.now)) }
-    ensures { IfOk result (λ found. found ≡ trees.occurs var (full (with_lent lent.now (B.pairs bindings.now)) (tree term.now))) }
+    ensures { IfOk result
+        (λ found. found ≡
+        trees.occurs var (full (with_lent lent.now (B.pairs bindings.now)) (tree term.now))) }
 {
     if is_apart(var, term, bindings, lent) {
         return Ok(false);
@@ -136,7 +148,8 @@ pub fn occurs<B: Bindings>(
     bindings: &B,
 ) -> Result<bool, Memory>
     requires { HasNoCycle (B.pairs bindings.now) }
-    ensures { IfOk result (λ found. found ≡ trees.occurs var (full (B.pairs bindings.now) (tree term.now))) }
+    ensures { IfOk result
+        (λ found. found ≡ trees.occurs var (full (B.pairs bindings.now) (tree term.now))) }
 {
     occurs_on(alloc, var, term, bindings, &[])
 }
