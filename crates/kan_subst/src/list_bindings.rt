@@ -3,10 +3,11 @@
 ghost use Rattle.std.specs.Prelude.{◌≡◌, ◌++◌, map, OnOk};
 ghost use Rattle.std.specs.Option.{option_map};
 ghost use Rattle.kan_terms.specs.Bound.{bound_to};
+ghost use Rattle.kan_terms.specs.Greatest.{greatest_bound};
 ghost use Rattle.kan_terms.specs.Terms.{tree};
 ghost use Rattle.kan_subst.specs.Stored.{pair};
 
-use kan_terms::{Bindings, Memory, Term};
+use kan_terms::{Bindings, Memory, Term, greater_of};
 use std::alloc::Global;
 
 // A variable with the term that it is bound to.
@@ -25,7 +26,8 @@ pub struct ListBindings {
 
 // Writes bindings once more, behind those that are there.
 fn copy_behind(stored: &[Binding], made: &mut Vec<Binding>) -> Result<(), Memory>
-    ensures { OnOk result (map pair made.new.items ≡ map pair made.old.items ++ map pair stored.now) }
+    ensures { OnOk result (map pair made.new.items ≡ map pair made.old.items ++
+        map pair stored.now) }
 {
     for binding in stored {
         made.push(Binding {
@@ -46,6 +48,21 @@ fn find<'a>(stored: &'a [Binding], var: u64) -> Option<&'a Term>
         }
     }
     None
+}
+
+// The greatest variable of bindings, on either side.
+fn greatest_of(stored: &[Binding]) -> Option<u64>
+    ensures { result ≡ greatest_bound (map pair stored.now) }
+{
+    let mut left = stored.len();
+    let mut greatest = None;
+    while left > 0 {
+        left -= 1;
+        let binding = &stored[left];
+        let own = greater_of(Some(binding.var), binding.term.greatest_variable());
+        greatest = greater_of(own, greatest);
+    }
+    greatest
 }
 
 impl Bindings for ListBindings {
@@ -76,6 +93,14 @@ impl Bindings for ListBindings {
             stored,
             alloc: self.alloc,
         })
+    }
+
+    fn bind_owned(self, var: u64, term: &Term) -> Result<ListBindings, Memory> {
+        self.bind(var, term)
+    }
+
+    fn greatest_variable(&self) -> Option<u64> {
+        greatest_of(&self.stored)
     }
 
     fn again(&self) -> Result<ListBindings, Memory> {

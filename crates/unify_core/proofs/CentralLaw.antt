@@ -12,6 +12,7 @@ use Rattle.unify_core.proofs.AnswerLaws.{answered, full_unbound, answer_full, so
 stays_there : (bound : Pairs) (t : Tm) → IsEnd bound t → walked bound t ≡ t
 stays_there bound (Tree.leaf v) free = walked-unbound bound v (free v refl)
 stays_there bound (Tree.sym s) free = walked-term bound (Tree.sym s) (λ y e. cc)
+stays_there bound (Tree.str s) free = walked-term bound (Tree.str s) (λ y e. cc)
 stays_there bound (Tree.num n) free = walked-term bound (Tree.num n) (λ y e. cc)
 stays_there bound (Tree.truth b) free = walked-term bound (Tree.truth b) (λ y e. cc)
 stays_there bound Tree.nil free = walked-term bound Tree.nil (λ y e. cc)

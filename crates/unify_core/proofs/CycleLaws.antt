@@ -56,6 +56,7 @@ grown bound h = grown_by_rank h.rank bound h.once h.falls
 abbrev top : (ℕ → ℕ) → Tm → ℕ
 top rank (Tree.leaf v) = suc (rank v)
 top rank (Tree.sym s) = 0
+top rank (Tree.str s) = 0
 top rank (Tree.num n) = 0
 top rank (Tree.truth b) = 0
 top rank Tree.nil = 0
@@ -64,6 +65,7 @@ top rank (Tree.pair a b) = max (top rank a) (top rank b)
 top_above : (rank : ℕ → ℕ) (y : ℕ) (t : Tm) → occurs y t ≡ true → rank y < top rank t
 top_above rank y (Tree.leaf v) inside = omega (arith, ap rank (eqb-true y v inside))
 top_above rank y (Tree.sym s) inside = cc
+top_above rank y (Tree.str s) inside = cc
 top_above rank y (Tree.num n) inside = cc
 top_above rank y (Tree.truth b) inside = cc
 top_above rank y Tree.nil inside = cc

@@ -50,6 +50,7 @@ which_of_two y z x t false h = cc
 which_is_replaced : (y x : ℕ) (b t : Tm) → work left_first (equation (Tree.leaf y) b) ≡ Work.substitute x t → x ≡ y
 which_is_replaced y x (Tree.leaf z) t h = which_of_two y z x t (eqb y z) h
 which_is_replaced y x (Tree.sym s) t h = which_unless y x (Tree.sym s) t false h
+which_is_replaced y x (Tree.str s) t h = which_unless y x (Tree.str s) t false h
 which_is_replaced y x (Tree.num n) t h = which_unless y x (Tree.num n) t false h
 which_is_replaced y x (Tree.truth b) t h = which_unless y x (Tree.truth b) t false h
 which_is_replaced y x Tree.nil t h = which_unless y x Tree.nil t false h

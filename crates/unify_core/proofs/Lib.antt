@@ -7,6 +7,7 @@ pub mod LeftLaws
 pub mod LentLaws
 pub mod LoadLaws
 pub mod MeetingLaws
+pub mod NewLaws
 pub mod OccursSteps
 pub mod OneAnswer
 pub mod SolutionLaws

@@ -81,6 +81,7 @@ unless x t out = ap (λ c. if c then Work.clash else Work.substitute x t) out
 work_left : (x : ℕ) (t : Tm) → t ≢ Tree.leaf x → occurs x t ≡ false → work left_first (equation (Tree.leaf x) t) ≡ Work.substitute x t
 work_left x (Tree.leaf y) other out = ap (λ c. if c then Work.identical else Work.substitute x (Tree.leaf y)) out
 work_left x (Tree.sym s) other out = refl
+work_left x (Tree.str s) other out = refl
 work_left x (Tree.num n) other out = refl
 work_left x (Tree.truth b) other out = refl
 work_left x Tree.nil other out = refl
@@ -89,6 +90,7 @@ work_left x (Tree.pair a b) other out = unless x (Tree.pair a b) out
 work_right : (x : ℕ) (t : Tm) → ((y : ℕ) → t ≢ Tree.leaf y) → occurs x t ≡ false → work left_first (equation t (Tree.leaf x)) ≡ Work.substitute x t
 work_right x (Tree.leaf y) other out = absurd (other y refl)
 work_right x (Tree.sym s) other out = refl
+work_right x (Tree.str s) other out = refl
 work_right x (Tree.num n) other out = refl
 work_right x (Tree.truth b) other out = refl
 work_right x Tree.nil other out = refl
@@ -137,6 +139,7 @@ less_bound x t bound e es h =
 full-term : (bound : Pairs) (t : Tm) → ((y : ℕ) → t ≢ Tree.leaf y) → (y : ℕ) → full bound t ≢ Tree.leaf y
 full-term bound (Tree.leaf v) other y e = other v refl
 full-term bound (Tree.sym s) other y e = cc
+full-term bound (Tree.str s) other y e = cc
 full-term bound (Tree.num n) other y e = cc
 full-term bound (Tree.truth b) other y e = cc
 full-term bound Tree.nil other y e = cc

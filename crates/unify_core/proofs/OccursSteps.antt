@@ -1,6 +1,8 @@
 -- The steps of looking for a variable.
-use Rattle.std.proofs.Common.{◌≡◌, ℕ, ◌+◌, ◌<◌, Bool, true, false, ◌||◌, List, [], ◌∷◌, ◌++◌, sym, ap, refl, ◌∙◌, arith}
+use Rattle.std.proofs.Common.{◌≡◌, ◌≢◌, ℕ, ◌+◌, ◌<◌, Bool, true, false, ◌||◌, List, [], ◌∷◌, ◌++◌, sym, ap, refl, ◌∙◌, arith}
+use Rattle.std.specs.Prelude.{Option, Some, None, is_some, if◌then◌else◌}
 use Rattle.std.specs.Borrow.{Bor}
+use Rattle.kan_terms.specs.Greatest.{greatest_in}
 use Rattle.kan_terms.specs.Tree.{Tree, Tm, occurs, size}
 use Rattle.kan_terms.specs.Terms.{tree}
 use Rattle.kan_terms.specs.declared.terms.Term.{Term}
@@ -8,21 +10,31 @@ use Rattle.kan_terms.proofs.TreeLaws.{size-positive}
 use Rattle.kan_model.specs.Stores.Kept.{is_variable}
 use Rattle.unify_core.specs.Walking.{Pairs, walked, full}
 use Rattle.unify_core.specs.Cycles.{HasNoCycle}
-use Rattle.unify_core.specs.Lent.{waiting_trees, parts_of}
+use Rattle.unify_core.specs.Lent.{waiting_trees, parts_of, open_parts}
 use Rattle.unify_core.proofs.Grown.{ends-unbound}
 use Rattle.unify_core.proofs.CycleLaws.{grown}
 use Rattle.unify_core.proofs.WalkLaws.{full-walked, walked-end}
+use Rattle.unify_core.proofs.NewLaws.{none_in_full}
 
 -- the top of a stack comes first
 pub waiting-push : (ts : List (Bor Term)) (t : Bor Term) → waiting_trees (ts ++ t ∷ []) ≡ tree t.now ∷ waiting_trees ts
 waiting-push [] t = refl
 waiting-push (u ∷ ts) t = ap (λ us. us ++ tree u.now ∷ []) (waiting-push ts t)
 
+-- the parts of a term without variables don't wait
+pub none_open : (t : Tm) (o : Option ℕ) → o ≡ greatest_in t → o ≡ None → open_parts t ≡ []
+none_open t o greatest none = ap (λ o. if is_some o then parts_of t else []) (sym greatest ∙ none)
+
+pub some_open : (t : Tm) (o : Option ℕ) → o ≡ greatest_in t → o ≢ None → open_parts t ≡ parts_of t
+some_open t None greatest some = absurd (some refl)
+some_open t (Some g) greatest some = ap (λ o. if is_some o then parts_of t else []) (sym greatest)
+
 -- the two parts of a pair put on the stack
-pub parts_wait : (old middle new : List (Bor Term)) (a b : Bor Term) (t : Tm) → middle ≡ old ++ b ∷ [] → new ≡ middle ++ a ∷ [] → t ≡ Tree.pair (tree a.now) (tree b.now) →
-    waiting_trees new ≡ parts_of t ++ waiting_trees old
-parts_wait old middle new a b t one two is_pair =
+pub parts_wait : (old middle new : List (Bor Term)) (a b : Bor Term) (t : Tm) → middle ≡ old ++ b ∷ [] → new ≡ middle ++ a ∷ [] → t ≡ Tree.pair (tree a.now) (tree b.now) → open_parts t ≡ parts_of t →
+    waiting_trees new ≡ open_parts t ++ waiting_trees old
+parts_wait old middle new a b t one two is_pair some =
     ap waiting_trees two ∙ waiting-push middle a ∙ ap (λ us. tree a.now ∷ us) (ap waiting_trees one ∙ waiting-push old b) ∙ ap (λ u. parts_of u ++ waiting_trees old) (sym is_pair)
+    ∙ ap (λ us. us ++ waiting_trees old) (sym some)
 
 -- a variable stands in the full value of one of some terms
 abbrev pub stands_in : Pairs → ℕ → List Tm → Bool
@@ -43,40 +55,52 @@ found_here : (bound : Pairs) → HasNoCycle bound → (x : ℕ) (t w : Tm) → w
 found_here bound h x t (Tree.leaf y) reached e =
     ap (occurs x) (sym (full-walked bound (grown bound h) t) ∙ ap (full bound) (sym reached) ∙ ends-unbound bound y (walked-end bound (grown bound h) t y (sym reached))) ∙ e
 found_here bound h x t (Tree.sym s) reached e = cc
+found_here bound h x t (Tree.str s) reached e = cc
 found_here bound h x t (Tree.num n) reached e = cc
 found_here bound h x t (Tree.truth b) reached e = cc
 found_here bound h x t Tree.nil reached e = cc
 found_here bound h x t (Tree.pair a b) reached e = cc
 
 -- else it is looked for in the parts
-in_parts : (bound : Pairs) → HasNoCycle bound → (x : ℕ) (t w : Tm) (ts : List Tm) → w ≡ walked bound t → is_variable x w ≡ false → stands_in bound x (parts_of w ++ ts) ≡ stands_in bound x (t ∷ ts)
+in_parts : (bound : Pairs) → HasNoCycle bound → (x : ℕ) (t w : Tm) (ts : List Tm) → w ≡ walked bound t → is_variable x w ≡ false → stands_in bound x (open_parts w ++ ts) ≡ stands_in bound x (t ∷ ts)
 in_parts bound h x t w ts reached e = by w (λ y same. ends-unbound bound y (walked-end bound (grown bound h) t y (sym reached ∙ same))) e ∙ ap (λ u. occurs x u || stands_in bound x ts) whole
   where
     whole : full bound w ≡ full bound t
     whole = ap (full bound) reached ∙ full-walked bound (grown bound h) t
 
-    by : (w : Tm) → ((y : ℕ) → w ≡ Tree.leaf y → full bound (Tree.leaf y) ≡ Tree.leaf y) → is_variable x w ≡ false → stands_in bound x (parts_of w ++ ts) ≡ (occurs x (full bound w) || stands_in bound x ts)
+    pair : (a b : Tm) (o : Option ℕ) → greatest_in (Tree.pair a b) ≡ o →
+        stands_in bound x ((if is_some o then a ∷ b ∷ [] else []) ++ ts) ≡ ((occurs x (full bound a) || occurs x (full bound b)) || stands_in bound x ts)
+    pair a b None none = sym (ap (λ c. c || stands_in bound x ts) (none_in_full bound x (Tree.pair a b) none))
+    pair a b (Some g) some = sym (or_assoc (occurs x (full bound a)) (occurs x (full bound b)) (stands_in bound x ts))
+
+    by : (w : Tm) → ((y : ℕ) → w ≡ Tree.leaf y → full bound (Tree.leaf y) ≡ Tree.leaf y) → is_variable x w ≡ false → stands_in bound x (open_parts w ++ ts) ≡ (occurs x (full bound w) || stands_in bound x ts)
     by (Tree.leaf y) own e = sym (ap (λ c. c || stands_in bound x ts) (ap (occurs x) (own y refl) ∙ e))
     by (Tree.sym s) own e = refl
+    by (Tree.str s) own e = refl
     by (Tree.num n) own e = refl
     by (Tree.truth b) own e = refl
     by Tree.nil own e = refl
-    by (Tree.pair a b) own e = sym (or_assoc (occurs x (full bound a)) (occurs x (full bound b)) (stands_in bound x ts))
+    by (Tree.pair a b) own e = pair a b (greatest_in (Tree.pair a b)) refl
 
 -- fewer nodes wait
-fewer_nodes : (bound : Pairs) → HasNoCycle bound → (t w : Tm) (ts : List Tm) → w ≡ walked bound t → nodes bound (parts_of w ++ ts) < nodes bound (t ∷ ts)
+fewer_nodes : (bound : Pairs) → HasNoCycle bound → (t w : Tm) (ts : List Tm) → w ≡ walked bound t → nodes bound (open_parts w ++ ts) < nodes bound (t ∷ ts)
 fewer_nodes bound h t w ts reached = by w whole
   where
     whole : size (full bound w) ≡ size (full bound t)
     whole = ap size (ap (full bound) reached ∙ full-walked bound (grown bound h) t)
 
-    by : (w : Tm) → size (full bound w) ≡ size (full bound t) → nodes bound (parts_of w ++ ts) < nodes bound (t ∷ ts)
+    pair : (a b : Tm) (o : Option ℕ) → 1 + size (full bound a) + size (full bound b) ≡ size (full bound t) → nodes bound ((if is_some o then a ∷ b ∷ [] else []) ++ ts) < nodes bound (t ∷ ts)
+    pair a b None same = omega (arith, same)
+    pair a b (Some g) same = omega (arith, same)
+
+    by : (w : Tm) → size (full bound w) ≡ size (full bound t) → nodes bound (open_parts w ++ ts) < nodes bound (t ∷ ts)
     by (Tree.leaf y) same = omega (arith, size-positive (full bound t))
     by (Tree.sym s) same = omega (arith, same)
+    by (Tree.str s) same = omega (arith, same)
     by (Tree.num n) same = omega (arith, same)
     by (Tree.truth b) same = omega (arith, same)
     by Tree.nil same = omega (arith, same)
-    by (Tree.pair a b) same = omega (arith, same)
+    by (Tree.pair a b) same = pair a b (greatest_in (Tree.pair a b)) same
 
 -- one turn of the loop: the top is taken, and its parts wait
 pub turn_finds : (bound : Pairs) → HasNoCycle bound → (x : ℕ) (old rest : List (Bor Term)) (t : Bor Term) (w : Tm) (whole : Bool) →
@@ -86,25 +110,33 @@ turn_finds bound h x old rest t w whole split reached e kept =
     ∙ ap (stands_in bound x) (sym (waiting-push rest t)) ∙ ap (λ ts. stands_in bound x (waiting_trees ts)) (sym split) ∙ kept
 
 pub turn_keeps : (bound : Pairs) → HasNoCycle bound → (x : ℕ) (old rest new : List (Bor Term)) (t : Bor Term) (w : Tm) (whole : Bool) →
-    old ≡ rest ++ t ∷ [] → w ≡ walked bound (tree t.now) → is_variable x w ≡ false → waiting_trees new ≡ parts_of w ++ waiting_trees rest →
+    old ≡ rest ++ t ∷ [] → w ≡ walked bound (tree t.now) → is_variable x w ≡ false → waiting_trees new ≡ open_parts w ++ waiting_trees rest →
     stands_in bound x (waiting_trees old) ≡ whole → stands_in bound x (waiting_trees new) ≡ whole
 turn_keeps bound h x old rest new t w whole split reached e parts kept =
     ap (stands_in bound x) parts ∙ in_parts bound h x (tree t.now) w (waiting_trees rest) reached e
     ∙ ap (stands_in bound x) (sym (waiting-push rest t)) ∙ ap (λ ts. stands_in bound x (waiting_trees ts)) (sym split) ∙ kept
 
 pub turn_falls : (bound : Pairs) → HasNoCycle bound → (old rest new : List (Bor Term)) (t : Bor Term) (w : Tm) →
-    old ≡ rest ++ t ∷ [] → w ≡ walked bound (tree t.now) → waiting_trees new ≡ parts_of w ++ waiting_trees rest → nodes bound (waiting_trees new) < nodes bound (waiting_trees old)
+    old ≡ rest ++ t ∷ [] → w ≡ walked bound (tree t.now) → waiting_trees new ≡ open_parts w ++ waiting_trees rest → nodes bound (waiting_trees new) < nodes bound (waiting_trees old)
 turn_falls bound h old rest new t w split reached parts =
     let before : nodes bound (waiting_trees old) ≡ nodes bound (tree t.now ∷ waiting_trees rest) = ap (nodes bound) (ap waiting_trees split ∙ waiting-push rest t) in
     omega (arith, fewer_nodes bound h (tree t.now) w (waiting_trees rest) reached, ap (nodes bound) parts, before)
 
--- the loop begins with the term alone, and ends where nothing waits
+-- nothing more stands in a term
 or_nothing : (a : Bool) → (a || false) ≡ a
 or_nothing true = refl
 or_nothing false = refl
 
-pub look_begins : (bound : Pairs) (x : ℕ) (only : List (Bor Term)) (t : Bor Term) → only ≡ [] ++ t ∷ [] → stands_in bound x (waiting_trees only) ≡ occurs x (full bound (tree t.now))
-look_begins bound x only t one = ap (λ ts. stands_in bound x (waiting_trees ts)) one ∙ or_nothing (occurs x (full bound (tree t.now)))
-
+-- the loop ends where nothing waits
 pub look_ends : (bound : Pairs) (x : ℕ) (waiting : List (Bor Term)) (whole : Bool) → waiting ≡ [] → stands_in bound x (waiting_trees waiting) ≡ whole → false ≡ whole
 look_ends bound x waiting whole none kept = ap (λ ts. stands_in bound x (waiting_trees ts)) (sym none) ∙ kept
+
+-- the first turn looks at the term itself
+pub first_finds : (bound : Pairs) → HasNoCycle bound → (x : ℕ) (t : Tm) (found : Bool) → found ≡ is_variable x (walked bound t) → found ≡ true → true ≡ occurs x (full bound t)
+first_finds bound h x t found is e = sym (found_here bound h x t (walked bound t) refl (sym is ∙ e))
+
+pub first_keeps : (bound : Pairs) → HasNoCycle bound → (x : ℕ) (t : Tm) (found : Bool) (none new : List (Bor Term)) → none ≡ [] → found ≡ is_variable x (walked bound t) →
+    (found ≡ false → waiting_trees new ≡ open_parts (walked bound t) ++ waiting_trees none) → found ≡ false → stands_in bound x (waiting_trees new) ≡ occurs x (full bound t)
+first_keeps bound h x t found none new nothing is parts e =
+    ap (stands_in bound x) (parts e) ∙ in_parts bound h x t (walked bound t) (waiting_trees none) refl (sym is ∙ e)
+    ∙ ap (λ ts. occurs x (full bound t) || stands_in bound x (waiting_trees ts)) nothing ∙ or_nothing (occurs x (full bound t))

@@ -108,6 +108,25 @@ pub turn_off : (bound : Pairs) (first : Equation) (old rest new : List Sides) (s
 turn_off bound first old rest new s lent lent' goes_on split leads moved off =
     step_off bound first (equation_of s) (waiting_equations rest) (waiting_equations new) lent lent' goes_on (subst (Leads bound first lent) (popped old rest s split) leads) moved off
 
+-- the first step, of the two terms themselves
+first_leads : (bound : Pairs) (e : Equation) (lent : List Lent) (none : List Sides) → lent ≡ [] → none ≡ [] → Leads bound e lent (e ∷ waiting_equations none)
+first_leads bound e lent none nothing empty =
+    subst (λ ls. Leads bound e ls (e ∷ waiting_equations none)) (sym nothing) (subst (λ ws. Leads bound e [] (e ∷ waiting_equations ws)) (sym empty) (leads_first bound e))
+
+pub first_on : (bound : Pairs) (e : Equation) (lent lent' : List Lent) (none new : List Sides) (goes_on : Bool) → lent ≡ [] → none ≡ [] → HasNoCycle bound →
+    StepTo bound lent (waiting_equations none) goes_on lent' (waiting_equations new) (met (with_lent lent bound) e) → goes_on ≡ true →
+    Leads bound e lent' (waiting_equations new) × HasNoCycle (with_lent lent' bound)
+first_on bound e lent lent' none new goes_on nothing empty h moved on =
+    let (leads, no_cycle, less) = step_on bound e e (waiting_equations none) (waiting_equations new) lent lent' goes_on
+    (first_leads bound e lent none nothing empty) (subst (λ ls. HasNoCycle (with_lent ls bound)) (sym nothing) h) moved on in
+    (leads, no_cycle)
+
+pub first_off : (bound : Pairs) (e : Equation) (lent lent' : List Lent) (none new : List Sides) (goes_on : Bool) → lent ≡ [] → none ≡ [] →
+    StepTo bound lent (waiting_equations none) goes_on lent' (waiting_equations new) (met (with_lent lent bound) e) → goes_on ≡ false →
+    Unifying bound (e ∷ []) None
+first_off bound e lent lent' none new goes_on nothing empty moved off =
+    step_off bound e e (waiting_equations none) (waiting_equations new) lent lent' goes_on (first_leads bound e lent none nothing empty) moved off
+
 -- the loop ends where nothing waits
 pub turns_end : (bound : Pairs) (first : Equation) (waiting : List Sides) (lent : List Lent) → waiting ≡ [] → Leads bound first lent (waiting_equations waiting) →
     Unifying bound (first ∷ []) (Some (lent_sides lent))

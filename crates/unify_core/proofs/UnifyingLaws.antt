@@ -39,6 +39,7 @@ one_same f x t a b (inr (l, r)) = (λ e. ap (fill f) (sym r) ∙ sym e ∙ ap (f
 pub full-apart : (bound : Pairs) → Grown bound → (x : ℕ) (t : Tm) → walked bound t ≡ t → t ≢ Tree.leaf x → full bound t ≢ Tree.leaf x
 full-apart bound g x (Tree.leaf y) walks other e = other (sym (ends-unbound bound y (walked-end bound g (Tree.leaf y) y walks)) ∙ e)
 full-apart bound g x (Tree.sym s) walks other e = cc
+full-apart bound g x (Tree.str s) walks other e = cc
 full-apart bound g x (Tree.num n) walks other e = cc
 full-apart bound g x (Tree.truth b) walks other e = cc
 full-apart bound g x Tree.nil walks other e = cc

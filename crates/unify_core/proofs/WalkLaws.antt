@@ -97,6 +97,7 @@ walked-twice bound g u = by (walked bound u) (walked-end bound g u)
     by : (w : Tm) → ((y : ℕ) → w ≡ Tree.leaf y → bound_to y bound ≡ None) → walked bound w ≡ w
     by (Tree.leaf y) ends_there = walked-unbound bound y (ends_there y refl)
     by (Tree.sym s) ends_there = walked-term bound (Tree.sym s) (λ y e. cc)
+    by (Tree.str s) ends_there = walked-term bound (Tree.str s) (λ y e. cc)
     by (Tree.num n) ends_there = walked-term bound (Tree.num n) (λ y e. cc)
     by (Tree.truth b) ends_there = walked-term bound (Tree.truth b) (λ y e. cc)
     by Tree.nil ends_there = walked-term bound Tree.nil (λ y e. cc)

@@ -4,7 +4,7 @@ use Rattle.kan_terms.specs.Tree.{Tree, Tm}
 use Rattle.kan_terms.specs.Bound.{bound_to}
 use Rattle.kan_terms.specs.Terms.{tree}
 use Rattle.kan_terms.specs.declared.terms.Term.{Term}
-use Rattle.kan_terms.specs.declared.terms.Term.TheVariants.{Var, Sym, Num, Truth, Nil, Pair'}
+use Rattle.kan_terms.specs.declared.terms.Term.TheVariants.{Var, Sym, Str, Num, Truth, Nil, Pair}
 use Rattle.unify_core.specs.Walking.{Pairs, walked}
 use Rattle.unify_core.specs.Cycles.{HasNoCycle}
 use Rattle.unify_core.proofs.CycleLaws.{grown}
@@ -26,10 +26,11 @@ walk_ends bound at v whole here none kept = here ∙ sym (walked-unbound bound v
 pub no_leaf : (t : Term) → ((v : ℕ) → t ≢ Var v) → (y : ℕ) → tree t ≢ Tree.leaf y
 no_leaf (Var v) other y e = other v (cc)
 no_leaf (Sym s) other y e = cc
+no_leaf (Str s) other y e = cc
 no_leaf (Num n) other y e = cc
 no_leaf (Truth b) other y e = cc
 no_leaf Nil other y e = cc
-no_leaf (Pair' place first rest) other y e = cc
+no_leaf (Pair parts) other y e = cc
 
 -- and is the end
 pub walk_stops : (bound : Pairs) (t : Term) (whole : Tm) → ((v : ℕ) → t ≢ Var v) → walked bound (tree t) ≡ whole → tree t ≡ whole

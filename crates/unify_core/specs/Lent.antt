@@ -1,8 +1,9 @@
 -- What the lent parts of a running unification stand for.
-use Rattle.std.specs.Prelude.{◌≡◌, ℕ, Bool, true, false, List, [], ◌∷◌, ◌++◌, map, None}
+use Rattle.std.specs.Prelude.{◌≡◌, ℕ, Bool, true, false, List, [], ◌∷◌, ◌++◌, ◌<◌, map, None, is_some, if◌then◌else◌}
 use Rattle.std.specs.Borrow.{Bor}
 use Rattle.kan_terms.specs.Tree.{Tree, Tm, occurs}
 use Rattle.kan_terms.specs.Bound.{bound_to}
+use Rattle.kan_terms.specs.Greatest.{greatest_in}
 use Rattle.kan_terms.specs.Terms.{tree}
 use Rattle.kan_terms.specs.declared.terms.Term.{Term}
 use Rattle.kan_model.specs.Stores.Store.{Equation}
@@ -30,6 +31,15 @@ waiting_trees (term ∷ above) = waiting_trees above ++ tree term.now ∷ []
 abbrev pub parts_of : Tm → List Tm
 parts_of (Tree.pair a b) = a ∷ b ∷ []
 parts_of t = []
+
+-- the parts of a pair in which a variable stands, and nothing of other terms
+abbrev pub open_parts : Tm → List Tm
+open_parts t = if is_some (greatest_in t) then parts_of t else []
+
+-- all lent variables are above a number
+abbrev pub AllAbove : ℕ → List Lent → Type 0
+AllAbove low [] = Unit {0}
+AllAbove low (one ∷ more) = (low < one.var) × AllAbove low more
 
 -- lent bindings as the two sides of pairs
 abbrev pub lent_sides : List Lent → List (Tm × Tm)

@@ -14,7 +14,8 @@ pub fn full_values_follow()
     ensures { FullValues }
 {}
 
-/// Bindings in which nothing is ever replaced have exactly the solutions of the replacement that the solver answers for them, and what a term
+/// Bindings in which nothing is ever replaced have exactly the solutions of the replacement that
+/// the solver answers for them, and what a term
 /// walks to, fully, is what the replacement makes of it.
 #[tactic(auto, using(crate::proofs::CentralLaw::bindings_replace))]
 pub fn bindings_are_a_replacement()

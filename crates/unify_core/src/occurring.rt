@@ -1,12 +1,12 @@
 //! Variables that stand in terms under bindings.
 
-ghost use Rattle.std.specs.Prelude.{◌≡◌, ◌++◌, [], IfOk, OnOk};
+ghost use Rattle.std.specs.Prelude.{◌≡◌, ◌++◌, [], false, IfOk, IsTrue, OnOk};
 ghost use Rattle.kan_model.specs.Stores.Kept as kept;
 ghost use Rattle.kan_terms.specs.Terms.{tree};
 ghost use Rattle.kan_terms.specs.Tree as trees;
 ghost use Rattle.unify_core.specs.Cycles.{HasNoCycle};
-ghost use Rattle.unify_core.specs.Lent.{parts_of, waiting_trees, with_lent};
-ghost use Rattle.unify_core.specs.Walking.{full};
+ghost use Rattle.unify_core.specs.Lent.{AllAbove, open_parts, waiting_trees, with_lent};
+ghost use Rattle.unify_core.specs.Walking.{full, walked};
 
 use crate::walking::{Lent, walk_on};
 use kan_terms::{Bindings, Memory, Term};
@@ -22,15 +22,44 @@ pub fn is_variable(term: &Term, var: u64) -> bool
     }
 }
 
-// Puts the parts of a pair on a stack of waiting terms, the first part on top.
+// Puts the parts of a pair on a stack of waiting terms, the first part on top, unless it has no
+// variable.
 fn wait_for_parts<'a>(term: &'a Term, waiting: &mut Vec<&'a Term>) -> Result<(), Memory>
-    ensures { OnOk result (waiting_trees waiting.new.items ≡ parts_of (tree term.now) ++ waiting_trees waiting.old.items) }
+    ensures { OnOk result (waiting_trees waiting.new.items ≡ open_parts (tree term.now) ++
+        waiting_trees waiting.old.items) }
 {
+    if term.greatest_variable().is_none() {
+        return Ok(());
+    }
     if let Term::Pair(parts) = term {
         waiting.push(&parts.rest)?;
         waiting.push(&parts.first)?;
     }
     Ok(())
+}
+
+// Whether a term walks to the variable. Where it doesn't, the parts of what it walks to wait.
+fn look_at<'a, B: Bindings>(
+    var: u64,
+    term: &'a Term,
+    bindings: &'a B,
+    lent: &[Lent<'a>],
+    waiting: &mut Vec<&'a Term>,
+) -> Result<bool, Memory>
+    requires { HasNoCycle (with_lent lent.now (B.pairs bindings.now)) }
+    ensures found { IfOk result (λ found. found ≡
+        kept.is_variable var (walked (with_lent lent.now (B.pairs bindings.now)) (tree term.now))) }
+    ensures waits { IfOk result (λ found. found ≡ false →
+        waiting_trees waiting.new.items ≡
+        open_parts (walked (with_lent lent.now (B.pairs bindings.now)) (tree term.now)) ++
+        waiting_trees waiting.old.items) }
+{
+    let reached = walk_on(term, bindings, lent);
+    if is_variable(reached, var) {
+        return Ok(true);
+    }
+    wait_for_parts(reached, waiting)?;
+    Ok(false)
 }
 
 /// Whether a variable stands in a term under bindings with lent ones in front of them.
@@ -42,18 +71,73 @@ pub fn occurs_on<'a, B: Bindings>(
     lent: &[Lent<'a>],
 ) -> Result<bool, Memory>
     requires { HasNoCycle (with_lent lent.now (B.pairs bindings.now)) }
-    ensures { IfOk result (λ found. found ≡ trees.occurs var (full (with_lent lent.now (B.pairs bindings.now)) (tree term.now))) }
+    ensures { IfOk result
+        (λ found. found ≡
+        trees.occurs var (full (with_lent lent.now (B.pairs bindings.now)) (tree term.now))) }
 {
     let mut waiting = Vec::new(alloc);
-    waiting.push(term)?;
+    if look_at(var, term, bindings, lent, &mut waiting)? {
+        return Ok(true);
+    }
     while let Some(next) = waiting.pop() {
-        let reached = walk_on(next, bindings, lent);
-        if is_variable(reached, var) {
+        if look_at(var, next, bindings, lent, &mut waiting)? {
             return Ok(true);
         }
-        wait_for_parts(reached, &mut waiting)?;
     }
     Ok(false)
+}
+
+// Whether all lent variables are above a number.
+fn all_above<'a>(low: u64, lent: &[Lent<'a>]) -> bool
+    ensures { IsTrue result → AllAbove low lent.now }
+{
+    for one in lent {
+        if one.var <= low {
+            return false;
+        }
+    }
+    true
+}
+
+// Whether it is known without a look that the variable doesn't stand in the term: the term has no
+// variable, or it has old ones alone, and the variable and all that were lent are new.
+fn is_apart<'a, B: Bindings>(var: u64, term: &Term, bindings: &B, lent: &[Lent<'a>]) -> bool
+    ensures { IsTrue result →
+        trees.occurs var (full (with_lent lent.now (B.pairs bindings.now)) (tree term.now)) ≡
+        false }
+{
+    match term.greatest_variable() {
+        None => true,
+        Some(greatest) => match bindings.greatest_variable() {
+            None => false,
+            Some(old) => {
+                if var <= old || old < greatest {
+                    return false;
+                }
+                all_above(old, lent)
+            }
+        },
+    }
+}
+
+/// Whether a variable stands in a term under bindings with lent ones in front of them, with no look
+/// at the term where the answer is known.
+pub fn is_inside<'a, B: Bindings>(
+    alloc: Global,
+    var: u64,
+    term: &'a Term,
+    bindings: &'a B,
+    lent: &[Lent<'a>],
+) -> Result<bool, Memory>
+    requires { HasNoCycle (with_lent lent.now (B.pairs bindings.now)) }
+    ensures { IfOk result
+        (λ found. found ≡
+        trees.occurs var (full (with_lent lent.now (B.pairs bindings.now)) (tree term.now))) }
+{
+    if is_apart(var, term, bindings, lent) {
+        return Ok(false);
+    }
+    occurs_on(alloc, var, term, bindings, lent)
 }
 
 /// Whether a variable stands in a term under bindings, in which bound variables are followed.
@@ -64,7 +148,8 @@ pub fn occurs<B: Bindings>(
     bindings: &B,
 ) -> Result<bool, Memory>
     requires { HasNoCycle (B.pairs bindings.now) }
-    ensures { IfOk result (λ found. found ≡ trees.occurs var (full (B.pairs bindings.now) (tree term.now))) }
+    ensures { IfOk result
+        (λ found. found ≡ trees.occurs var (full (B.pairs bindings.now) (tree term.now))) }
 {
     occurs_on(alloc, var, term, bindings, &[])
 }

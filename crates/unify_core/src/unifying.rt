@@ -6,11 +6,12 @@ ghost use Rattle.kan_model.specs.Stores.Solve as solver;
 ghost use Rattle.kan_terms.specs.Terms.{sides, tree};
 ghost use Rattle.kan_terms.specs.Tree.{Gd, fill};
 ghost use Rattle.unify_core.specs.Cycles.{HasNoCycle};
-ghost use Rattle.unify_core.specs.Lent.{Binds, Fresh, Parts, StepTo, equation_of, lent_sides, waiting_equations, with_lent};
+ghost use Rattle.unify_core.specs.Lent.{Binds, Fresh, Parts, StepTo, equation_of, lent_sides};
+ghost use Rattle.unify_core.specs.Lent.{waiting_equations, with_lent};
 ghost use Rattle.unify_core.specs.Solutions.{AddedTo, IsSolution, bindings_solved, equation};
 ghost use Rattle.unify_core.specs.Unifying.{Unifying, met, same_atoms, taken_apart};
 
-use crate::occurring::{is_variable, occurs_on};
+use crate::occurring::{is_inside, is_variable};
 use crate::walking::{Lent, walk_on};
 use kan_terms::{Bindings, Memory, Term, TermPair, TermPairs};
 use std::alloc::Global;
@@ -38,6 +39,7 @@ fn same_atom(left: &Term, right: &Term) -> bool
     match left {
         Term::Var(var) => is_variable(right, *var),
         Term::Sym(name) => matches!(right, Term::Sym(other) if *name == *other),
+        Term::Str(text) => matches!(right, Term::Str(other) if *text == *other),
         Term::Num(number) => matches!(right, Term::Num(other) if *number == *other),
         Term::Truth(truth) => matches!(right, Term::Truth(other) if *truth == *other),
         Term::Nil => matches!(right, Term::Nil),
@@ -45,13 +47,16 @@ fn same_atom(left: &Term, right: &Term) -> bool
     }
 }
 
-// Puts the parts of two pairs on the stack, the first parts on top, and tells whether all else is the same.
+// Puts the parts of two pairs on the stack, the first parts on top, and tells whether all else is
+// the same.
 fn take_apart<'a>(
     left: &'a Term,
     right: &'a Term,
     waiting: &mut Vec<Sides<'a>>,
 ) -> Result<bool, Memory>
-    ensures { IfOk result (λ goes_on. Parts (waiting_equations waiting.old.items) goes_on (waiting_equations waiting.new.items)
+    ensures { IfOk result
+        (λ goes_on.
+        Parts (waiting_equations waiting.old.items) goes_on (waiting_equations waiting.new.items)
         (taken_apart (tree left.now) (tree right.now))) }
 {
     let Term::Pair(left_parts) = left else {
@@ -80,16 +85,19 @@ fn bind_unless_inside<'a, B: Bindings>(
     lent: &mut Vec<Lent<'a>>,
 ) -> Result<bool, Memory>
     requires { HasNoCycle (with_lent lent.old.items (B.pairs bindings.now)) }
-    ensures { IfOk result (λ fits. Binds (B.pairs bindings.now) lent.old.items fits lent.new.items var (tree term.now)) }
+    ensures { IfOk result
+        (λ fits.
+        Binds (B.pairs bindings.now) lent.old.items fits lent.new.items var (tree term.now)) }
 {
-    if occurs_on(alloc, var, term, bindings, lent)? {
+    if is_inside(alloc, var, term, bindings, lent)? {
         return Ok(false);
     }
     lent.push(Lent { var, term })?;
     Ok(true)
 }
 
-// One step: the left variable is bound, else the right one, else pairs are taken apart. It tells whether there may be a unifier.
+// One step: the left variable is bound, else the right one, else pairs are taken apart. It tells
+// whether there may be a unifier.
 fn step<'a, B: Bindings>(
     alloc: Global,
     next: Sides<'a>,
@@ -98,7 +106,9 @@ fn step<'a, B: Bindings>(
     waiting: &mut Vec<Sides<'a>>,
 ) -> Result<bool, Memory>
     requires { HasNoCycle (with_lent lent.old.items (B.pairs bindings.now)) }
-    ensures { IfOk result (λ goes_on. StepTo (B.pairs bindings.now) lent.old.items (waiting_equations waiting.old.items)
+    ensures { IfOk result
+        (λ goes_on.
+        StepTo (B.pairs bindings.now) lent.old.items (waiting_equations waiting.old.items)
         goes_on lent.new.items (waiting_equations waiting.new.items)
         (met (with_lent lent.old.items (B.pairs bindings.now)) (equation_of next.entry))) }
 {
@@ -124,12 +134,16 @@ fn lend_bindings<'a, B: Bindings>(
     bindings: &'a B,
 ) -> Result<Option<Vec<Lent<'a>>>, Memory>
     requires { HasNoCycle (B.pairs bindings.now) }
-    ensures { IfOk result (λ found. Unifying (B.pairs bindings.now) (equation (tree left.now) (tree right.now) ∷ [])
+    ensures { IfOk result
+        (λ found. Unifying (B.pairs bindings.now) (equation (tree left.now) (tree right.now) ∷ [])
         (option_map (λ lent. lent_sides lent.items) found)) }
 {
     let mut lent = Vec::new(alloc);
     let mut waiting = Vec::new(alloc);
-    waiting.push(Sides { left, right })?;
+    let both = Sides { left, right };
+    if !step(alloc, both, bindings, &mut lent, &mut waiting)? {
+        return Ok(None);
+    }
     while let Some(next) = waiting.pop() {
         let goes_on = step(alloc, next, bindings, &mut lent, &mut waiting)?;
         if !goes_on {
@@ -146,13 +160,14 @@ fn take_over<'a, B: Bindings>(
     lent: &[Lent<'a>],
 ) -> Result<Unified<B>, Memory>
     requires { Fresh (B.pairs bindings.now) lent.now }
-    ensures made { IfOk result (λ made. B.pairs made.bindings ≡ with_lent lent.now (B.pairs bindings.now)) }
+    ensures made { IfOk result (λ made. B.pairs made.bindings ≡
+        with_lent lent.now (B.pairs bindings.now)) }
     ensures added { IfOk result (λ made. map sides made.added ≡ lent_sides lent.now) }
 {
     let mut made = bindings.again()?;
     let mut added = TermPairs::new(alloc);
     for one in lent {
-        made = made.bind(one.var, one.term)?;
+        made = made.bind_owned(one.var, one.term)?;
         let pair = TermPair {
             first: Term::Var(one.var),
             rest: one.term.again()?,
@@ -167,7 +182,8 @@ fn take_over<'a, B: Bindings>(
     })
 }
 
-/// Bindings under which two terms are the same, and which have exactly the solutions that this takes; None where there are none.
+/// Bindings under which two terms are the same, and which have exactly the solutions that this
+/// takes; None where there are none.
 pub fn unify<B: Bindings>(
     alloc: Global,
     left: &Term,
@@ -175,14 +191,20 @@ pub fn unify<B: Bindings>(
     bindings: &B,
 ) -> Result<Option<Unified<B>>, Memory>
     requires { HasNoCycle (B.pairs bindings.now) }
-    ensures added { IfOk result (λ found. IfSome found (λ made. AddedTo (B.pairs bindings.now) (map sides made.added) (B.pairs made.bindings))) }
-    ensures no_cycle { IfOk result (λ found. IfSome found (λ made. HasNoCycle (B.pairs made.bindings))) }
+    ensures added { IfOk result (λ found. IfSome found
+        (λ made. AddedTo (B.pairs bindings.now) (map sides made.added) (B.pairs made.bindings))) }
+    ensures no_cycle { IfOk result (λ found. IfSome found
+        (λ made. HasNoCycle (B.pairs made.bindings))) }
     ensures solutions { IfOk result (λ found. IfSome found (λ made. (f : ℕ → Gd) →
-        IsSolution f (B.pairs made.bindings) ↔ (IsSolution f (B.pairs bindings.now) × (fill f (tree left.now) ≡ fill f (tree right.now))))) }
-    ensures in_order { IfOk result (λ found. Unifying (B.pairs bindings.now) (equation (tree left.now) (tree right.now) ∷ [])
+        IsSolution f (B.pairs made.bindings) ↔
+        (IsSolution f (B.pairs bindings.now) ×
+        (fill f (tree left.now) ≡ fill f (tree right.now))))) }
+    ensures in_order { IfOk result
+        (λ found. Unifying (B.pairs bindings.now) (equation (tree left.now) (tree right.now) ∷ [])
         (option_map (λ made. map sides made.added) found)) }
     ensures none { IfOk result (λ found. (found ≡ None) ↔
-        (solver.solve (bindings_solved (B.pairs bindings.now) ++ equation (tree left.now) (tree right.now) ∷ []) ≡ None)) }
+        (solver.solve (bindings_solved (B.pairs bindings.now) ++
+        equation (tree left.now) (tree right.now) ∷ []) ≡ None)) }
 {
     match lend_bindings(alloc, left, right, bindings)? {
         None => Ok(None),

@@ -10,7 +10,8 @@ ghost use Rattle.unify_core.specs.Walking.{walked};
 
 use kan_terms::{Bindings, Term};
 
-/// A variable that a unification has bound, with its term, which is lent by the sides or by the bindings.
+/// A variable that a unification has bound, with its term, which is lent by the sides or by the
+/// bindings.
 #[derive(Clone, Copy)]
 pub struct Lent<'a> {
     /// The variable.
@@ -21,7 +22,8 @@ pub struct Lent<'a> {
 
 // The term that a variable is bound to, looked for in the lent bindings first, the last one first.
 fn find<'a, B: Bindings>(var: u64, bindings: &'a B, lent: &[Lent<'a>]) -> Option<&'a Term>
-    ensures { option_map (λ term. tree term.now) result ≡ bound_to var (with_lent lent.now (B.pairs bindings.now)) }
+    ensures { option_map (λ term. tree term.now) result ≡
+        bound_to var (with_lent lent.now (B.pairs bindings.now)) }
 {
     let mut left = lent.len();
     while left > 0 {
@@ -49,7 +51,8 @@ pub fn walk_on<'a, B: Bindings>(term: &'a Term, bindings: &'a B, lent: &[Lent<'a
     reached
 }
 
-/// What a term walks to: a bound variable goes on with its term, until there is no bound variable. It takes no memory.
+/// What a term walks to: a bound variable goes on with its term, until there is no bound variable.
+/// It takes no memory.
 pub fn walk<'a, B: Bindings>(term: &'a Term, bindings: &'a B) -> &'a Term
     requires { HasNoCycle (B.pairs bindings.now) }
     ensures { tree result.now ≡ walked (B.pairs bindings.now) (tree term.now) }

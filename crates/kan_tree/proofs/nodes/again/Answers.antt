@@ -1,0 +1,5 @@
+use Rattle.kan_tree.proofs.Looks.{leaf_same}
+use Rattle.kan_tree.proofs.nodes.again.Goals as goal
+
+pub returns-in_ok-again-in-Leaf : goal.returns-in_ok-again-in-Leaf
+returns-in_ok-again-in-Leaf g c = rw c.in-Leaf.is (leaf_same g.T.Again.meaning c.in-Leaf.slots c.in_ok-again-in-Leaf.field-0 c.in_ok-again-in-Leaf.ensures)
