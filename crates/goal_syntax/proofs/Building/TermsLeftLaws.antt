@@ -230,3 +230,8 @@ pub top_built : {E : Type 0} (ts : Tables) (old popped : List ℕ) (o : Option �
     built (templates_of ts.terms) old ≡ t ∷ [] → IfOk r (λ p. HasTemplate ts p t)
 top_built ts old popped None r e t is split below made = rw is tt
 top_built ts old popped (Some p) r e t is split below made = rw is (last_built ts old popped p t split below made)
+
+-- a template that was built has its place on the stack
+pub place_left : (ts : List Template) (ps : List ℕ) (t : Template) → built ts ps ≡ t ∷ [] → length ps ≡ 0 → ⊥
+place_left ts [] t made none = cc
+place_left ts (p ∷ ps) t made none = omega (arith, none)

@@ -2,7 +2,7 @@
 use Rattle.std.proofs.Common.{◌≡◌, ℕ, List, [], ◌∷◌, ◌++◌, map, length, refl, sym, ◌∙◌, ap, ap₂, Option, Some, None}
 use Rattle.std.specs.Prelude.{true, ◌&&◌, nat_lt, slice_get, option_map, Result, Ok, Err}
 use Rattle.std.specs.List.{list_all}
-use Rattle.std.proofs.lemmas.Bool.{and_from, and_parts}
+use Rattle.std.proofs.lemmas.Bool.{and_from, and_parts, true≢false}
 use Rattle.std.proofs.lemmas.Grind.{flat_map-append}
 use Rattle.std.proofs.lemmas.List.Folds.{list_all-append}
 use Rattle.std.proofs.lemmas.Option.{slice_get-map}
@@ -19,6 +19,11 @@ use Rattle.kan_model.specs.Programs.Scope.{is_low, takes, calls_there, in_scope,
 use Rattle.kan_model.specs.Programs.Tables.{RelationEntry, Tables, goal_at, goals_of, templates_of, program_of, is_grown, are_closed}
 use Rattle.kan_grammar.specs.Texts.TextFaults.{faults_of, least, IsAccepted}
 use Rattle.kan_grammar.specs.Texts.TopForms.{Defined, form, definitions, definitions_of}
+use Rattle.kan_model.specs.Programs.Closed as programs
+use Rattle.kan_model.specs.Programs.Drafts.{tables}
+use Rattle.kan_model.specs.declared.draft.Draft.{Draft}
+use Rattle.kan_model.specs.declared.program.CloseRefused.{CloseRefused}
+use Rattle.kan_model.specs.declared.program.CloseRefused.TheVariants as closing
 use Rattle.kan_model.specs.declared.nodes.Query.{Query}
 use Rattle.kan_model.proofs.Programs.ScopeLaws.{all-calls}
 use Rattle.goal_syntax.specs.Building.FormsBuilt.{Means, query_made, relation_made}
@@ -157,3 +162,8 @@ pub table_after : (old new : Table) (r : Result Compiled SyntaxError) → new �
 table_after old new (Ok c) is extends = is
 table_after old new (Err (Fault at number)) is extends = is
 table_after old new (Err Memory) is extends = extends
+
+-- a draft in which nothing is open is not handed back
+pub closing_goes : (d : Draft) (goals : List ℕ) (e : CloseRefused) → programs.HandsBack d goals e → are_closed (tables d) goals ≡ true → ⊥
+closing_goes d goals (closing.Open back) handed closed = true≢false (sym closed ∙ handed.1)
+closing_goes d goals (closing.Memory back) handed closed = handed
