@@ -1,0 +1,6 @@
+//! The reasons for which a text is refused, and the line that says so.
+#![tactic(auto)]
+
+mod refusals;
+
+pub use refusals::{Refusal, error_line};
