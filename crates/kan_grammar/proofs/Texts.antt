@@ -2,4 +2,5 @@
 pub mod NameLaws
 mod TextExamples
 mod FaultExamples
+mod ReplyExamples
 mod ProgramExamples

@@ -9,3 +9,4 @@ pub mod TextNames
 pub mod Resolved
 pub mod ProgramText
 pub mod TextFaults
+pub mod Reply

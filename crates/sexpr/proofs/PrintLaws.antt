@@ -1,12 +1,17 @@
 -- How printing goes on from one piece of work to the next.
-use Rattle.std.proofs.Common.{◌≡◌, ℕ, ◌+◌, ◌<◌, List, [], ◌∷◌, ◌++◌, length, map, refl, sym, ap, ◌∙◌, arith, append_assoc, append-nil}
-use Rattle.std.specs.Prelude.{Option, None, Some, ℤ, Bool, codes}
+use Rattle.std.proofs.Common.{◌≡◌, ℕ, suc, ◌+◌, ◌<◌, ◌≤◌, List, [], ◌∷◌, ◌++◌, length, map, refl, sym, ap, ◌∙◌, arith, append_assoc, append-nil}
+use Rattle.std.specs.Prelude.{Option, None, Some, ℤ, pos, negsuc, Bool, codes, ◌^◌}
 use Rattle.std.specs.Option.{option_map, option_copied}
 use Rattle.std.specs.Borrow.{Bor}
 use Rattle.kan_grammar.specs.Data.Written.{Written, single, list, prefixed, dotted, element}
 use Rattle.kan_terms.specs.Table.{name_of}
 use Rattle.kan_grammar.specs.Data.Words.{round, number, truth}
 use Rattle.kan_grammar.specs.Data.Printed.{named_text, pairs, pairs_within, prefix_name}
+use Rattle.std.specs.Fmt.{decimal, signed_decimal}
+use lib.Signed.{mag}
+use Rattle.kan_model.specs.Answers.Text.{truth_text}
+use Rattle.kan_model.specs.Answers.Decimals.{decimal_text, number_text}
+use Rattle.kan_model.proofs.Answering.DecimalLaws.{decimal_as_printed}
 use Rattle.sexpr.specs.Meaning.{prefix_of}
 use Rattle.sexpr.specs.Seen.{symbol_atom, string_atom, inner_of, list_of, written}
 use Rattle.kan_terms.specs.Table.{Table}
@@ -183,6 +188,24 @@ tail_number names d n e = tail_same (written names d) (single d.at (number n)) (
 
 pub tail_truth : (names : Table) (d : Datum) (b : Bool) → d.kind ≡ kinds.Truth b → rest_text (pairs (written names d)) ≡ codes " . " ++ named_text (pairs (written names d))
 tail_truth names d b e = tail_same (written names d) (single d.at (truth b)) (written_of names d (kinds.Truth b) e ∙ written_truth names d.at b) refl
+
+-- an atom, printed behind a text
+pub atom_prints : (t u x y ws : List ℕ) → u ≡ t ++ x → y ≡ x → u ++ ws ≡ t ++ (y ++ ws)
+atom_prints t u x y ws e h = ap (λ z. z ++ ws) e ∙ append_assoc t x ws ∙ ap (λ z. t ++ (z ++ ws)) (sym h)
+
+pub number_prints : (names : Table) (d : Datum) (n : ℤ) → d.kind ≡ kinds.Number n → named_text (pairs (written names d)) ≡ number_text n
+number_prints names d n e = ap (λ w. named_text (pairs w)) (written_of names d (kinds.Number n) e ∙ written_number names d.at n)
+
+pub truth_prints : (names : Table) (d : Datum) (b : Bool) → d.kind ≡ kinds.Truth b → named_text (pairs (written names d)) ≡ truth_text b
+truth_prints names d b e = ap (λ w. named_text (pairs w)) (written_of names d (kinds.Truth b) e ∙ written_truth names d.at b)
+
+-- a number of 128 bits is printed as std prints it
+print_small : (n : ℕ) → n ≤ 2 ^ 127 → decimal_text n ≡ decimal n
+print_small n h = decimal_as_printed n (omega (arith, h))
+
+pub printed_number : (z : ℤ) → mag z < 2 ^ 127 → number_text z ≡ signed_decimal z
+printed_number (pos n) h = print_small n (omega (arith, h))
+printed_number (negsuc n) h = ap (λ x. 45 ∷ x) (print_small (suc n) (omega (arith, h)))
 
 pub last_prints : (names : Table) (d : Bor Datum) (t u : List ℕ) (ws w1 : List Work) → rest_text (pairs (written names d.now)) ≡ codes " . " ++ named_text (pairs (written names d.now)) → u ≡ t ++ codes " . " → w1 ≡ ws ++ works.Datum d ∷ [] → u ++ works_text names w1 ≡ t ++ (rest_text (pairs (written names d.now)) ++ works_text names ws)
 last_prints names d t u ws w1 h e f =

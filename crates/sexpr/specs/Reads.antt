@@ -1,9 +1,9 @@
 -- What a reading of a text answers.
-use Rattle.std.specs.Prelude.{◌≡◌, ℕ, ◌+◌, ◌^◌, ◌<◌, List, length, map, IsTrue, Option, Some, Result, Ok, Err}
+use Rattle.std.specs.Prelude.{◌≡◌, ℕ, ◌+◌, ◌^◌, ◌<◌, List, length, map, IsTrue, Result, Ok, Err}
 use Rattle.kan_terms.specs.Table.{Table, is_string_text}
 use Rattle.kan_grammar.specs.Data.Words.{Token, atom, string}
 use Rattle.kan_grammar.specs.Data.Tokens.{Placed, Piece, blank, spelled, placed_before}
-use Rattle.kan_grammar.specs.Data.Faults.{Fault as Refusal, fault, Reading, read_text, data_are, refused, run, going, finish}
+use Rattle.kan_grammar.specs.Data.Faults.{fault, Reading, read_text, data_are, refused, run, going, finish}
 use Rattle.kan_grammar.specs.Data.Written.{Written}
 use Rattle.kan_grammar.specs.Texts.TextNames.{GoesOn, with_token}
 use Rattle.sexpr.specs.Seen.{written, as_kept}

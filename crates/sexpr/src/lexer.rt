@@ -9,8 +9,8 @@ ghost use Rattle.sexpr.specs.Pieces.{first_piece};
 
 use crate::bytes::{Start, begun_by, comment_length, word_length};
 use crate::data::Prefix;
-use crate::token::{Atom, Token};
 use crate::strings::string_length;
+use crate::token::{Atom, Token};
 use crate::word::word_token;
 
 /// A piece at the front of a text.

@@ -3,10 +3,10 @@
 
 mod bytes;
 mod data;
+mod enclosing;
 mod frame;
 pub mod laws;
 mod lexer;
-mod enclosing;
 mod printer;
 mod reader;
 mod strings;

@@ -6,6 +6,8 @@ ghost use Rattle.kan_grammar.specs.Data.Printed.{datum_text, named_text, pairs, 
 ghost use Rattle.sexpr.specs.Meaning.{prefix_of};
 ghost use Rattle.sexpr.specs.Seen.{written};
 ghost use Rattle.kan_terms.specs.Table.{name_of};
+ghost use Rattle.kan_model.specs.Answers.Decimals.{number_text};
+ghost use Rattle.kan_model.specs.Answers.Text.{truth_text};
 ghost use Rattle.sexpr.specs.Printing.{string_atom_text, within, rest_text, cost_within, work_text, works_text, work_cost, works_cost};
 ghost use Rattle.sexpr.specs.declared.printer.Work.TheVariants as work_variants;
 
@@ -79,9 +81,8 @@ fn print_datum<'a>(
     match &datum.kind {
         DatumKind::Symbol(number) => text.push_str(names.name(*number).unwrap_or(""))?,
         DatumKind::Text(number) => print_text(*number, names, text)?,
-        DatumKind::Number(number) => write!(text, "{number}")?,
-        DatumKind::Truth(true) => text.push_str("#t")?,
-        DatumKind::Truth(false) => text.push_str("#f")?,
+        DatumKind::Number(number) => print_number(*number, text)?,
+        DatumKind::Truth(truth) => text.push_str(truth_name(*truth))?,
         DatumKind::List(items, last) => return print_list(
             items.as_slice(),
             lent(last),
@@ -98,6 +99,21 @@ fn print_datum<'a>(
         }
     }
     Ok(())
+}
+
+/// Prints a whole number.
+fn print_number(number: i128, text: &mut String) -> Result<(), Memory>
+    ensures { OnOk result (string_bytes text.new ≡ string_bytes text.old ++ number_text number) }
+{
+    write!(text, "{number}")?;
+    Ok(())
+}
+
+/// A truth value as it is written.
+fn truth_name(truth: bool) -> &'static str
+    ensures { result.now ≡ truth_text truth }
+{
+    if truth { "#t" } else { "#f" }
 }
 
 /// Prints the string that has a number, and nothing where none has it.

@@ -2,7 +2,7 @@
 use Rattle.std.specs.Prelude.{ℕ, Bool, true, false, List, map, []}
 use Rattle.std.specs.Str.{is_utf8, chars}
 use Rattle.std.specs.Char.{encode_utf8}
-use Rattle.std.specs.Fmt.{digits}
+use Rattle.kan_model.specs.Answers.Decimals.{decimal_text}
 use Rattle.kan_grammar.specs.Data.Tokens.{Placed, tokens, tokens_from, piece}
 use Rattle.kan_grammar.specs.Data.Words.{word_token}
 use Rattle.kan_grammar.specs.Data.Written.{Written}
@@ -35,5 +35,5 @@ texts (refused f) = []
 
 -- the texts of the data of a text, where it has some
 unfoldable pub reprinted : List ℕ → List (List ℕ)
-unfolding read_ascii read_tokens run tokens tokens_from piece word_token digits
+unfolding read_ascii read_tokens run tokens tokens_from piece word_token decimal_text
 reprinted bytes = texts (read_ascii bytes)

@@ -1,7 +1,6 @@
 -- What stands between the marks is cut off as a text, which is the string of the piece.
-use Rattle.std.proofs.Common.{◌≡◌, ◌∷◌, ap, sym, subst, ◌∙◌, false}
+use Rattle.std.proofs.Common.{◌≡◌, ap, sym, ◌∙◌, false}
 use Rattle.std.specs.Prelude.{Some}
-use Rattle.std.specs.Str.{IsUtf8, IsCharBoundary}
 use Rattle.kan_grammar.specs.Data.Strings.{string_length}
 use Rattle.sexpr.specs.Meaning.{piece_of}
 use Rattle.sexpr.proofs.PieceLaws.{text_string_piece, string_to, string_begins}

@@ -1,10 +1,7 @@
 -- Each character is printed as it is spelled.
 use Rattle.std.proofs.Common.{string_bytes}
-use Rattle.std.specs.List.{flat_map}
-use Rattle.std.specs.Str.Iter.{chars_rest}
 use Rattle.std.proofs.lemmas.Str.{IsUtf8-past_char}
-use Rattle.kan_model.specs.Answers.Text.{string_byte_text}
-use Rattle.sexpr.proofs.StringLaws.{print_begins, print_goes_on, print_ends}
+use Rattle.sexpr.proofs.StringLaws.{print_goes_on, print_ends}
 use Rattle.sexpr.proofs.strings.print_string.Goals as goal
 
 pub loop-character-preserved : goal.loop-character-preserved

@@ -1,5 +1,5 @@
 -- What is printed and what the characters that are left are printed as is the text in its marks.
-use Rattle.std.proofs.Common.{◌≡◌, ◌∷◌, [], ◌++◌, IsUtf8, string_bytes}
+use Rattle.std.proofs.Common.{◌≡◌, ◌∷◌, ◌++◌, IsUtf8, string_bytes}
 use Rattle.std.specs.List.{flat_map}
 use Rattle.std.specs.Str.Iter.{chars_rest}
 use Rattle.kan_model.specs.Answers.Text.{string_byte_text}

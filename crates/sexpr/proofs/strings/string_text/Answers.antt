@@ -1,8 +1,6 @@
 -- Each character puts what it means.
 use Rattle.std.proofs.Common.{string_bytes}
-use Rattle.std.specs.Str.Iter.{chars_rest}
 use Rattle.std.proofs.lemmas.Str.{IsUtf8-past_char}
-use Rattle.kan_grammar.specs.Data.Strings.{string_meaning}
 use Rattle.sexpr.proofs.StringLaws.{meaning_goes_on, meaning_ends}
 use Rattle.sexpr.proofs.strings.string_text.Goals as goal
 
