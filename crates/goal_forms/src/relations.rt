@@ -1,6 +1,6 @@
 //! The relations that are defined.
 
-ghost use Rattle.std.specs.Prelude.{◌≡◌, ◌<◌, ◌^◌, ◌==◌, ℕ, length, nat_eq, OnOk};
+ghost use Rattle.std.specs.Prelude.{◌≡◌, ◌<◌, ◌^◌, ◌==◌, ℕ, length, nat_eq, OnOk, if◌then◌else◌};
 ghost use Rattle.std.specs.HashMap.{get};
 ghost use Rattle.kan_grammar.specs.Texts.Resolved.{relation_number, or_else};
 ghost use Rattle.goal_forms.specs.DefinedRelations.{related};

@@ -138,7 +138,7 @@ of_text_low old new ds is text =
 
 -- and a library that is accepted by itself is so under it
 pub alone_still : (old new : Table) (library : List Datum) → new ≡ with_prefixes old → IsAcceptedAlone (with_prefixes old) library → IsAccepted new [] (map (written new) library)
-alone_still old new library is alone = rw is alone.accepted
+alone_still old new library is alone = rw is (no_faults _ alone.faultless)
 
 -- what the forms of data give is what the data give
 pub compiled_of : (dialect : Dialect) (names : Table) (library text : List Datum) (r : Result Compiled SyntaxError) →

@@ -1,8 +1,6 @@
 -- Libraries that are accepted by themselves, for those who compile: compiling one by itself shows it.
-use Rattle.std.proofs.Common.{◌≡◌, ℕ, List, [], ◌∷◌, ◌++◌, map, length, refl, sym, ◌∙◌, ap}
-use Rattle.std.specs.Prelude.{Bool, true, false, ◌&&◌, Option, Some, None, is_some, if◌then◌else◌}
-use Rattle.std.specs.List.{list_all, flat_map}
-use Rattle.std.proofs.lemmas.Bool.{and_from}
+use Rattle.std.proofs.Common.{◌≡◌, ℕ, List, [], ◌∷◌, ◌++◌, map, length, refl, sym, ◌∙◌, ap, ap₂}
+use Rattle.std.specs.Prelude.{Option, Some, None, is_some, if◌then◌else◌}
 use Rattle.kan_terms.specs.Table.{Table, number_of, interned}
 use Rattle.kan_terms.proofs.TableLaws.{number_of-push, number_of-interned}
 use Rattle.kan_model.specs.Programs.Goals.{Query}
@@ -15,8 +13,7 @@ use Rattle.kan_grammar.specs.Texts.TopForms.{Defined, Form, relation, run_of_one
 use Rattle.kan_grammar.specs.Texts.ProgramText.{queries_in, queries_of, text_meaning}
 use Rattle.sexpr.specs.declared.data.Datum.{Datum}
 use Rattle.goal_syntax.specs.declared.compiler.Compiled.{Compiled}
-use Rattle.goal_syntax.specs.Compiling.Compiles.{IsAcceptedAlone, IsCompiled, is_no_run, queries_meant, sites_of}
-use Rattle.goal_syntax.proofs.Compiling.ClosingLaws.{no_faults}
+use Rattle.goal_syntax.specs.Compiling.Compiles.{IsAcceptedAlone, IsCompiled, sites_of}
 
 -- a text that came to a list is there
 interned_there : (texts : List (List ℕ)) (text : List ℕ) → (n : ℕ) × (number_of (interned texts text) text ≡ Some n)
@@ -48,31 +45,31 @@ prefixes_again table =
     ∙ ap (λ l. with_prefix (with_symbols all l) unquote) (prefix_again all (prefix_name quasiquote) second.0 quasiquoted)
     ∙ ap (with_symbols all) (prefix_again all (prefix_name unquote) third.0 third.1)
 
--- a form that gives no run is none
-no_run_of : (dialect : Dialect) (ds : List Defined) (f : Form) (later : List Query) → queries_in dialect ds f ++ later ≡ [] → is_no_run f ≡ true
-no_run_of dialect ds (relation name params gs) later h = refl
-no_run_of dialect ds (run_of_one limit q gs) later h = absurd cc
-no_run_of dialect ds (run_of_list limit xs gs) later h = absurd cc
-no_run_of dialect ds (misshapen at) later h = refl
-no_run_of dialect ds (unknown at) later h = refl
+-- a form that gives no run in one dialect gives none in another
+no_run_of : (dialect other : Dialect) (ds : List Defined) (f : Form) (later : List Query) → queries_in dialect ds f ++ later ≡ [] → queries_in other ds f ≡ []
+no_run_of dialect other ds (relation name params gs) later h = refl
+no_run_of dialect other ds (run_of_one limit q gs) later h = absurd cc
+no_run_of dialect other ds (run_of_list limit xs gs) later h = absurd cc
+no_run_of dialect other ds (misshapen at) later h = refl
+no_run_of dialect other ds (unknown at) later h = refl
 
 behind_none : (xs ys : List Query) → xs ++ ys ≡ [] → ys ≡ []
 behind_none [] ys h = h
 behind_none (x ∷ xs) ys h = absurd cc
 
-no_runs_of : (dialect : Dialect) (t : Table) (ds : List Defined) (forms : List Sited) → queries_of dialect t ds forms ≡ [] → list_all (λ d. is_no_run (form t d)) forms ≡ true
-no_runs_of dialect t ds [] h = refl
-no_runs_of dialect t ds (d ∷ later) h =
-    and_from (is_no_run (form t d)) (list_all (λ e. is_no_run (form t e)) later) (no_run_of dialect ds (form t d) (queries_of dialect t ds later) h)
-    (no_runs_of dialect t ds later (behind_none (queries_in dialect ds (form t d)) (queries_of dialect t ds later) h))
+no_runs_of : (dialect other : Dialect) (t : Table) (ds : List Defined) (forms : List Sited) → queries_of dialect t ds forms ≡ [] → queries_of other t ds forms ≡ []
+no_runs_of dialect other t ds [] h = refl
+no_runs_of dialect other t ds (d ∷ later) h =
+    ap₂ (λ x y. x ++ y) (no_run_of dialect other ds (form t d) (queries_of dialect t ds later) h)
+    (no_runs_of dialect other t ds later (behind_none (queries_in dialect ds (form t d)) (queries_of dialect t ds later) h))
 
-no_runs_meant : (dialect : Dialect) (t : Table) (forms : List Sited) → (text_meaning dialect t [] forms).queries ≡ [] → list_all (λ d. is_no_run (form t d)) forms ≡ true
+no_runs_meant : (dialect other : Dialect) (t : Table) (forms : List Sited) → (text_meaning dialect t [] forms).queries ≡ [] → (text_meaning other t [] forms).queries ≡ []
 unfolding text_meaning
-no_runs_meant dialect t forms h = no_runs_of dialect t (definitions t forms) forms h
+no_runs_meant dialect other t forms h = no_runs_of dialect other t (definitions t forms) forms h
 
 -- a library that compiles by itself, to no run, is accepted by itself
 pub accepted_alone : (dialect : Dialect) (names : Table) (library : List Datum) (c : Compiled) → IsCompiled dialect names [] library c.program c.queries → c.queries ≡ [] → IsAcceptedAlone names library
 accepted_alone dialect names library c compiled none = record {
-  accepted = no_faults _ compiled.accepted;
-  no_run = no_runs_meant dialect names (sites_of names library) (sym (rw none at compiled.queries_are));
+  faultless = compiled.accepted;
+  runless = λ other. no_runs_meant dialect other names (sites_of names library) (sym (rw none at compiled.queries_are));
 }

@@ -1,11 +1,13 @@
 -- Data of texts, and libraries that are accepted by themselves, for those who compile.
 use Rattle.std.proofs.Common.{◌≡◌, ◌≤◌, ◌^◌, ℕ, List, [], length, refl, arith}
-use Rattle.std.specs.Prelude.{Ok}
+use Rattle.std.specs.Prelude.{None, Ok}
 use Rattle.std.specs.Str.{is_utf8, chars}
 use Rattle.kan_terms.specs.Table.{Table}
 use Rattle.kan_grammar.specs.Data.Faults.{run, read_tokens, read_text, data_are}
 use Rattle.kan_grammar.specs.Data.Tokens.{tokens, tokens_from}
-use Rattle.kan_grammar.specs.Texts.TextFaults.{faults_of}
+use Rattle.kan_grammar.specs.Texts.TextFaults.{faults_of, fault_of_text}
+use Rattle.kan_grammar.specs.Texts.ProgramText.{queries_of_text, text_meaning}
+use Rattle.kan_grammar.specs.declared.dialect.Dialect.{Dialect}
 use Rattle.kan_grammar.specs.Texts.TextNames.{GoesOn, with_prefixes}
 use Rattle.kan_grammar.proofs.Texts.NameLaws.{extends_prefixes, goes_on_further}
 use Rattle.sexpr.specs.Reads.{Reads}
@@ -30,9 +32,13 @@ read_of_text old new bytes ds few further reads = record {
 }
 
 -- an empty library is accepted
-none_faulty : (t : Table) → faults_of t [] [] ≡ []
+none_faulty : (t : Table) → fault_of_text t [] [] ≡ None
 unfolding faults_of
 none_faulty t = refl
 
+none_runs : (dialect : Dialect) (t : Table) → queries_of_text dialect t [] [] ≡ []
+unfolding text_meaning
+none_runs dialect t = refl
+
 pub none_accepted : (names : Table) (ds : List Datum) → ds ≡ [] → IsAcceptedAlone names ds
-none_accepted names ds e = rw e (record { accepted = none_faulty names; no_run = refl })
+none_accepted names ds e = rw e (record { faultless = none_faulty names; runless = λ dialect. none_runs dialect names })

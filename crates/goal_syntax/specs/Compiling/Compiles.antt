@@ -1,6 +1,5 @@
 -- What compiling a text answers.
-use Rattle.std.specs.Prelude.{◌≡◌, ◌≤◌, ◌^◌, ℕ, ◌++◌, [], List, map, length, true, false, Bool, Option, Some, None, Result, Ok, Err}
-use Rattle.std.specs.List.{list_all}
+use Rattle.std.specs.Prelude.{◌≡◌, ◌≤◌, ◌^◌, ℕ, ◌++◌, [], List, map, length, true, Option, Some, None, Result, Ok, Err}
 use Rattle.kan_terms.specs.Table.{Table}
 use Rattle.kan_model.specs.Programs.Goals as model
 use Rattle.kan_model.specs.Programs.Scope.{is_small}
@@ -13,8 +12,8 @@ use Rattle.kan_grammar.specs.declared.dialect.Dialect.{Dialect}
 use Rattle.kan_grammar.specs.Data.Faults as faults
 use Rattle.kan_grammar.specs.Data.Faults.{read_text, data_are}
 use Rattle.kan_grammar.specs.Texts.Sited.{Sited, with_sites}
-use Rattle.kan_grammar.specs.Texts.TopForms.{Form, run_of_one, run_of_list, form}
-use Rattle.kan_grammar.specs.Texts.TextFaults.{fault_of_text, IsAccepted}
+use Rattle.kan_grammar.specs.Texts.TextFaults.{fault_of_text}
+use Rattle.kan_grammar.specs.Texts.Reply.{IsLibrary}
 use Rattle.kan_grammar.specs.Texts.TextNames.{Extends, with_prefixes}
 use Rattle.kan_grammar.specs.Texts.ProgramText.{program_of_text, queries_of_text}
 use Rattle.sexpr.specs.Seen.{written, as_kept}
@@ -77,13 +76,6 @@ pub record AreOfText (names : Table) (ds : List Datum) : Type 0 where
   pub few : length bytes ≤ 2 ^ 20
   pub are : read_text as_kept bytes ≡ data_are (map (written names) ds)
 
--- a top form is no run
-abbrev pub is_no_run : Form → Bool
-is_no_run (run_of_one limit q gs) = false
-is_no_run (run_of_list limit xs gs) = false
-is_no_run f = true
-
 -- a library is accepted by itself: it has no fault, and no run
-pub record IsAcceptedAlone (names : Table) (library : List Datum) : Type 0 where
-  pub accepted : IsAccepted names [] (map (written names) library)
-  pub no_run : list_all (λ d. is_no_run (form names d)) (sites_of names library) ≡ true
+abbrev pub IsAcceptedAlone : Table → List Datum → Type 0
+IsAcceptedAlone names library = IsLibrary names (map (written names) library)
