@@ -9,14 +9,14 @@ use Rattle.kan_model.specs.Streams.Bounds.{Fits, StreamFits}
 use Rattle.kan_model.specs.Stores.Store as facts
 use Rattle.kan_model.specs.Streams.Running.{force}
 use Rattle.kan_model.specs.Programs.Closed as programs
-use Rattle.stream_core.specs.Standing.{Grows, ThunkBelongs, IsForce, stream}
-use Rattle.stream_core.specs.Keeping.{row_tree, RowIsSound, IsSound}
+use Rattle.stream_core.specs.Suspensions.{Grows, ThunkBelongs, IsForce, stream}
+use Rattle.stream_core.specs.PlainRows.{row_tree, RowIsSound, IsSound}
 use Rattle.stream_core.specs.declared.streams.Thunk.{Thunk}
 use Rattle.stream_core.specs.declared.streams.Thunk.TheVariants.{Call, Swap, Bind}
 use Rattle.stream_core.specs.declared.streams.Stream.{Stream as Kept}
-use Rattle.stream_core.specs.declared.plain.PlainId.{PlainId}
-use Rattle.stream_core.specs.declared.plain.PlainNodes.{PlainNodes}
-use Rattle.stream_core.specs.declared.plain.Row.{Row}
+use Rattle.stream_core.specs.declared.plain_nodes.PlainId.{PlainId}
+use Rattle.stream_core.specs.declared.plain_nodes.PlainNodes.{PlainNodes}
+use Rattle.stream_core.specs.declared.plain_nodes.Row.{Row}
 use Rattle.kan_search.specs.Suspensions.{tree_of, IsOf, LeavesRoom}
 use Rattle.kan_search.proofs.DecidedLaws.{goals-decided, streams-decided}
 

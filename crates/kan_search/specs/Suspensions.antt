@@ -4,10 +4,10 @@ use Rattle.kan_model.specs.Stores.Store as facts
 use Rattle.kan_model.specs.Streams.Stream as model
 use Rattle.kan_model.specs.Streams.Bounds.{top}
 use Rattle.kan_model.specs.Programs.Closed as programs
-use Rattle.stream_core.specs.Standing.{going_on}
-use Rattle.stream_core.specs.Keeping.{BelongsTo, row_tree}
-use Rattle.stream_core.specs.declared.plain.PlainId.{PlainId}
-use Rattle.stream_core.specs.declared.plain.PlainNodes.{PlainNodes}
+use Rattle.stream_core.specs.Suspensions.{going_on}
+use Rattle.stream_core.specs.PlainRows.{BelongsTo, row_tree}
+use Rattle.stream_core.specs.declared.plain_nodes.PlainId.{PlainId}
+use Rattle.stream_core.specs.declared.plain_nodes.PlainNodes.{PlainNodes}
 
 module _ {St : Type 0} (means : St → facts.Store) where
   -- the suspension that an id of a table stands for

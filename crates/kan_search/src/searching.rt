@@ -5,7 +5,7 @@ ghost use Rattle.std.specs.List.{list_all};
 ghost use Rattle.std.specs.Option.{ForSome};
 ghost use Rattle.kan_model.specs.Programs.Scope.{is_small};
 ghost use Rattle.kan_model.specs.Programs.Closed as programs;
-ghost use Rattle.stream_core.specs.Tasks.{is_built};
+ghost use Rattle.stream_core.specs.CodeTasks.{is_built};
 ghost use Rattle.kan_search.specs.Suspensions.{tree_of, IsOf, LeavesRoom};
 
 use crate::batch::{Batch, Ended};

@@ -12,8 +12,8 @@ use Rattle.kan_model.specs.Programs.Tables.{GoalEntry, RelationEntry, Tables, go
 use Rattle.kan_model.specs.Programs.Closed as programs
 use Rattle.kan_model.specs.declared.program.Program as code
 use Rattle.kan_model.proofs.Programs.TableLaws.{grown-parts, goals-length}
-use Rattle.stream_core.specs.Machine.{Each}
-use Rattle.stream_core.proofs.MachineLaws.{Each-like, Each-append}
+use Rattle.stream_core.specs.Tasks.{Each}
+use Rattle.stream_core.proofs.HeadLaws.{Each-like, Each-append}
 
 -- the parts of a goal are goals of the list
 abbrev pub PartsIn : List Goal → Goal → Type 0

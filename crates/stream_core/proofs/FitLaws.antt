@@ -14,12 +14,12 @@ use Rattle.kan_model.specs.Streams.Stream.{Stream, Thunk, heads, append, append_
 use Rattle.kan_model.specs.Streams.Running.{Arguments, run, force, enter, variables, instance, instances, named, named_store}
 use Rattle.kan_model.specs.Programs.Scope.{width, all_below, in_scope, takes}
 use Rattle.kan_model.specs.Streams.Bounds.{Fits, StreamFits, top, floor, stream_top, stream_floor, highest, lowest}
-use Rattle.stream_core.specs.Fitting.{Between, RestFits, TailFits}
-use Rattle.stream_core.specs.Machine.{Each}
-use Rattle.stream_core.specs.Naming.{NamesFirst}
-use Rattle.stream_core.proofs.MachineLaws.{Each-like, Each-append, below-more, env-more, variables-below}
-use Rattle.stream_core.proofs.GivingLaws.{instance-below, names-itself, names-all}
-use Rattle.stream_core.proofs.BoundLaws.{stream-floor-below, stream-top-above, stream-between, lowest-below, highest-above}
+use Rattle.stream_core.specs.CounterBounds.{Between, RestFits, TailFits}
+use Rattle.stream_core.specs.Tasks.{Each}
+use Rattle.stream_core.specs.CallArguments.{NamesFirst}
+use Rattle.stream_core.proofs.HeadLaws.{Each-like, Each-append, below-more, env-more, variables-below}
+use Rattle.stream_core.proofs.ArgumentLaws.{instance-below, names-itself, names-all}
+use Rattle.stream_core.proofs.CounterLaws.{stream-floor-below, stream-top-above, stream-between, lowest-below, highest-above}
 use Rattle.stream_core.proofs.ClosedLaws.{ProgramIsClosed}
 
 rest-wider : (program : Program) (l h low high : ℕ) (s : Stream) → low ≤ l → h ≤ high → RestFits program l h s → RestFits program low high s

@@ -2,7 +2,7 @@
 use Rattle.std.specs.Prelude.{Option, Some, None, MatchOption}
 use Rattle.std.specs.Option.{option_to_list}
 use Rattle.std.proofs.Common.{◌≡◌, ℕ, ◌-◌, take, append-nil, List, [], ◌∷◌, ◌++◌, refl, ap, ap₂, ◌∙◌}
-use Rattle.stream_core.specs.Tasks.{stack}
+use Rattle.stream_core.specs.CodeTasks.{stack}
 
 pub stack-push : {X Y : Type 0} (f : X → Y) (xs : List X) (x : X) → stack f (xs ++ x ∷ []) ≡ f x ∷ stack f xs
 stack-push f [] x = refl

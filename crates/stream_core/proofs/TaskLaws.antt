@@ -11,9 +11,9 @@ use Rattle.kan_model.specs.Streams.Stream.{Stream, Thunk, heads, append, append_
 use Rattle.kan_model.specs.Streams.Running.{run, variables}
 use Rattle.kan_model.specs.Programs.Scope.{width, all_below, in_scope}
 use Rattle.kan_model.specs.Streams.Bounds.{floor}
-use Rattle.stream_core.specs.Fitting.{Between, RestFits}
-use Rattle.stream_core.specs.Machine.{Task, done, Each, HasRoom, IsOf, AreBelowRest, AreReady, for_each, count, left, Becomes, run_each, bound_last}
-use Rattle.stream_core.proofs.MachineLaws.{Each-like, run-between, env-more, variables-below}
+use Rattle.stream_core.specs.CounterBounds.{Between, RestFits}
+use Rattle.stream_core.specs.Tasks.{Task, done, Each, HasRoom, IsOf, AreBelowRest, AreReady, for_each, count, left, Becomes, run_each, bound_last}
+use Rattle.stream_core.proofs.HeadLaws.{Each-like, run-between, env-more, variables-below}
 use Rattle.stream_core.proofs.ClosedLaws.{ProgramIsClosed}
 use Rattle.stream_core.proofs.FitLaws.{run-fits, wider-slots}
 

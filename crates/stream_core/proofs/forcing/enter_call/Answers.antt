@@ -17,7 +17,7 @@ run_goal-requires-clause-there g c =
 pub run_goal-requires-clause-slots : goal.run_goal-requires-clause-slots
 run_goal-requires-clause-slots g c =
     let p = c.args.program.now in
-    body-slots (programs.meaning p) c.args.rel (terms_of c.args.args.now) (g.St.Store.meaning c.args.store) _ (program-closed p c.requires.small) c.requires.may.0
+    body-slots (programs.meaning p) c.args.rel (terms_of c.args.args.now) (g.St.Store.meaning c.args.store) _ (program-closed p c.requires.table.small) c.requires.may.0
     (relation-found (programs.tables p) c.args.rel (relation_entry c.in-Some.relation.now) (ap (λ r. option_map relation_entry (option_copied r)) (sym c.in-Some.is) ∙ c.relation.ensures))
 
 pub returns-in_ok-made-in-Some-clause-made : goal.returns-in_ok-made-in-Some-clause-made

@@ -1,14 +1,14 @@
 use Rattle.std.proofs.Common.{sym, ◌∙◌, subst}
-use Rattle.stream_core.specs.Forcing.{MayForce, IsInside}
+use Rattle.stream_core.specs.InnerSuspensions.{MayForce, IsInside}
 use Rattle.stream_core.proofs.ForceLaws.{inner-may}
 use Rattle.stream_core.proofs.WayLaws.{way-longer, next-inside, each-longer}
 use Rattle.stream_core.proofs.forcing.way_down.Goals as goal
 
 pub down-preserved : goal.down-preserved
 down-preserved g c =
-    let tree = g.N.Nodes.tree c.args.nodes.now in
-    let belongs = g.N.Nodes.belongs c.args.nodes.now in
-    let program = g.N.Nodes.serves c.args.nodes.now in
+    let tree = (g.N.Nodes.table c.args.nodes.now).tree in
+    let belongs = (g.N.Nodes.table c.args.nodes.now).belongs in
+    let program = (g.N.Nodes.table c.args.nodes.now).program in
     let means = g.St.Store.meaning in
     let whole = tree c.args.id.now in
     let inv = c.down.invariant in
@@ -23,9 +23,9 @@ down-preserved g c =
 
 pub returns-in-None : goal.returns-in-None
 returns-in-None g c =
-    let tree = g.N.Nodes.tree c.args.nodes.now in
-    let belongs = g.N.Nodes.belongs c.args.nodes.now in
-    let program = g.N.Nodes.serves c.args.nodes.now in
+    let tree = (g.N.Nodes.table c.args.nodes.now).tree in
+    let belongs = (g.N.Nodes.table c.args.nodes.now).belongs in
+    let program = (g.N.Nodes.table c.args.nodes.now).program in
     let means = g.St.Store.meaning in
     let inv = c.down.invariant in
     record {
