@@ -2,6 +2,7 @@
 pub mod AnswerExamples
 pub mod AnswerLaws
 pub mod ByteOrder
+pub mod DecimalLaws
 pub mod FormLaws
 pub mod NameLaws
 pub mod OwnForm

@@ -14,8 +14,8 @@ use Rattle.kan_terms.specs.Tree.{Tree, Tm}
 use Rattle.kan_terms.specs.Terms.{tree}
 use Rattle.kan_terms.specs.declared.terms.Term.{Term}
 use Rattle.kan_model.specs.declared.letters.Letter.{Letter}
-use Rattle.kan_model.specs.declared.letters.Letter.TheVariants.{Pair, Var, Sym, Num, Truth, Nil}
-use Rattle.kan_model.specs.Terms.Letters.{letter_of, spelling, waiting_spelling, only_one, stack_terms, Gives, IsAtomOf, joined, put_letter, put_letter_on, built_from, is_letter_of, letter_eq, spliced}
+use Rattle.kan_model.specs.declared.letters.Letter.TheVariants.{Pair, Var, Sym, Str, Num, Truth, Nil}
+use Rattle.kan_model.specs.Terms.Letters.{letter_of, spelling, waiting_spelling, only_one, stack_terms, Gives, IsAtomOf, join_two, put_letter, put_letter_on, built_from, is_letter_of, letter_eq, splice}
 
 -- a term put on top is spelled first
 pub waiting-push : (ts : List (Bor Term)) (t : Bor Term) → waiting_spelling (ts ++ t ∷ []) ≡ spelling (tree t.now) ++ waiting_spelling ts
@@ -71,6 +71,7 @@ built_from-append (x ∷ xs) ys ts = ap (put_letter_on x) (built_from-append xs 
 pub built_from-spelling : (t : Tm) (ts : List Tm) → built_from (spelling t) ts ≡ Some (t ∷ ts)
 built_from-spelling (Tree.leaf v) ts = refl
 built_from-spelling (Tree.sym s) ts = refl
+built_from-spelling (Tree.str s) ts = refl
 built_from-spelling (Tree.num n) ts = refl
 built_from-spelling (Tree.truth b) ts = refl
 built_from-spelling Tree.nil ts = refl
@@ -97,7 +98,7 @@ built_stop letters rest x old whole split kept put =
 -- the two terms on top made a pair
 pub joins_top : (old mid low new : List Term) (a b t : Term) →
     old ≡ mid ++ a ∷ [] → mid ≡ low ++ b ∷ [] → new ≡ low ++ t ∷ [] → tree t ≡ Tree.pair (tree a) (tree b) →
-    joined (stack_terms old) ≡ Some (stack_terms new)
+    join_two (stack_terms old) ≡ Some (stack_terms new)
 joins_top old mid low new a b t first second put pair = rw (first, stack-push, second, stack-push, put, stack-push, pair) refl
 
 -- an atom put on the stack
@@ -134,6 +135,7 @@ pub letter_eq-true : (x y : Letter) → letter_eq x y ≡ true → x ≡ y
 letter_eq-true Pair Pair e = refl
 letter_eq-true (Var v) (Var w) e = ap Var (eqb-true v w e)
 letter_eq-true (Sym v) (Sym w) e = ap Sym (sym (eqb-true w v e))
+letter_eq-true (Str v) (Str w) e = ap Str (sym (eqb-true w v e))
 letter_eq-true (Num v) (Num w) e = ap Num (sym ((Decides-int_eq w v).0 e))
 letter_eq-true (Truth v) (Truth w) e = ap Truth (sym ((Decides-bool_eq w v).0 e))
 letter_eq-true Nil Nil e = refl
@@ -143,6 +145,7 @@ pub letter_eq-same : (x : Letter) → letter_eq x x ≡ true
 letter_eq-same Pair = refl
 letter_eq-same (Var v) = eq-eqb v v refl
 letter_eq-same (Sym v) = eq-eqb v v refl
+letter_eq-same (Str v) = eq-eqb v v refl
 letter_eq-same (Num v) = (Decides-int_eq v v).1 refl
 letter_eq-same (Truth v) = (Decides-bool_eq v v).1 refl
 letter_eq-same Nil = refl
@@ -164,6 +167,7 @@ or_false false = refl
 pub occurs-letters : (x : ℕ) (t : Tm) → list_any (is_letter_of x) (spelling t) ≡ occurs x t
 occurs-letters x (Tree.leaf v) = or_false (eqb x v)
 occurs-letters x (Tree.sym s) = refl
+occurs-letters x (Tree.str s) = refl
 occurs-letters x (Tree.num n) = refl
 occurs-letters x (Tree.truth b) = refl
 occurs-letters x Tree.nil = refl
@@ -171,19 +175,20 @@ occurs-letters x (Tree.pair a b) =
     list_any-append (is_letter_of x) (spelling a) (spelling b) ∙ ap₂ (λ l r. l || r) (occurs-letters x a) (occurs-letters x b)
 
 -- letters spliced into a term's letters spell the term under the replacement
-pub spelling-apply : (s : Replacement) (t : Tm) → flat_map (spliced s) (spelling t) ≡ spelling (apply s t)
+pub spelling-apply : (s : Replacement) (t : Tm) → flat_map (splice s) (spelling t) ≡ spelling (apply s t)
 spelling-apply s (Tree.leaf v) = append-nil (spelling (image s v))
 spelling-apply s (Tree.sym x) = refl
+spelling-apply s (Tree.str x) = refl
 spelling-apply s (Tree.num n) = refl
 spelling-apply s (Tree.truth b) = refl
 spelling-apply s Tree.nil = refl
 spelling-apply s (Tree.pair a b) =
-    ap (λ w. Pair ∷ w) (flat_map-append (spliced s) (spelling a) (spelling b) ∙ ap₂ (λ l r. l ++ r) (spelling-apply s a) (spelling-apply s b))
+    ap (λ w. Pair ∷ w) (flat_map-append (splice s) (spelling a) (spelling b) ∙ ap₂ (λ l r. l ++ r) (spelling-apply s a) (spelling-apply s b))
 
 -- what is built from spliced letters
 pub applied_is : (s : Replacement) (t : Tm) (letters made : List Letter) (r : Option Tm) (u : Tm) →
-    letters ≡ spelling t → made ≡ flat_map (spliced s) letters → r ≡ only_one (built_from made []) → r ≡ Some u → u ≡ apply s t
+    letters ≡ spelling t → made ≡ flat_map (splice s) letters → r ≡ only_one (built_from made []) → r ≡ Some u → u ≡ apply s t
 applied_is s t letters made r u l m built some =
-    let whole : made ≡ spelling (apply s t) = m ∙ ap (flat_map (spliced s)) l ∙ spelling-apply s t in
+    let whole : made ≡ spelling (apply s t) = m ∙ ap (flat_map (splice s)) l ∙ spelling-apply s t in
     let same : Some u ≡ Some (apply s t) = sym some ∙ built ∙ ap (λ w. only_one (built_from w [])) whole ∙ ap only_one (built_from-spelling (apply s t) []) in
     cc

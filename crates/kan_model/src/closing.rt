@@ -3,7 +3,7 @@
 ghost use Rattle.std.specs.Prelude.{◌≡◌, ◌<◌, ◌≤◌, ◌↔◌, ◌^◌, ◌+◌, ◌-◌, ◌&&◌, take, drop, nat_lt, nat_le, min, length, map, true, false, IsTrue, IsSome, slice_get, option_map};
 ghost use Rattle.std.specs.Option.{option_copied};
 ghost use Rattle.std.specs.List.{list_all};
-ghost use Rattle.kan_model.specs.Programs.Tables.{nothing_open, goal_at, template_of, program_of};
+ghost use Rattle.kan_model.specs.Programs.Tables.{are_closed, goal_at, template_of, program_of};
 ghost use Rattle.kan_model.specs.Programs.Measures.{noted_width, goal_slots};
 ghost use Rattle.kan_model.specs.Programs.Scope.{is_low, calls_there, body_in_scope, in_scope};
 ghost use Rattle.kan_model.specs.Programs.Nodes.{term_entry, goal_entry, relation_entry, goal_place};
@@ -78,9 +78,9 @@ impl Draft {
         queries.iter().all(|query| self.uses_only(query.goal, 1))
     }
 
-    // Whether nothing is open.
+    // Whether the draft is complete for the goals of queries.
     fn is_closed(&self, queries: &[Query]) -> bool
-        ensures { result ≡ nothing_open (drafts.tables self.now) (map goal_place queries.now) }
+        ensures { result ≡ are_closed (drafts.tables self.now) (map goal_place queries.now) }
     {
         let low = self.are_low();
         let calls = self.are_calls_there();
@@ -89,7 +89,7 @@ impl Draft {
         low & calls & bodies & asked
     }
 
-    /// Makes a program of the draft, where nothing in it and in the goals of the queries is open.
+    /// Makes a program of the draft, where it is complete for the goals of the queries.
     pub fn close(self, queries: &[Query]) -> Result<Program, CloseRefused>
         ensures { programs.Closes self (map goal_place queries.now) result }
     {

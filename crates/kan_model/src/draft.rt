@@ -126,6 +126,7 @@ impl Draft {
                 Draft::added_width(self.one_width(left), self.one_width(right))
             }
             GoalNode::Fresh(count, goal) => Draft::added_width(count, self.one_width(goal)),
+            GoalNode::Later(goal) => self.one_width(goal),
             GoalNode::Call(_, _, count) => count,
             _ => 0,
         }
@@ -150,6 +151,7 @@ impl Draft {
             GoalNode::Differ(left, right) => self.two_slots(left, right),
             GoalNode::Symbol(term) => self.one_slots(term),
             GoalNode::Number(term) => self.one_slots(term),
+            GoalNode::Text(term) => self.one_slots(term),
             GoalNode::Absent(_, term) => self.one_slots(term),
             GoalNode::Both(left, right) => {
                 self.one_goal_slots(left).max(self.one_goal_slots(right))
@@ -160,6 +162,7 @@ impl Draft {
             GoalNode::Fresh(count, goal) => {
                 self.one_goal_slots(goal).saturating_sub(u64::from(count))
             }
+            GoalNode::Later(goal) => self.one_goal_slots(goal),
             GoalNode::Call(_, at, count) => self.argument_slots(at, count),
         }
     }

@@ -100,6 +100,7 @@ impl Env {
         match program.template_node(term) {
             TermNode::Slot(slot) => self.slot_letter(slot),
             TermNode::Sym(name) => Letter::Sym(name),
+            TermNode::Str(text) => Letter::Str(text),
             TermNode::Num(number) => Letter::Num(number),
             TermNode::Truth(truth) => Letter::Truth(truth),
             TermNode::Nil => Letter::Nil,

@@ -1,6 +1,7 @@
 //! Laws of the definitions. Each function has its law for its contract, and does nothing.
 
 ghost use Rattle.kan_model.specs.Meaning.Derivations.{SpelledOnce, TestIsFamily};
+ghost use Rattle.kan_model.specs.Answers.Decimals.{DecimalAsPrinted};
 ghost use Rattle.kan_model.specs.Answers.InForm.{AnswerInForm, FormIsSolved};
 ghost use Rattle.kan_model.specs.Streams.Stream.{AppendEmpty};
 ghost use Rattle.kan_model.specs.Stores.Unifiers.{AnswerMostGeneral, AnswerUnifies, AppliedTwice, FactorsUnify, ReplacedIsGone};
@@ -57,6 +58,12 @@ pub fn steps_spell_one_derivation()
 #[tactic(auto, using(crate::proofs::Answering::AnswerLaws::answer_in_form))]
 pub fn answers_are_in_form()
     ensures { AnswerInForm }
+{}
+
+/// A number of at most 64 digits is written as std writes it.
+#[tactic(auto, using(crate::proofs::Answering::DecimalLaws::decimal_as_printed))]
+pub fn decimals_are_printed()
+    ensures { DecimalAsPrinted }
 {}
 
 /// A disequality in form is what its own pairs solve to.

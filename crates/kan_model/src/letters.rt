@@ -4,7 +4,7 @@ ghost use Rattle.std.specs.Prelude.{◌≡◌, [], ◌∷◌, ◌++◌, IfOk, On
 ghost use Rattle.std.specs.List.{list_any};
 ghost use Rattle.kan_terms.specs.Tree.{term_eq, occurs};
 ghost use Rattle.kan_terms.specs.Terms.{tree};
-ghost use Rattle.kan_model.specs.Terms.Letters.{spelling, letter_of, waiting_spelling, IsAtomOf, Gives, joined, stack_terms, put_letter, only_one, built_from, is_letter_of, letter_eq};
+ghost use Rattle.kan_model.specs.Terms.Letters.{spelling, letter_of, waiting_spelling, IsAtomOf, Gives, join_two, stack_terms, put_letter, only_one, built_from, is_letter_of, letter_eq};
 
 use kan_terms::{Memory, Term};
 use std::alloc::Global;
@@ -18,6 +18,8 @@ pub enum Letter {
     Var(u64),
     /// A symbol.
     Sym(u32),
+    /// A string.
+    Str(u32),
     /// A whole number.
     Num(i128),
     /// A truth value.
@@ -33,6 +35,7 @@ pub fn first_letter(term: &Term) -> Letter
     match term {
         Term::Var(var) => Letter::Var(*var),
         Term::Sym(name) => Letter::Sym(*name),
+        Term::Str(text) => Letter::Str(*text),
         Term::Num(number) => Letter::Num(*number),
         Term::Truth(truth) => Letter::Truth(*truth),
         Term::Nil => Letter::Nil,
@@ -73,6 +76,7 @@ fn atom(letter: Letter) -> Option<Term>
         Letter::Pair => None,
         Letter::Var(var) => Some(Term::Var(var)),
         Letter::Sym(name) => Some(Term::Sym(name)),
+        Letter::Str(text) => Some(Term::Str(text)),
         Letter::Num(number) => Some(Term::Num(number)),
         Letter::Truth(truth) => Some(Term::Truth(truth)),
         Letter::Nil => Some(Term::Nil),
@@ -81,7 +85,7 @@ fn atom(letter: Letter) -> Option<Term>
 
 // Makes a pair of the two terms on top of the stack, where there are two.
 fn join_top(alloc: Global, stack: &mut Vec<Term>) -> Result<bool, Memory>
-    ensures { IfOk result (λ fits. Gives (joined (stack_terms stack.old.items)) fits (stack_terms stack.new.items)) }
+    ensures { IfOk result (λ fits. Gives (join_two (stack_terms stack.old.items)) fits (stack_terms stack.new.items)) }
 {
     let Some(first) = stack.pop() else {
         return Ok(false);
@@ -136,6 +140,7 @@ fn same_letter(left: Letter, right: Letter) -> bool
         Letter::Pair => matches!(right, Letter::Pair),
         Letter::Var(var) => is_variable(right, var),
         Letter::Sym(name) => matches!(right, Letter::Sym(other) if other == name),
+        Letter::Str(text) => matches!(right, Letter::Str(other) if other == text),
         Letter::Num(number) => matches!(right, Letter::Num(other) if other == number),
         Letter::Truth(truth) => matches!(right, Letter::Truth(other) if other == truth),
         Letter::Nil => matches!(right, Letter::Nil),

@@ -9,6 +9,8 @@ pub enum TermNode {
     Slot(u32),
     /// A symbol, by its number in the table of names.
     Sym(u32),
+    /// A string, by its number in the table of strings.
+    Str(u32),
     /// A whole number.
     Num(i128),
     /// A truth value.
@@ -34,6 +36,8 @@ pub enum GoalNode {
     Symbol(u32),
     /// The template stands for a number.
     Number(u32),
+    /// The template stands for a string.
+    Text(u32),
     /// The symbol, which comes first, stands nowhere in the template's term.
     Absent(u32, u32),
     /// Both goals hold.
@@ -42,6 +46,8 @@ pub enum GoalNode {
     Either(u32, u32),
     /// The goal holds with so many slots more, behind those in scope.
     Fresh(u32, u32),
+    /// The goal holds; the search pauses before it.
+    Later(u32),
     /// The relation holds of the templates from a place of the table of arguments on, as many as the last number says.
     Call(u32, u32, u32),
 }

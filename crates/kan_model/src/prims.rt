@@ -17,6 +17,8 @@ pub enum Asserted {
     Symbol(Term),
     /// The term is a number.
     Number(Term),
+    /// The term is a string.
+    Text(Term),
     /// The symbol of this number stands nowhere in the term.
     Absent(u32, Term),
 }
@@ -28,6 +30,8 @@ pub enum Kind {
     Symbol,
     /// The variable stands for a number.
     Number,
+    /// The variable stands for a string.
+    Text,
 }
 
 impl Asserted {
@@ -40,6 +44,7 @@ impl Asserted {
             Asserted::Differ(left, right) => Asserted::Differ(left.again()?, right.again()?),
             Asserted::Symbol(term) => Asserted::Symbol(term.again()?),
             Asserted::Number(term) => Asserted::Number(term.again()?),
+            Asserted::Text(term) => Asserted::Text(term.again()?),
             Asserted::Absent(tag, term) => Asserted::Absent(*tag, term.again()?),
         })
     }

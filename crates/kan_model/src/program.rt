@@ -1,7 +1,7 @@
-//! Programs, which are drafts in which nothing is open.
+//! Programs, which are complete drafts.
 
 ghost use Rattle.std.specs.Prelude.{IsTrue, []};
-ghost use Rattle.kan_model.specs.Programs.Tables.{nothing_open};
+ghost use Rattle.kan_model.specs.Programs.Tables.{are_closed};
 ghost use Rattle.kan_model.specs.Programs.Nodes.{tables_from};
 
 use crate::draft::Draft;
@@ -11,7 +11,7 @@ use crate::draft::Draft;
 #[derive(Drop)]
 pub struct Program {
     pub(crate) draft: Draft,
-    ghost closed: { IsTrue (nothing_open (tables_from draft.terms.items draft.arguments.items draft.goals.items draft.relations.items) []) },
+    ghost closed: { IsTrue (are_closed (tables_from draft.terms.items draft.arguments.items draft.goals.items draft.relations.items) []) },
 }
 
 /// Why a draft is no program. The draft comes back as it was.

@@ -6,7 +6,7 @@ ghost use Rattle.kan_model.specs.Stores.Store as facts;
 ghost use Rattle.kan_model.specs.Stores.Kept.{is_kept};
 ghost use Rattle.kan_model.specs.Programs.Scope.{is_counted, sides_below};
 ghost use Rattle.kan_model.specs.Stores.Prims.{equation, prim as primitive};
-ghost use Rattle.kan_model.specs.Stores.Calls.{Gives, WalksTo, IsFree, kind_at, AreTags, AreDifferences, answer, is_equation};
+ghost use Rattle.kan_model.specs.Stores.Calls.{Gives, WalksTo, IsFree, kind_at, AreTags, AreDifferences, answer, differences, is_equation};
 
 use crate::prims::{Asserted, Kind};
 use kan_terms::{Memory, PairLists, Tags, Term};
@@ -39,6 +39,13 @@ pub trait Store: Sized + Drop {
         requires equation { is_equation (primitive prim.now) ≡ true }
         ensures { IfOk result (λ made. Gives (facts.with_prim (meaning self.now) (primitive prim.now)) (option_map meaning made)) };
 
+    /// What `assert` gives, made of this store itself: in place where nobody else holds it.
+    fn assert_owned(self, alloc: Global, prim: &Asserted) -> Result<Option<Self>, Memory>
+        requires below { sides_below (meaning self).counter (primitive prim.now) ≡ true }
+        // Until the other primitives are built.
+        requires equation { is_equation (primitive prim.now) ≡ true }
+        ensures { IfOk result (λ made. Gives (facts.with_prim (meaning self) (primitive prim.now)) (option_map meaning made)) };
+
     /// An equal store.
     fn again(&self, alloc: Global) -> Result<Self, Memory>
         ensures { IfOk result (λ made. meaning made ≡ meaning self.now) };
@@ -57,9 +64,10 @@ pub trait Store: Sized + Drop {
         requires { IsFree (meaning self.now) var }
         ensures { IfOk result (AreTags (meaning self.now) var) };
 
-    /// For each disequality whose sides may still become equal, pairs that are all equal exactly where its sides are.
+    /// For each disequality whose sides may still become equal, pairs that are all equal exactly where its sides are, in
+    /// the order of assertion.
     fn differences(&self, alloc: Global) -> Result<PairLists, Memory>
-        ensures { IfOk result (λ lists. AreDifferences (meaning self.now) (map (map equation) lists)) };
+        ensures { IfOk result (λ lists. AreDifferences (meaning self.now) (differences (meaning self.now).prims) (map (map equation) lists)) };
 
     // Every store is kept.
     ghost kept: { (store : Self) → is_kept (meaning store) ≡ true };

@@ -19,10 +19,12 @@ use Rattle.std.specs.Borrow.{Bor}
 use Rattle.std.proofs.lemmas.List.Elements.{All-nil}
 use Rattle.kan_model.specs.Stores.Prims.{prim as primitive}
 use Rattle.kan_model.specs.declared.prims.Asserted.{Asserted}
-use Rattle.kan_model.specs.Stores.Kept.{is_kept, holds_with, holds_under, allows, gives_one_type, makes_symbol, makes_number}
+use Rattle.kan_model.specs.Stores.Kept.{is_kept, holds_with, holds_under, allows, gives_one_type, gives_type, has_type}
+use Rattle.kan_model.specs.declared.prims.Kind.{Kind}
+use Rattle.kan_model.specs.declared.prims.Kind.TheVariants.{Symbol, Number, Text}
 use Rattle.kan_model.specs.Answers.Answer.{same_form, same_pair, has_absence}
 use Rattle.kan_model.specs.Stores.Calls.{is_equation, is_answer, answer, kind_at, AreTags, AreDifferences, differences, IsFoundFor, WalksTo}
-use Rattle.kan_plain.specs.Solving.{backwards, stacked, IsImage}
+use Rattle.kan_plain.specs.Solving.{backwards, on_stack, IsImage}
 use Rattle.kan_model.specs.Stores.Prims.{equation}
 
 -- the equations of two lists
@@ -32,6 +34,7 @@ equations-append (Primitive.same a b ∷ ps) qs = ap (λ es. record { left = a; 
 equations-append (Primitive.differ a b ∷ ps) qs = equations-append ps qs
 equations-append (Primitive.symbol a ∷ ps) qs = equations-append ps qs
 equations-append (Primitive.number a ∷ ps) qs = equations-append ps qs
+equations-append (Primitive.text a ∷ ps) qs = equations-append ps qs
 equations-append (Primitive.absent tag a ∷ ps) qs = equations-append ps qs
 
 -- the equations of a list with one primitive more
@@ -54,9 +57,9 @@ map-reverse f (x ∷ xs) =
     ap (map f) (reverse-append (x ∷ []) xs) ∙ map-append f (reverse xs) (x ∷ []) ∙ ap (λ ys. ys ++ f x ∷ []) (map-reverse f xs) ∙ sym (reverse-append (f x ∷ []) (map f xs))
 
 -- a reversed list is a stack with its first equation on top
-pub stacked-reverse : (listed pending : List TermPair) (es : List Equation) → map equation listed ≡ es → pending ≡ reverse listed → stacked pending ≡ es
+pub stacked-reverse : (listed pending : List TermPair) (es : List Equation) → map equation listed ≡ es → pending ≡ reverse listed → on_stack pending ≡ es
 stacked-reverse listed pending es so_far turned =
-    ap stacked turned ∙ ap backwards (map-reverse equation listed) ∙ backwards-reverse (map equation listed) ∙ so_far
+    ap on_stack turned ∙ ap backwards (map-reverse equation listed) ∙ backwards-reverse (map equation listed) ∙ so_far
 
 and-split : (a b : Bool) → (a && b) ≡ true → (a ≡ true) × (b ≡ true)
 and-split true true e = (refl, refl)
@@ -71,6 +74,7 @@ equations_allowed s (Primitive.same a b ∷ ps) e = equations_allowed s ps (and-
 equations_allowed s (Primitive.differ a b ∷ ps) e = absurd (true≢false (sym (and-split false (list_all is_equation ps) e).0))
 equations_allowed s (Primitive.symbol a ∷ ps) e = absurd (true≢false (sym (and-split false (list_all is_equation ps) e).0))
 equations_allowed s (Primitive.number a ∷ ps) e = absurd (true≢false (sym (and-split false (list_all is_equation ps) e).0))
+equations_allowed s (Primitive.text a ∷ ps) e = absurd (true≢false (sym (and-split false (list_all is_equation ps) e).0))
 equations_allowed s (Primitive.absent tag a ∷ ps) e = absurd (true≢false (sym (and-split false (list_all is_equation ps) e).0))
 
 equations_one_type : (s : Replacement) (all ps : List (Primitive Tm)) → list_all is_equation ps ≡ true → list_all (gives_one_type s all) ps ≡ true
@@ -79,6 +83,7 @@ equations_one_type s all (Primitive.same a b ∷ ps) e = equations_one_type s al
 equations_one_type s all (Primitive.differ a b ∷ ps) e = absurd (true≢false (sym (and-split false (list_all is_equation ps) e).0))
 equations_one_type s all (Primitive.symbol a ∷ ps) e = absurd (true≢false (sym (and-split false (list_all is_equation ps) e).0))
 equations_one_type s all (Primitive.number a ∷ ps) e = absurd (true≢false (sym (and-split false (list_all is_equation ps) e).0))
+equations_one_type s all (Primitive.text a ∷ ps) e = absurd (true≢false (sym (and-split false (list_all is_equation ps) e).0))
 equations_one_type s all (Primitive.absent tag a ∷ ps) e = absurd (true≢false (sym (and-split false (list_all is_equation ps) e).0))
 
 pub equations_hold : (s : Replacement) (ps : List (Primitive Tm)) → list_all is_equation ps ≡ true → holds_under ps s ≡ true
@@ -129,18 +134,25 @@ is_answer-true s None e = cc
 is_answer-true s (Some r) e = ap Some (sym (same_form-true s r e))
 
 -- equations give no types, no absences and no disequalities
-no_equation_types : (s : Replacement) (v : ℕ) (ps : List (Primitive Tm)) → list_all is_equation ps ≡ true →
-    (list_any (makes_symbol s v) ps ≡ false) × (list_any (makes_number s v) ps ≡ false)
-no_equation_types s v [] e = (refl, refl)
-no_equation_types s v (Primitive.same a b ∷ ps) e = no_equation_types s v ps (and-split true (list_all is_equation ps) e).1
-no_equation_types s v (Primitive.differ a b ∷ ps) e = absurd (true≢false (sym (and-split false (list_all is_equation ps) e).0))
-no_equation_types s v (Primitive.symbol a ∷ ps) e = absurd (true≢false (sym (and-split false (list_all is_equation ps) e).0))
-no_equation_types s v (Primitive.number a ∷ ps) e = absurd (true≢false (sym (and-split false (list_all is_equation ps) e).0))
-no_equation_types s v (Primitive.absent tag a ∷ ps) e = absurd (true≢false (sym (and-split false (list_all is_equation ps) e).0))
+equation_type : (kind : Kind) (s : Replacement) (v : ℕ) (a b : Tm) → gives_type kind s v (Primitive.same a b) ≡ false
+equation_type Symbol s v a b = refl
+equation_type Number s v a b = refl
+equation_type Text s v a b = refl
+
+no_equation_types : (kind : Kind) (s : Replacement) (v : ℕ) (ps : List (Primitive Tm)) → list_all is_equation ps ≡ true → has_type kind s ps v ≡ false
+no_equation_types kind s v [] e = refl
+no_equation_types kind s v (Primitive.same a b ∷ ps) e =
+    rw (equation_type kind s v a b) (no_equation_types kind s v ps (and-split true (list_all is_equation ps) e).1)
+no_equation_types kind s v (Primitive.differ a b ∷ ps) e = absurd (true≢false (sym (and-split false (list_all is_equation ps) e).0))
+no_equation_types kind s v (Primitive.symbol a ∷ ps) e = absurd (true≢false (sym (and-split false (list_all is_equation ps) e).0))
+no_equation_types kind s v (Primitive.number a ∷ ps) e = absurd (true≢false (sym (and-split false (list_all is_equation ps) e).0))
+no_equation_types kind s v (Primitive.text a ∷ ps) e = absurd (true≢false (sym (and-split false (list_all is_equation ps) e).0))
+no_equation_types kind s v (Primitive.absent tag a ∷ ps) e = absurd (true≢false (sym (and-split false (list_all is_equation ps) e).0))
 
 pub no_kind : (ps : List (Primitive Tm)) (n v : ℕ) → list_all is_equation ps ≡ true → None ≡ kind_at (record { prims = ps; counter = n }) v
 no_kind ps n v e =
-    let (symbols, numbers) = no_equation_types (answer (record { prims = ps; counter = n })) v ps e in rw (symbols, numbers) refl
+    let s = answer (record { prims = ps; counter = n }) in
+    rw (no_equation_types Symbol s v ps e, no_equation_types Number s v ps e, no_equation_types Text s v ps e) refl
 
 pub no_absence : (s : Replacement) (tag v : ℕ) (ps : List (Primitive Tm)) → list_all is_equation ps ≡ true → has_absence s ps tag v ≡ false
 no_absence s tag v [] e = refl
@@ -148,6 +160,7 @@ no_absence s tag v (Primitive.same a b ∷ ps) e = no_absence s tag v ps (and-sp
 no_absence s tag v (Primitive.differ a b ∷ ps) e = absurd (true≢false (sym (and-split false (list_all is_equation ps) e).0))
 no_absence s tag v (Primitive.symbol a ∷ ps) e = absurd (true≢false (sym (and-split false (list_all is_equation ps) e).0))
 no_absence s tag v (Primitive.number a ∷ ps) e = absurd (true≢false (sym (and-split false (list_all is_equation ps) e).0))
+no_absence s tag v (Primitive.text a ∷ ps) e = absurd (true≢false (sym (and-split false (list_all is_equation ps) e).0))
 no_absence s tag v (Primitive.absent t a ∷ ps) e = absurd (true≢false (sym (and-split false (list_all is_equation ps) e).0))
 
 not_in_nil : (tag : ℕ) → Contains [] tag → ⊥
@@ -165,16 +178,18 @@ no_differences (Primitive.same a b ∷ ps) e = no_differences ps (and-split true
 no_differences (Primitive.differ a b ∷ ps) e = absurd (true≢false (sym (and-split false (list_all is_equation ps) e).0))
 no_differences (Primitive.symbol a ∷ ps) e = absurd (true≢false (sym (and-split false (list_all is_equation ps) e).0))
 no_differences (Primitive.number a ∷ ps) e = absurd (true≢false (sym (and-split false (list_all is_equation ps) e).0))
+no_differences (Primitive.text a ∷ ps) e = absurd (true≢false (sym (and-split false (list_all is_equation ps) e).0))
 no_differences (Primitive.absent t a ∷ ps) e = absurd (true≢false (sym (and-split false (list_all is_equation ps) e).0))
 
 pub nothing_differs : (ps : List (Primitive Tm)) (n : ℕ) (lists : List (List Equation)) → list_all is_equation ps ≡ true → lists ≡ [] →
-    AreDifferences (record { prims = ps; counter = n }) lists
-nothing_differs ps n lists e none = record { all = rw (no_differences ps e) (All-nil _); each = rw none (All-nil _) }
+    AreDifferences (record { prims = ps; counter = n }) (differences ps) lists
+nothing_differs ps n lists e none = rw (no_differences ps e, none) AreDifferences.no_more
 
 -- a term that a variable is replaced by is found for it
 found_itself : (s : Replacement) (t : Tm) → apply s t ≡ t → IsFoundFor s t t
 found_itself s (Tree.leaf v) e = refl
 found_itself s (Tree.sym x) e = refl
+found_itself s (Tree.str x) e = refl
 found_itself s (Tree.num n) e = refl
 found_itself s (Tree.truth b) e = refl
 found_itself s Tree.nil e = refl
@@ -194,6 +209,7 @@ walked ps n v s t r (Some u) solved is_var image_is given =
 all_below-more : (n k : ℕ) (t : Tm) → all_below n t ≡ true → all_below (n + k) t ≡ true
 all_below-more n k (Tree.leaf v) e = lt-ltb v (n + k) (let below : v < n = ltb-true v n e in omega arith)
 all_below-more n k (Tree.sym s) e = refl
+all_below-more n k (Tree.str s) e = refl
 all_below-more n k (Tree.num m) e = refl
 all_below-more n k (Tree.truth b) e = refl
 all_below-more n k Tree.nil e = refl
@@ -205,6 +221,7 @@ sides_below-more n k (Primitive.same a b) e = let (l, r) = and-split (all_below 
 sides_below-more n k (Primitive.differ a b) e = let (l, r) = and-split (all_below n a) (all_below n b) e in rw (all_below-more n k a l, all_below-more n k b r) refl
 sides_below-more n k (Primitive.symbol a) e = all_below-more n k a e
 sides_below-more n k (Primitive.number a) e = all_below-more n k a e
+sides_below-more n k (Primitive.text a) e = all_below-more n k a e
 sides_below-more n k (Primitive.absent tag a) e = all_below-more n k a e
 
 pub counted_more : (n k : ℕ) (ps : List (Primitive Tm)) → list_all (sides_below n) ps ≡ true → list_all (sides_below (n + k)) ps ≡ true

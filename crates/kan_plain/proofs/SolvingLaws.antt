@@ -7,7 +7,7 @@ use Rattle.kan_model.specs.Stores.Solve.{Replacement, image, put_first}
 use Rattle.kan_model.specs.Stores.Solve as spec
 use Rattle.std.proofs.lemmas.List.{map_push}
 use Rattle.kan_plain.specs.declared.solving.Replaced.{Replaced}
-use Rattle.kan_plain.specs.Solving.{replaced_by, finished}
+use Rattle.kan_plain.specs.Solving.{replaced_by, put_all_first}
 
 -- the image by the replacements from an index on
 abbrev pub image_from : ℕ → List Replaced → ℕ → Tm
@@ -26,17 +26,17 @@ pub image_further : (rs : List Replaced) (i v : ℕ) (r : Replaced) → i < leng
 image_further rs i v r below here other = image_cons rs i v r below here ∙ ap (λ b. if b then tree r.by else image_from (i + 1) rs v) other
 
 -- the last replacement goes in front first
-pub finished-push : (ms : Replacement) (m : spec.Replaced) (r : Option Replacement) → finished (ms ++ m ∷ []) r ≡ finished ms (option_map (put_first m.var m.by) r)
+pub finished-push : (ms : Replacement) (m : spec.Replaced) (r : Option Replacement) → put_all_first (ms ++ m ∷ []) r ≡ put_all_first ms (option_map (put_first m.var m.by) r)
 finished-push [] m r = refl
 finished-push (n ∷ ms) m r = ap (option_map (put_first n.var n.by)) (finished-push ms m r)
 
 -- the last of the replacements taken and put in front
 pub finish_step : (made rest answer longer : List Replaced) (last : Replaced) (whole : Option Replacement) →
     made ≡ rest ++ last ∷ [] → map replaced_by longer ≡ put_first last.var (tree last.by) (map replaced_by answer) →
-    finished (map replaced_by made) (Some (map replaced_by answer)) ≡ whole → finished (map replaced_by rest) (Some (map replaced_by longer)) ≡ whole
+    put_all_first (map replaced_by made) (Some (map replaced_by answer)) ≡ whole → put_all_first (map replaced_by rest) (Some (map replaced_by longer)) ≡ whole
 finish_step made rest answer longer last whole split put kept =
-    ap (λ a. finished (map replaced_by rest) (Some a)) put ∙ sym (finished-push (map replaced_by rest) (replaced_by last) (Some (map replaced_by answer)))
-    ∙ ap (λ ms. finished ms (Some (map replaced_by answer))) (sym (ap (map replaced_by) split ∙ map_push replaced_by rest last)) ∙ kept
+    ap (λ a. put_all_first (map replaced_by rest) (Some a)) put ∙ sym (finished-push (map replaced_by rest) (replaced_by last) (Some (map replaced_by answer)))
+    ∙ ap (λ ms. put_all_first ms (Some (map replaced_by answer))) (sym (ap (map replaced_by) split ∙ map_push replaced_by rest last)) ∙ kept
 
 -- an element put in front
 pub map-insert_first : {X Y : Type 0} (f : X → Y) (xs : List X) (x : X) → map f (insert xs 0 x) ≡ f x ∷ map f xs

@@ -5,7 +5,7 @@ use Rattle.kan_terms.specs.Tree.{Tm}
 use Rattle.kan_terms.specs.declared.terms.TermPair.{TermPair}
 use Rattle.kan_model.specs.Stores.Store.{Equation}
 use Rattle.kan_model.specs.Stores.Solve.{Replacement, Work, Solves, work, put_first, replace_sides, solve, left_first}
-use Rattle.kan_plain.specs.Solving.{backwards, stacked, finished, apply_sides, StepTo}
+use Rattle.kan_plain.specs.Solving.{backwards, on_stack, put_all_first, apply_sides, StepTo}
 use Rattle.kan_model.specs.Stores.Prims.{equation}
 use Rattle.kan_model.proofs.Solving.SolveLaws.{solve_by-Solves, solve_by-identical, solve_by-parts, solve_by-substitute, solve_by-clash, solve_by-nothing}
 use Rattle.kan_plain.proofs.SolvingLaws.{finished-push}
@@ -75,7 +75,7 @@ pub backwards-push : {X : Type 0} (xs : List X) (x : X) → backwards (xs ++ x �
 backwards-push [] x = refl
 backwards-push (y ∷ ys) x = ap (λ zs. zs ++ y ∷ []) (backwards-push ys x)
 
-pub stacked-push : (pending : List TermPair) (e : TermPair) → stacked (pending ++ e ∷ []) ≡ equation e ∷ stacked pending
+pub stacked-push : (pending : List TermPair) (e : TermPair) → on_stack (pending ++ e ∷ []) ≡ equation e ∷ on_stack pending
 stacked-push pending e = ap backwards (map_push equation pending e) ∙ backwards-push (map equation pending) (equation e)
 
 pub backwards-map : {X Y : Type 0} (f : X → Y) (xs : List X) → backwards (map f xs) ≡ map f (backwards xs)
@@ -85,16 +85,16 @@ backwards-map f (x ∷ xs) = ap (λ ys. ys ++ f x ∷ []) (backwards-map f xs) �
 -- a step keeps the whole answer, and leaves fewer steps
 pub step_keeps : (e : Equation) (es es' : List Equation) (ms ms' : Replacement) (goes_on : Bool) →
     StepTo es ms goes_on es' ms' (work left_first e) → goes_on ≡ true →
-    (finished ms' (solve es') ≡ finished ms (solve (e ∷ es))) × (steps_for es' < steps_for (e ∷ es))
+    (put_all_first ms' (solve es') ≡ put_all_first ms (solve (e ∷ es))) × (steps_for es' < steps_for (e ∷ es))
 step_keeps e es es' ms ms' goes_on moved on = by (work left_first e) refl moved
   where
     by : (w : Work) → work left_first e ≡ w → StepTo es ms goes_on es' ms' w →
-        (finished ms' (solve es') ≡ finished ms (solve (e ∷ es))) × (steps_for es' < steps_for (e ∷ es))
-    by Work.identical h (_, left, made) = rw (left, made) (ap (finished ms) (sym (solve_by-identical left_first e es h)), steps_identical e es h)
-    by (Work.parts first rest) h (_, left, made) = rw (left, made) (ap (finished ms) (sym (solve_by-parts left_first e first rest es h)), steps_parts e first rest es h)
+        (put_all_first ms' (solve es') ≡ put_all_first ms (solve (e ∷ es))) × (steps_for es' < steps_for (e ∷ es))
+    by Work.identical h (_, left, made) = rw (left, made) (ap (put_all_first ms) (sym (solve_by-identical left_first e es h)), steps_identical e es h)
+    by (Work.parts first rest) h (_, left, made) = rw (left, made) (ap (put_all_first ms) (sym (solve_by-parts left_first e first rest es h)), steps_parts e first rest es h)
     by (Work.substitute x t) h (_, left, made) =
         rw (left, made) (
-          finished-push ms (record { var = x; by = t }) (solve (map (replace_sides x t) es)) ∙ ap (finished ms) (sym (solve_by-substitute left_first e x t es h)),
+          finished-push ms (record { var = x; by = t }) (solve (map (replace_sides x t) es)) ∙ ap (put_all_first ms) (sym (solve_by-substitute left_first e x t es h)),
           steps_substitute e x t es h,
         )
     by Work.clash h stopped = absurd (true≢false (sym on ∙ stopped))
@@ -111,42 +111,42 @@ step_stops e es es' ms ms' goes_on moved off = by (work left_first e) refl moved
     by Work.clash h stopped = solve_by-clash left_first e es h
 
 -- replacements in front of no answer
-finished_none : (ms : Replacement) → finished ms None ≡ None
+finished_none : (ms : Replacement) → put_all_first ms None ≡ None
 finished_none [] = refl
 finished_none (m ∷ ms) = ap (option_map (put_first m.var m.by)) (finished_none ms)
 
 -- the loop of steps: what one of them does to the stack
 pub loop_keeps : (old rest new : List TermPair) (e : TermPair) (ms ms' : Replacement) (goes_on : Bool) (whole : Option Replacement) →
-    old ≡ rest ++ e ∷ [] → StepTo (stacked rest) ms goes_on (stacked new) ms' (work left_first (equation e)) → goes_on ≡ true →
-    finished ms (solve (stacked old)) ≡ whole → finished ms' (solve (stacked new)) ≡ whole
+    old ≡ rest ++ e ∷ [] → StepTo (on_stack rest) ms goes_on (on_stack new) ms' (work left_first (equation e)) → goes_on ≡ true →
+    put_all_first ms (solve (on_stack old)) ≡ whole → put_all_first ms' (solve (on_stack new)) ≡ whole
 loop_keeps old rest new e ms ms' goes_on whole split moved on kept =
-    (step_keeps (equation e) (stacked rest) (stacked new) ms ms' goes_on moved on).0 ∙ ap (λ es. finished ms (solve es)) (sym (stacked-push rest e) ∙ sym (ap stacked split)) ∙ kept
+    (step_keeps (equation e) (on_stack rest) (on_stack new) ms ms' goes_on moved on).0 ∙ ap (λ es. put_all_first ms (solve es)) (sym (stacked-push rest e) ∙ sym (ap on_stack split)) ∙ kept
 
 pub loop_falls : (old rest new : List TermPair) (e : TermPair) (ms ms' : Replacement) (goes_on : Bool) →
-    old ≡ rest ++ e ∷ [] → StepTo (stacked rest) ms goes_on (stacked new) ms' (work left_first (equation e)) → goes_on ≡ true →
-    steps_for (stacked new) < steps_for (stacked old)
+    old ≡ rest ++ e ∷ [] → StepTo (on_stack rest) ms goes_on (on_stack new) ms' (work left_first (equation e)) → goes_on ≡ true →
+    steps_for (on_stack new) < steps_for (on_stack old)
 loop_falls old rest new e ms ms' goes_on split moved on =
-    rw (split, stacked-push) (step_keeps (equation e) (stacked rest) (stacked new) ms ms' goes_on moved on).1
+    rw (split, stacked-push) (step_keeps (equation e) (on_stack rest) (on_stack new) ms ms' goes_on moved on).1
 
 pub loop_stops : (old rest new : List TermPair) (e : TermPair) (ms ms' : Replacement) (goes_on : Bool) (whole : Option Replacement) →
-    old ≡ rest ++ e ∷ [] → StepTo (stacked rest) ms goes_on (stacked new) ms' (work left_first (equation e)) → goes_on ≡ false →
-    finished ms (solve (stacked old)) ≡ whole → None ≡ whole
+    old ≡ rest ++ e ∷ [] → StepTo (on_stack rest) ms goes_on (on_stack new) ms' (work left_first (equation e)) → goes_on ≡ false →
+    put_all_first ms (solve (on_stack old)) ≡ whole → None ≡ whole
 loop_stops old rest new e ms ms' goes_on whole split moved off kept =
-    let none : solve (stacked old) ≡ None = ap solve (ap stacked split ∙ stacked-push rest e) ∙ step_stops (equation e) (stacked rest) (stacked new) ms ms' goes_on moved off in
-    sym (finished_none ms) ∙ ap (finished ms) (sym none) ∙ kept
+    let none : solve (on_stack old) ≡ None = ap solve (ap on_stack split ∙ stacked-push rest e) ∙ step_stops (equation e) (on_stack rest) (on_stack new) ms ms' goes_on moved off in
+    sym (finished_none ms) ∙ ap (put_all_first ms) (sym none) ∙ kept
 
 pub loop_ends : (old : List TermPair) (ms : Replacement) (r whole : Option Replacement) →
-    old ≡ [] → r ≡ finished ms (Some []) → finished ms (solve (stacked old)) ≡ whole → r ≡ whole
+    old ≡ [] → r ≡ put_all_first ms (Some []) → put_all_first ms (solve (on_stack old)) ≡ whole → r ≡ whole
 loop_ends old ms r whole none all kept =
-    all ∙ ap (finished ms) (sym (ap (λ pending. solve (stacked pending)) none ∙ solve_by-nothing left_first)) ∙ kept
+    all ∙ ap (put_all_first ms) (sym (ap (λ pending. solve (on_stack pending)) none ∙ solve_by-nothing left_first)) ∙ kept
 
 -- a replacement that goes through a stack
 pub stacked-apply : (x : ℕ) (t : Tm) (after pending : List TermPair) →
-    map equation after ≡ map (apply_sides (record { var = x; by = t } ∷ [])) (map equation pending) → stacked after ≡ map (replace_sides x t) (stacked pending)
+    map equation after ≡ map (apply_sides (record { var = x; by = t } ∷ [])) (map equation pending) → on_stack after ≡ map (replace_sides x t) (on_stack pending)
 stacked-apply x t after pending h = ap backwards h ∙ backwards-map (replace_sides x t) (map equation pending)
 
 -- the two equations of a pair on the stack
 pub parts_step : (old mid new : List TermPair) (first rest : TermPair) (ms : Replacement) (w : Work) →
-    w ≡ Work.parts (equation first) (equation rest) → mid ≡ old ++ rest ∷ [] → new ≡ mid ++ first ∷ [] → StepTo (stacked old) ms true (stacked new) ms w
+    w ≡ Work.parts (equation first) (equation rest) → mid ≡ old ++ rest ∷ [] → new ≡ mid ++ first ∷ [] → StepTo (on_stack old) ms true (on_stack new) ms w
 parts_step old mid new first rest ms w is_parts one two =
-    rw is_parts (refl, ap stacked two ∙ stacked-push mid first ∙ ap (λ es. equation first ∷ es) (ap stacked one ∙ stacked-push old rest), refl)
+    rw is_parts (refl, ap on_stack two ∙ stacked-push mid first ∙ ap (λ es. equation first ∷ es) (ap on_stack one ∙ stacked-push old rest), refl)

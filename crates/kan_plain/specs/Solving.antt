@@ -21,8 +21,8 @@ backwards [] = []
 backwards (x ∷ xs) = backwards xs ++ x ∷ []
 
 -- the equations on a stack, the top first
-abbrev pub stacked : List TermPair → List Equation
-stacked pending = backwards (map equation pending)
+abbrev pub on_stack : List TermPair → List Equation
+on_stack pending = backwards (map equation pending)
 
 -- what was found for a variable is its image, and a variable for which nothing was found is its own
 abbrev pub IsImage : spec.Replacement → ℕ → Option (Bor Term) → Type 0
@@ -41,9 +41,9 @@ abbrev pub apply_sides : spec.Replacement → Equation → Equation
 apply_sides s e = record { left = spec.apply s e.left; right = spec.apply s e.right }
 
 -- an answer, with the replacements that were made before it put in front
-abbrev pub finished : spec.Replacement → Option spec.Replacement → Option spec.Replacement
-finished [] r = r
-finished (m ∷ ms) r = option_map (spec.put_first m.var m.by) (finished ms r)
+abbrev pub put_all_first : spec.Replacement → Option spec.Replacement → Option spec.Replacement
+put_all_first [] r = r
+put_all_first (m ∷ ms) r = option_map (spec.put_first m.var m.by) (put_all_first ms r)
 
 -- What one step leaves of equations and of the replacements made so far, by the work on the first equation.
 abbrev pub StepTo : List Equation → spec.Replacement → Bool → List Equation → spec.Replacement → spec.Work → Type 0

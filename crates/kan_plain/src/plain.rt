@@ -2,13 +2,13 @@
 
 ghost use Rattle.std.specs.Prelude.{◌≡◌, ◌^◌, ◌≤◌, ◌++◌, ◌∷◌, [], true, map, IfOk, OnOk, IsTrue, option_map};
 ghost use Rattle.std.specs.List.{list_all};
-ghost use Rattle.kan_model.specs.Stores.Solve.{solve as solved_by};
+ghost use Rattle.kan_model.specs.Stores.Solve as spec;
 ghost use Rattle.kan_model.specs.Stores.Kept.{is_kept};
 ghost use Rattle.kan_model.specs.Programs.Scope.{is_counted};
 ghost use Rattle.kan_model.specs.Stores.Calls.{is_equation, is_answer, Gives};
 ghost use Rattle.kan_model.specs.Stores.Store.{equations};
 ghost use Rattle.kan_model.specs.Stores.Prims.{prim as primitive};
-ghost use Rattle.kan_plain.specs.Solving.{replaced_by, stacked};
+ghost use Rattle.kan_plain.specs.Solving.{replaced_by, on_stack};
 ghost use Rattle.kan_model.specs.Stores.Prims.{equation};
 
 use kan_model::{Kind, Prim as Asserted, Store, copied};
@@ -26,7 +26,7 @@ pub struct PlainStore {
     ghost counted: { IsTrue (is_counted (record { prims = map primitive prims.items; counter = counter })) },
     ghost bounded: { counter ≤ 2 ^ 63 },
     ghost equations_alone: { IsTrue (list_all is_equation (map primitive prims.items)) },
-    ghost answered: { IsTrue (is_answer (map replaced_by answer.items) (solved_by (equations (map primitive prims.items)))) },
+    ghost answered: { IsTrue (is_answer (map replaced_by answer.items) (spec.solve (equations (map primitive prims.items)))) },
 }
 
 // Adds the equation of a primitive, where it is one.
@@ -54,7 +54,7 @@ fn list_equations(alloc: Global, prims: &[Asserted]) -> Result<Vec<TermPair>, Me
 
 // The equations of primitives, the first on top of the stack.
 fn stack_equations(alloc: Global, prims: &[Asserted]) -> Result<Vec<TermPair>, Memory>
-    ensures { IfOk result (λ pending. stacked pending.items ≡ equations (map primitive prims.now)) }
+    ensures { IfOk result (λ pending. on_stack pending.items ≡ equations (map primitive prims.now)) }
 {
     let mut pending = list_equations(alloc, prims)?;
     pending.reverse();
@@ -114,6 +114,10 @@ impl Store for PlainStore {
         let mut prims = copied(alloc, &self.prims)?;
         prims.push(prim.again()?)?;
         PlainStore::of(alloc, prims, self.counter)
+    }
+
+    fn assert_owned(self, alloc: Global, prim: &Asserted) -> Result<Option<PlainStore>, Memory> {
+        self.assert(alloc, prim)
     }
 
     fn again(&self, alloc: Global) -> Result<PlainStore, Memory> {

@@ -4,13 +4,13 @@ ghost use Rattle.std.specs.Prelude.{◌≡◌, [], ◌∷◌, ◌++◌, map, IfO
 ghost use Rattle.std.specs.List.{flat_map};
 ghost use Rattle.kan_terms.specs.Terms.{tree};
 ghost use Rattle.kan_terms.specs.Tree.{Tree};
-ghost use Rattle.kan_model.specs.Terms.Letters.{spelling, spliced};
+ghost use Rattle.kan_model.specs.Terms.Letters.{spelling, splice};
 ghost use Rattle.kan_model.specs.Stores.Solve as spec;
-ghost use Rattle.kan_plain.specs.Solving.{replaced_by, IsImage, work_of, apply_sides, finished, stacked, StepTo};
+ghost use Rattle.kan_plain.specs.Solving.{replaced_by, IsImage, work_of, apply_sides, put_all_first, on_stack, StepTo};
 ghost use Rattle.kan_model.specs.Stores.Prims.{equation};
 
 use kan_model::{Letter, build, occurs_in, same_terms, spell};
-use kan_terms::{Memory, Term, TermPair};
+use kan_terms::{Memory, PairParts, Term, TermPair};
 use std::alloc::Global;
 
 /// A variable with the term that replaces it.
@@ -56,7 +56,7 @@ fn splice(
     letter: Letter,
     made: &mut Vec<Letter>,
 ) -> Result<(), Memory>
-    ensures { OnOk result (made.new.items ≡ made.old.items ++ spliced (map replaced_by replacement.now) letter) }
+    ensures { OnOk result (made.new.items ≡ made.old.items ++ splice (map replaced_by replacement.now) letter) }
 {
     if let Letter::Var(var) = letter {
         if let Some(by) = found(replacement, var) {
@@ -75,7 +75,7 @@ fn splice_all(
     replacement: &[Replaced],
     letters: &[Letter],
 ) -> Result<Vec<Letter>, Memory>
-    ensures { IfOk result (λ made. made.items ≡ flat_map (spliced (map replaced_by replacement.now)) letters.now) }
+    ensures { IfOk result (λ made. made.items ≡ flat_map (splice (map replaced_by replacement.now)) letters.now) }
 {
     let mut made = Vec::new(alloc);
     for letter in letters {
@@ -120,8 +120,8 @@ fn unless_inside(alloc: Global, var: u64, term: &Term) -> Result<Work, Memory>
 }
 
 // The equations of the parts of two pairs.
-fn parts(left: &TermPair, right: &TermPair) -> Result<Work, Memory>
-    ensures { IfOk result (λ made. work_of made ≡ spec.work_apart spec.left_first (Tree.pair (tree left.now.first) (tree left.now.rest)) (Tree.pair (tree right.now.first) (tree right.now.rest))) }
+fn parts(left: &PairParts, right: &PairParts) -> Result<Work, Memory>
+    ensures { IfOk result (λ made. work_of made ≡ spec.work_apart spec.left_first (Tree.pair left.now.0 left.now.1) (Tree.pair right.now.0 right.now.1)) }
 {
     let first = TermPair {
         first: left.first.again()?,
@@ -197,7 +197,7 @@ fn put_first(
 
 // The whole answer, from the replacements in the order in which they were made.
 fn finish(alloc: Global, mut made: Vec<Replaced>) -> Result<Vec<Replaced>, Memory>
-    ensures { IfOk result (λ answer. Some (map replaced_by answer.items) ≡ finished (map replaced_by made.items) (Some [])) }
+    ensures { IfOk result (λ answer. Some (map replaced_by answer.items) ≡ put_all_first (map replaced_by made.items) (Some [])) }
 {
     let mut answer = Vec::new(alloc);
     while let Some(last) = made.pop() {
@@ -213,7 +213,7 @@ fn substitute(
     pending: &[TermPair],
     made: &mut Vec<Replaced>,
 ) -> Result<Vec<TermPair>, Memory>
-    ensures left { IfOk result (λ after. stacked after.items ≡ map (spec.replace_sides last.var (tree last.by)) (stacked pending.now)) }
+    ensures left { IfOk result (λ after. on_stack after.items ≡ map (spec.replace_sides last.var (tree last.by)) (on_stack pending.now)) }
     ensures noted { OnOk result (map replaced_by made.new.items ≡ map replaced_by made.old.items ++ replaced_by last ∷ []) }
 {
     let only = [last];
@@ -230,8 +230,8 @@ fn step(
     pending: &mut Vec<TermPair>,
     made: &mut Vec<Replaced>,
 ) -> Result<bool, Memory>
-    ensures { IfOk result (λ goes_on. StepTo (stacked pending.old.items) (map replaced_by made.old.items)
-        goes_on (stacked pending.new.items) (map replaced_by made.new.items) (spec.work spec.left_first (equation given))) }
+    ensures { IfOk result (λ goes_on. StepTo (on_stack pending.old.items) (map replaced_by made.old.items)
+        goes_on (on_stack pending.new.items) (map replaced_by made.new.items) (spec.work spec.left_first (equation given))) }
 {
     match work_on(alloc, &given)? {
         Work::Identical => Ok(true),
@@ -250,7 +250,7 @@ fn step(
 
 /// The answer of equations, of which the last one is worked on first, by replacing of two variables the left one.
 pub fn solve(alloc: Global, mut pending: Vec<TermPair>) -> Result<Option<Vec<Replaced>>, Memory>
-    ensures { IfOk result (λ answer. option_map (λ made. map replaced_by made.items) answer ≡ spec.solve (stacked pending.items)) }
+    ensures { IfOk result (λ answer. option_map (λ made. map replaced_by made.items) answer ≡ spec.solve (on_stack pending.items)) }
 {
     let mut made = Vec::new(alloc);
     while let Some(given) = pending.pop() {

@@ -1,9 +1,9 @@
 -- The definitions, computed on examples.
-use Rattle.std.specs.Prelude.{◌≡◌, false, [], ◌∷◌, Some, codes, refl}
-use Rattle.kan_terms.specs.Tree.{Tree, Tm, Gd, leaves, occurs, size}
+use Rattle.std.specs.Prelude.{◌≡◌, true, false, [], ◌∷◌, Some, codes, refl}
+use Rattle.kan_terms.specs.Tree.{Tree, Tm, Gd, leaves, has_leaf, has_symbol, ground_eq, occurs, size}
 use Rattle.kan_terms.specs.Valuations.{value}
 use Rattle.kan_terms.specs.Bound.{bound_to}
-use Rattle.kan_terms.specs.Table.{number_of, interned}
+use Rattle.kan_terms.specs.Table.{number_of, interned, no_names, with_symbol, with_string, is_string_text}
 use Rattle.kan_terms.specs.Spelling.{spelling}
 use Rattle.kan_terms.specs.Reading.{tree_of}
 use Rattle.kan_terms.specs.declared.marks.Mark.TheVariants.{Pair, Sym, Nil}
@@ -44,3 +44,24 @@ example-interned = refl
 -- the newest pair counts
 example-bound_to : bound_to 3 ((3, Tree.nil) ∷ (3, two) ∷ []) ≡ Some Tree.nil
 example-bound_to = refl
+
+-- a string isn't the symbol of the same text, whatever their numbers
+example-string : ground_eq (Tree.str 7) (Tree.sym 7) ≡ false
+example-string = refl
+
+example-string_tag : has_symbol {V = ⊥} 7 (Tree.pair (Tree.str 7) Tree.nil) ≡ false
+example-string_tag = refl
+
+-- one text as a symbol and as a string
+example-tables : with_string (with_symbol no_names (codes "cat")) (codes "cat") ≡ record { symbols = codes "cat" ∷ []; strings = codes "cat" ∷ [] }
+example-tables = refl
+
+-- a line feed may stand in a string, a null character may not
+example-allowed : is_string_text (codes "é\n") ≡ true
+example-allowed = refl
+
+example-refused : is_string_text (0 ∷ []) ≡ false
+example-refused = refl
+
+example-has_leaf : has_leaf two ≡ true
+example-has_leaf = refl

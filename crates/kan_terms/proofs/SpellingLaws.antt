@@ -5,11 +5,11 @@ use Rattle.std.proofs.Common.{sym, ◌∙◌, ap, arith, append_assoc, get_or, a
 use Rattle.std.proofs.lemmas.Bool.{ne_eqb}
 use Rattle.std.proofs.Math.Seq.{drop-cons}
 use Rattle.std.proofs.lemmas.List.{append-nil, length-append}
-use Rattle.kan_terms.specs.Tree.{Tree, Gd, size}
+use Rattle.kan_terms.specs.Tree.{Tree, Gd, size, join_two}
 use Rattle.kan_terms.specs.Spelling.{spelling, SpellsTree}
-use Rattle.kan_terms.specs.Reading.{trees, joined, tree_of, tree_of-spelling}
+use Rattle.kan_terms.specs.Reading.{trees, tree_of, tree_of-spelling}
 use Rattle.kan_terms.specs.declared.marks.Mark.{Mark}
-use Rattle.kan_terms.specs.declared.marks.Mark.TheVariants.{Pair, Sym, Num, Truth, Nil}
+use Rattle.kan_terms.specs.declared.marks.Mark.TheVariants.{Pair, Sym, Str, Num, Truth, Nil}
 
 -- terms with the same marks are the same
 pub spelling-same : (s t : Gd) → spelling s ≡ spelling t → s ≡ t
@@ -24,6 +24,7 @@ spelling-tree_of marks spells =
 pub length-spelling : (t : Gd) → length (spelling t) ≡ size t
 length-spelling (Tree.leaf none) = absurd none
 length-spelling (Tree.sym s) = refl
+length-spelling (Tree.str s) = refl
 length-spelling (Tree.num n) = refl
 length-spelling (Tree.truth b) = refl
 length-spelling Tree.nil = refl
@@ -36,6 +37,7 @@ spells_many (suc n) [] = false
 spells_many zero (mark ∷ more) = false
 spells_many (suc n) (Pair ∷ more) = spells_many (suc (suc n)) more
 spells_many (suc n) (Sym s ∷ more) = spells_many n more
+spells_many (suc n) (Str s ∷ more) = spells_many n more
 spells_many (suc n) (Num i ∷ more) = spells_many n more
 spells_many (suc n) (Truth b ∷ more) = spells_many n more
 spells_many (suc n) (Nil ∷ more) = spells_many n more
@@ -44,6 +46,7 @@ spells_many (suc n) (Nil ∷ more) = spells_many n more
 spells_many-spelling : (t : Gd) (n : ℕ) (more : List Mark) → spells_many (suc n) (spelling t ++ more) ≡ spells_many n more
 spells_many-spelling (Tree.leaf none) n more = absurd none
 spells_many-spelling (Tree.sym s) n more = refl
+spells_many-spelling (Tree.str s) n more = refl
 spells_many-spelling (Tree.num i) n more = refl
 spells_many-spelling (Tree.truth b) n more = refl
 spells_many-spelling Tree.nil n more = refl
@@ -58,7 +61,7 @@ spellings [] = []
 spellings (t ∷ more) = spelling t ++ spellings more
 
 -- joining the first two trees puts the mark of a pair before their marks
-joined-two : (ts : List Gd) (n : ℕ) → length ts ≡ suc (suc n) → (length (joined ts) ≡ suc n) × (spellings (joined ts) ≡ Pair ∷ spellings ts)
+joined-two : (ts : List Gd) (n : ℕ) → length ts ≡ suc (suc n) → (length (join_two ts) ≡ suc n) × (spellings (join_two ts) ≡ Pair ∷ spellings ts)
 joined-two [] n e = absurd (omega arith)
 joined-two (a ∷ []) n e = absurd (omega arith)
 joined-two (a ∷ b ∷ more) n e = (omega arith, ap (λ l. Pair ∷ l) (append_assoc (spelling a) (spelling b) (spellings more)))
@@ -73,6 +76,7 @@ trees-spells_many (suc n) (Pair ∷ more) e =
     let both = joined-two (trees more) n rest.0 in
     (both.0, both.1 ∙ ap (λ l. Pair ∷ l) rest.1)
 trees-spells_many (suc n) (Sym s ∷ more) e = let rest = trees-spells_many n more e in (ap (λ k. suc k) rest.0, ap (λ l. Sym s ∷ l) rest.1)
+trees-spells_many (suc n) (Str s ∷ more) e = let rest = trees-spells_many n more e in (ap (λ k. suc k) rest.0, ap (λ l. Str s ∷ l) rest.1)
 trees-spells_many (suc n) (Num i ∷ more) e = let rest = trees-spells_many n more e in (ap (λ k. suc k) rest.0, ap (λ l. Num i ∷ l) rest.1)
 trees-spells_many (suc n) (Truth b ∷ more) e = let rest = trees-spells_many n more e in (ap (λ k. suc k) rest.0, ap (λ l. Truth b ∷ l) rest.1)
 trees-spells_many (suc n) (Nil ∷ more) e = let rest = trees-spells_many n more e in (ap (λ k. suc k) rest.0, ap (λ l. Nil ∷ l) rest.1)
@@ -93,6 +97,7 @@ Decides-spells_many marks = (
 abbrev pub is_pair : Mark → Bool
 is_pair Pair = true
 is_pair (Sym s) = false
+is_pair (Str s) = false
 is_pair (Num n) = false
 is_pair (Truth b) = false
 is_pair Nil = false
@@ -101,6 +106,7 @@ is_pair Nil = false
 wanted-pair : (n : ℕ) (mark : Mark) (more : List Mark) → is_pair mark ≡ true → spells_many (suc n) (mark ∷ more) ≡ spells_many (suc (suc n)) more
 wanted-pair n Pair more e = refl
 wanted-pair n (Sym s) more e = cc
+wanted-pair n (Str s) more e = cc
 wanted-pair n (Num i) more e = cc
 wanted-pair n (Truth b) more e = cc
 wanted-pair n Nil more e = cc
@@ -108,6 +114,7 @@ wanted-pair n Nil more e = cc
 wanted-other : (n : ℕ) (mark : Mark) (more : List Mark) → is_pair mark ≡ false → spells_many (suc n) (mark ∷ more) ≡ spells_many n more
 wanted-other n Pair more e = cc
 wanted-other n (Sym s) more e = refl
+wanted-other n (Str s) more e = refl
 wanted-other n (Num i) more e = refl
 wanted-other n (Truth b) more e = refl
 wanted-other n Nil more e = refl

@@ -13,6 +13,7 @@ use Rattle.kan_terms.specs.Tree.{Tree, Tm, Gd, fill, leaves, occurs, has_symbol,
 pub fill-fill : {U V W : Type 0} (f : V → Tree W) (g : U → Tree V) (t : Tree U) → fill f (fill g t) ≡ fill (λ u. fill f (g u)) t
 fill-fill f g (Tree.leaf v) = refl
 fill-fill f g (Tree.sym s) = refl
+fill-fill f g (Tree.str s) = refl
 fill-fill f g (Tree.num n) = refl
 fill-fill f g (Tree.truth b) = refl
 fill-fill f g Tree.nil = refl
@@ -22,6 +23,7 @@ fill-fill f g (Tree.pair a b) = rw (fill-fill f g a, fill-fill f g b)
 pub fill-same : {V W : Type 0} (f g : V → Tree W) → ((v : V) → f v ≡ g v) → (t : Tree V) → fill f t ≡ fill g t
 fill-same f g e (Tree.leaf v) = e v
 fill-same f g e (Tree.sym s) = refl
+fill-same f g e (Tree.str s) = refl
 fill-same f g e (Tree.num n) = refl
 fill-same f g e (Tree.truth b) = refl
 fill-same f g e Tree.nil = refl
@@ -31,6 +33,7 @@ fill-same f g e (Tree.pair a b) = rw (fill-same f g e a, fill-same f g e b)
 pub fill-same_leaves : {V W : Type 0} (f g : V → Tree W) (t : Tree V) → ((v : V) → Contains (leaves t) v → f v ≡ g v) → fill f t ≡ fill g t
 fill-same_leaves f g (Tree.leaf v) e = e v (0, omega arith, refl)
 fill-same_leaves f g (Tree.sym s) e = refl
+fill-same_leaves f g (Tree.str s) e = refl
 fill-same_leaves f g (Tree.num n) e = refl
 fill-same_leaves f g (Tree.truth b) e = refl
 fill-same_leaves f g Tree.nil e = refl
@@ -41,6 +44,7 @@ fill-same_leaves f g (Tree.pair a b) e =
 pub fill-leaf : {V : Type 0} (t : Tree V) → fill Tree.leaf t ≡ t
 fill-leaf (Tree.leaf v) = refl
 fill-leaf (Tree.sym s) = refl
+fill-leaf (Tree.str s) = refl
 fill-leaf (Tree.num n) = refl
 fill-leaf (Tree.truth b) = refl
 fill-leaf Tree.nil = refl
@@ -54,6 +58,7 @@ one-item w v h = elim (Contains-push_cases [] w v h) [ inl none ↦ absurd (omeg
 pub leaves-same_fill : {V W : Type 0} (f g : V → Tree W) (t : Tree V) → fill f t ≡ fill g t → (v : V) → Contains (leaves t) v → f v ≡ g v
 leaves-same_fill f g (Tree.leaf w) e v h = let same = one-item w v h in cc
 leaves-same_fill f g (Tree.sym s) e v h = absurd (omega arith)
+leaves-same_fill f g (Tree.str s) e v h = absurd (omega arith)
 leaves-same_fill f g (Tree.num n) e v h = absurd (omega arith)
 leaves-same_fill f g (Tree.truth b) e v h = absurd (omega arith)
 leaves-same_fill f g Tree.nil e v h = absurd (omega arith)
@@ -81,6 +86,7 @@ and-split false false e = cc
 pub tree_eq-true : {V : Type 0} (same : V → V → Bool) → ((v w : V) → same v w ≡ true → v ≡ w) → (s t : Tree V) → tree_eq same s t ≡ true → s ≡ t
 tree_eq-true same exact (Tree.leaf v) (Tree.leaf w) e = ap Tree.leaf (exact v w e)
 tree_eq-true same exact (Tree.sym v) (Tree.sym w) e = ap Tree.sym (eqb-true v w e)
+tree_eq-true same exact (Tree.str v) (Tree.str w) e = ap Tree.str (eqb-true v w e)
 tree_eq-true same exact (Tree.num v) (Tree.num w) e = ap Tree.num ((Decides-int_eq v w).0 e)
 tree_eq-true same exact (Tree.truth v) (Tree.truth w) e = ap Tree.truth ((Decides-bool_eq v w).0 e)
 tree_eq-true same exact Tree.nil Tree.nil e = refl
@@ -94,6 +100,7 @@ tree_eq-true same exact _ _ e = cc
 pub tree_eq-same : {V : Type 0} (same : V → V → Bool) → ((v : V) → same v v ≡ true) → (t : Tree V) → tree_eq same t t ≡ true
 tree_eq-same same self (Tree.leaf v) = self v
 tree_eq-same same self (Tree.sym v) = eq-eqb v v refl
+tree_eq-same same self (Tree.str v) = eq-eqb v v refl
 tree_eq-same same self (Tree.num v) = (Decides-int_eq v v).1 refl
 tree_eq-same same self (Tree.truth v) = (Decides-bool_eq v v).1 refl
 tree_eq-same same self Tree.nil = refl
@@ -144,6 +151,7 @@ or-none false b e = (refl, e)
 pub occurs-leaves : (x : ℕ) (t : Tm) → occurs x t ≡ true → Contains (leaves t) x
 occurs-leaves x (Tree.leaf v) e = (0, omega arith, sym (eqb-true x v e))
 occurs-leaves x (Tree.sym s) e = cc
+occurs-leaves x (Tree.str s) e = cc
 occurs-leaves x (Tree.num n) e = cc
 occurs-leaves x (Tree.truth b) e = cc
 occurs-leaves x Tree.nil e = cc
@@ -157,6 +165,7 @@ occurs-leaves x (Tree.pair a b) e =
 pub leaves-occurs : (x : ℕ) (t : Tm) → Contains (leaves t) x → occurs x t ≡ true
 leaves-occurs x (Tree.leaf v) h = eq-eqb x v (sym (one-item v x h))
 leaves-occurs x (Tree.sym s) h = absurd (omega arith)
+leaves-occurs x (Tree.str s) h = absurd (omega arith)
 leaves-occurs x (Tree.num n) h = absurd (omega arith)
 leaves-occurs x (Tree.truth b) h = absurd (omega arith)
 leaves-occurs x Tree.nil h = absurd (omega arith)
@@ -178,6 +187,7 @@ fill-same_occurs f g t e = fill-same_leaves f g t (λ v h. e v (leaves-occurs v 
 pub fill-absent : {W : Type 0} (x : ℕ) (f g : ℕ → Tree W) → ((y : ℕ) → eqb x y ≡ false → f y ≡ g y) → (t : Tm) → occurs x t ≡ false → fill f t ≡ fill g t
 fill-absent x f g e (Tree.leaf v) h = e v h
 fill-absent x f g e (Tree.sym s) h = refl
+fill-absent x f g e (Tree.str s) h = refl
 fill-absent x f g e (Tree.num n) h = refl
 fill-absent x f g e (Tree.truth b) h = refl
 fill-absent x f g e Tree.nil h = refl
@@ -193,6 +203,7 @@ fill-absent_leaf x f e t h = fill-absent x f Tree.leaf e t h ∙ fill-leaf t
 pub occurs-fill : (x : ℕ) (f : ℕ → Tm) (t : Tm) → occurs x (fill f t) ≡ true → (y : ℕ) × (occurs y t ≡ true) × (occurs x (f y) ≡ true)
 occurs-fill x f (Tree.leaf v) e = (v, eq-eqb v v refl, e)
 occurs-fill x f (Tree.sym s) e = cc
+occurs-fill x f (Tree.str s) e = cc
 occurs-fill x f (Tree.num n) e = cc
 occurs-fill x f (Tree.truth b) e = cc
 occurs-fill x f Tree.nil e = cc
@@ -205,6 +216,7 @@ occurs-fill x f (Tree.pair a b) e =
 pub fill-occurs : (x y : ℕ) (f : ℕ → Tm) (t : Tm) → occurs y t ≡ true → occurs x (f y) ≡ true → occurs x (fill f t) ≡ true
 fill-occurs x y f (Tree.leaf v) e h = rw (← eqb-true y v e) h
 fill-occurs x y f (Tree.sym s) e h = cc
+fill-occurs x y f (Tree.str s) e h = cc
 fill-occurs x y f (Tree.num n) e h = cc
 fill-occurs x y f (Tree.truth b) e h = cc
 fill-occurs x y f Tree.nil e h = cc
@@ -219,6 +231,7 @@ pub has_symbol-fill : {V W : Type 0} (s : ℕ) (f : V → Tree W) (t : Tree V) �
     → (has_symbol s t ≡ true) ⊎ ((v : V) × Contains (leaves t) v × (has_symbol s (f v) ≡ true))
 has_symbol-fill s f (Tree.leaf v) e = inr (v, (0, omega arith, refl), e)
 has_symbol-fill s f (Tree.sym r) e = inl e
+has_symbol-fill s f (Tree.str r) e = inl e
 has_symbol-fill s f (Tree.num n) e = cc
 has_symbol-fill s f (Tree.truth b) e = cc
 has_symbol-fill s f Tree.nil e = cc
@@ -238,6 +251,7 @@ has_symbol-fill s f (Tree.pair a b) e =
 pub fill-has_symbol : {V W : Type 0} (s : ℕ) (f : V → Tree W) (t : Tree V) → has_symbol s t ≡ true → has_symbol s (fill f t) ≡ true
 fill-has_symbol s f (Tree.leaf v) e = cc
 fill-has_symbol s f (Tree.sym r) e = e
+fill-has_symbol s f (Tree.str r) e = e
 fill-has_symbol s f (Tree.num n) e = cc
 fill-has_symbol s f (Tree.truth b) e = cc
 fill-has_symbol s f Tree.nil e = cc
@@ -251,6 +265,7 @@ fill-has_symbol s f (Tree.pair a b) e =
 pub leaves-has_symbol : {V W : Type 0} (s : ℕ) (f : V → Tree W) (t : Tree V) (v : V) → Contains (leaves t) v → has_symbol s (f v) ≡ true → has_symbol s (fill f t) ≡ true
 leaves-has_symbol s f (Tree.leaf w) v h e = rw (one-item w v h) e
 leaves-has_symbol s f (Tree.sym r) v h e = absurd (omega arith)
+leaves-has_symbol s f (Tree.str r) v h e = absurd (omega arith)
 leaves-has_symbol s f (Tree.num n) v h e = absurd (omega arith)
 leaves-has_symbol s f (Tree.truth b) v h e = absurd (omega arith)
 leaves-has_symbol s f Tree.nil v h e = absurd (omega arith)
@@ -264,6 +279,7 @@ leaves-has_symbol s f (Tree.pair a b) v h e =
 pub leaves-fill : {V W : Type 0} (f : V → Tree W) (t : Tree V) → leaves (fill f t) ≡ flat_map (λ v. leaves (f v)) (leaves t)
 leaves-fill f (Tree.leaf v) = sym (append-nil (leaves (f v)))
 leaves-fill f (Tree.sym s) = refl
+leaves-fill f (Tree.str s) = refl
 leaves-fill f (Tree.num n) = refl
 leaves-fill f (Tree.truth b) = refl
 leaves-fill f Tree.nil = refl
@@ -273,6 +289,7 @@ leaves-fill f (Tree.pair a b) = rw (leaves-fill f a, leaves-fill f b) (sym (flat
 pub size-positive : {V : Type 0} (t : Tree V) → 1 ≤ size t
 size-positive (Tree.leaf v) = omega arith
 size-positive (Tree.sym s) = omega arith
+size-positive (Tree.str s) = omega arith
 size-positive (Tree.num n) = omega arith
 size-positive (Tree.truth b) = omega arith
 size-positive Tree.nil = omega arith
@@ -282,6 +299,7 @@ size-positive (Tree.pair a b) = omega arith
 pub size-fill : {W : Type 0} (x : ℕ) (f : ℕ → Tree W) (t : Tm) → occurs x t ≡ true → size (f x) ≤ size (fill f t)
 size-fill x f (Tree.leaf v) e = rw (eqb-true x v e) (omega arith)
 size-fill x f (Tree.sym s) e = cc
+size-fill x f (Tree.str s) e = cc
 size-fill x f (Tree.num n) e = cc
 size-fill x f (Tree.truth b) e = cc
 size-fill x f Tree.nil e = cc
@@ -303,6 +321,7 @@ size-fill_pair x f a b e =
 pub occurs-cyclic : {W : Type 0} (x : ℕ) (f : ℕ → Tree W) (t : Tm) → occurs x t ≡ true → t ≢ Tree.leaf x → f x ≢ fill f t
 occurs-cyclic x f (Tree.leaf v) e differs same = differs (ap Tree.leaf (sym (eqb-true x v e)))
 occurs-cyclic x f (Tree.sym s) e differs same = cc
+occurs-cyclic x f (Tree.str s) e differs same = cc
 occurs-cyclic x f (Tree.num n) e differs same = cc
 occurs-cyclic x f (Tree.truth b) e differs same = cc
 occurs-cyclic x f Tree.nil e differs same = cc

@@ -1,9 +1,12 @@
 pub mod Bound
 pub mod Lists
 pub mod Memory
+pub mod PartsFall
 pub mod Reading
 pub mod Spelling
 pub mod Table
+pub mod TableCode
+pub mod TermCode
 pub mod Tree
 pub mod Terms
 pub mod Valuations

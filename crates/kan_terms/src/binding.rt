@@ -28,6 +28,11 @@ pub trait Bindings: Sized + Drop {
         requires { bound_to var (pairs self.now) ≡ None }
         ensures { IfOk result (λ made. pairs made ≡ (var, tree term.now) ∷ pairs self.now) };
 
+    /// What `bind` gives, made of these bindings themselves: in place where nobody else holds them.
+    fn bind_owned(self, var: u64, term: &Term) -> Result<Self, Memory>
+        requires { bound_to var (pairs self) ≡ None }
+        ensures { IfOk result (λ made. pairs made ≡ (var, tree term.now) ∷ pairs self) };
+
     /// The same bindings once more.
     fn again(&self) -> Result<Self, Memory>
         ensures { IfOk result (λ copy. pairs copy ≡ pairs self.now) };

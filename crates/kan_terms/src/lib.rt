@@ -5,12 +5,12 @@ mod binding;
 mod list;
 mod lists;
 mod marks;
-mod symbols;
+mod names;
 mod terms;
 
 pub use binding::Bindings;
 pub use list::ListOf;
 pub use lists::{Grounds, PairLists, Tags, TermPairs};
 pub use marks::{Ground, Mark};
-pub use symbols::Names;
-pub use terms::{Memory, Term, TermPair};
+pub use names::Names;
+pub use terms::{Memory, PairParts, Term, TermPair};

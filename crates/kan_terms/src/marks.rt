@@ -12,6 +12,8 @@ pub enum Mark {
     Pair,
     /// A symbol, by its number in the table of names.
     Sym(u32),
+    /// A string, by its number in the table of strings.
+    Str(u32),
     /// A whole number.
     Num(i128),
     /// A truth value.
@@ -75,7 +77,7 @@ fn spells_tree(marks: &[Mark]) -> bool
         }
         match mark {
             Mark::Pair => wanted += 1,
-            Mark::Sym(_) | Mark::Num(_) | Mark::Truth(_) | Mark::Nil => wanted -= 1,
+            Mark::Sym(_) | Mark::Str(_) | Mark::Num(_) | Mark::Truth(_) | Mark::Nil => wanted -= 1,
         }
     }
     wanted == 0

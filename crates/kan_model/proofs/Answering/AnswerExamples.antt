@@ -2,13 +2,13 @@
 use Rattle.std.proofs.Common.{◌≡◌, ℕ, true, false, refl, sym, List, [], ◌∷◌, pos, codes, true≢false}
 use Rattle.kan_terms.specs.Tree.{Tree, Tm, Gd}
 use Rattle.kan_terms.specs.Valuations.{value}
-use Rattle.kan_model.specs.Answers.Text.{Table}
+use Rattle.kan_terms.specs.Table.{Table}
 use Rattle.kan_model.specs.Answers.Answer.{Answer}
 use Rattle.kan_model.specs.Answers.InForm.{in_form}
 use Rattle.kan_model.specs.Answers.Covers.{Covers, meets}
 
 abbrev table : Table
-table = codes "b" ∷ codes "a" ∷ []
+table = record { symbols = codes "b" ∷ codes "a" ∷ []; strings = [] }
 
 abbrev name : ℕ → Tm
 name = Tree.leaf
@@ -26,6 +26,7 @@ not_both = record {
   disequalities = (record { name = 0; by = num 1 } ∷ record { name = 1; by = num 2 } ∷ []) ∷ [];
   numbers = [];
   symbols = [];
+  strings = [];
   absences = [];
 }
 
@@ -49,7 +50,7 @@ covers_not (us, same, met) = by us same met
         true≢false (sym failed)
 
 abbrev plain : Tm → Answer
-plain t = record { term = t; disequalities = []; numbers = []; symbols = []; absences = [] }
+plain t = record { term = t; disequalities = []; numbers = []; symbols = []; strings = []; absences = [] }
 
 -- the first name is 0
 pub first_name : in_form table (plain (name 0)) ≡ true
@@ -59,8 +60,22 @@ pub no_first_name : in_form table (plain (name 1)) ≡ false
 no_first_name = refl
 
 -- no name is both a number and a symbol
-pub two_types : in_form table (record { term = name 0; disequalities = []; numbers = 0 ∷ []; symbols = 0 ∷ []; absences = [] }) ≡ false
+pub two_types : in_form table (record { term = name 0; disequalities = []; numbers = 0 ∷ []; symbols = 0 ∷ []; strings = []; absences = [] }) ≡ false
 two_types = refl
+
+-- nor both a string and one of the others
+pub string_and_symbol : in_form table (record { term = name 0; disequalities = []; numbers = []; symbols = 0 ∷ []; strings = 0 ∷ []; absences = [] }) ≡ false
+string_and_symbol = refl
+
+pub string_and_number : in_form table (record { term = name 0; disequalities = []; numbers = 0 ∷ []; symbols = []; strings = 0 ∷ []; absences = [] }) ≡ false
+string_and_number = refl
+
+-- a name may be a string, and then has no absence
+pub string_in_form : in_form table (record { term = name 0; disequalities = []; numbers = []; symbols = []; strings = 0 ∷ []; absences = [] }) ≡ true
+string_in_form = refl
+
+pub absence_on_string : in_form table (record { term = name 0; disequalities = []; numbers = []; symbols = []; strings = 0 ∷ []; absences = record { tag = 0; names = 0 ∷ [] } ∷ [] }) ≡ false
+absence_on_string = refl
 
 -- tags stand in the order of their texts, and not of their numbers
 abbrev with_tags : ℕ → ℕ → Answer
@@ -69,6 +84,7 @@ with_tags first second = record {
   disequalities = [];
   numbers = [];
   symbols = [];
+  strings = [];
   absences = record { tag = first; names = 0 ∷ [] } ∷ record { tag = second; names = 0 ∷ [] } ∷ [];
 }
 
@@ -79,8 +95,8 @@ pub tags_out_of_order : in_form table (with_tags 0 1) ≡ false
 tags_out_of_order = refl
 
 -- of two names the lower one is replaced
-pub lower_replaced : in_form table (record { term = two_of (name 0) (name 1); disequalities = (record { name = 0; by = name 1 } ∷ []) ∷ []; numbers = []; symbols = []; absences = [] }) ≡ true
+pub lower_replaced : in_form table (record { term = two_of (name 0) (name 1); disequalities = (record { name = 0; by = name 1 } ∷ []) ∷ []; numbers = []; symbols = []; strings = []; absences = [] }) ≡ true
 lower_replaced = refl
 
-pub higher_replaced : in_form table (record { term = two_of (name 0) (name 1); disequalities = (record { name = 1; by = name 0 } ∷ []) ∷ []; numbers = []; symbols = []; absences = [] }) ≡ false
+pub higher_replaced : in_form table (record { term = two_of (name 0) (name 1); disequalities = (record { name = 1; by = name 0 } ∷ []) ∷ []; numbers = []; symbols = []; strings = []; absences = [] }) ≡ false
 higher_replaced = refl

@@ -44,6 +44,7 @@ name_not_inside vs x t named out = false_from_ne_true (occurs (place_of vs x) (i
 in_names-one : (vs : List ℕ) (a b : Tm) → list_all (stands_in vs) (leaves a) ≡ true → list_all (stands_in vs) (leaves b) ≡ true → in_names vs a ≡ in_names vs b → a ≡ b
 in_names-one vs (Tree.leaf v) (Tree.leaf w) h k e = ap Tree.leaf (place_of-one vs v w (and_parts (stands_in vs v) true h).0 (cc))
 in_names-one vs (Tree.sym s) (Tree.sym r) h k e = cc
+in_names-one vs (Tree.str s) (Tree.str r) h k e = cc
 in_names-one vs (Tree.num m) (Tree.num n) h k e = cc
 in_names-one vs (Tree.truth m) (Tree.truth n) h k e = cc
 in_names-one vs Tree.nil Tree.nil h k e = refl
@@ -62,6 +63,7 @@ lower_in_names vs x (Tree.leaf w) named all rises =
     let inside = (and_parts (stands_in vs w) true all).0 in
     lt-ltb (place_of vs x) (place_of vs w) (rw (rank-place vs x named, rank-place vs w inside) at (rises w refl))
 lower_in_names vs x (Tree.sym s) named all rises = refl
+lower_in_names vs x (Tree.str s) named all rises = refl
 lower_in_names vs x (Tree.num n) named all rises = refl
 lower_in_names vs x (Tree.truth b) named all rises = refl
 lower_in_names vs x Tree.nil named all rises = refl

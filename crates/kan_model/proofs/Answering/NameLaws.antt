@@ -1,9 +1,9 @@
 -- Variables and their names: places in a list, and what naming does to terms.
-use Rattle.std.proofs.Common.{◌≡◌, ◌⊎◌, ℕ, suc, ◌+◌, ◌<◌, ◌≤◌, Bool, true, false, ◌||◌, not, cond, eqb, nat_lt, List, [], ◌∷◌, map, filter, length, inl, inr, sym, ap, ap₂, subst, refl, arith, ◌∙◌, if◌then◌else◌}
+use Rattle.std.proofs.Common.{◌≡◌, ◌⊎◌, ℕ, suc, ◌+◌, ◌<◌, ◌≤◌, Bool, true, false, ◌||◌, not, cond, eqb, nat_lt, List, [], ◌∷◌, ◌++◌, map, filter, length, inl, inr, sym, ap, ap₂, subst, refl, arith, ◌∙◌, if◌then◌else◌}
 use Rattle.std.specs.List.{list_all}
-use Rattle.std.proofs.lemmas.Bool.{and_from, and_parts, eq-eqb, eqb-true, eqb-false, ne_eqb, lt-ltb, or_cases, or_left, or_right, both_ways, true≢false, not_from_false}
+use Rattle.std.proofs.lemmas.Bool.{and_from, and_parts, eq-eqb, eqb-true, eqb-false, ne_eqb, lt-ltb, or_cases, or_left, or_right, both_ways, true≢false, not_from_false, not-true}
 use Rattle.std.proofs.lemmas.List.{length-map, map-append}
-use Rattle.std.proofs.lemmas.List.Folds.{list_all-append}
+use Rattle.std.proofs.lemmas.List.Folds.{list_all-append, list_any-append}
 use Rattle.kan_terms.specs.Tree.{Tree, Tm, fill, leaves}
 use Rattle.kan_model.specs.Answers.Order.{each_once, place_of, stands_in}
 use Rattle.kan_model.specs.Programs.Scope.{all_below}
@@ -119,6 +119,7 @@ Each-each_once_map f all one (x ∷ xs) (h, hs) =
 leaves-names : (f : ℕ → ℕ) (t : Tm) → leaves (fill (λ v. Tree.leaf (f v)) t) ≡ map f (leaves t)
 leaves-names f (Tree.leaf v) = refl
 leaves-names f (Tree.sym s) = refl
+leaves-names f (Tree.str s) = refl
 leaves-names f (Tree.num n) = refl
 leaves-names f (Tree.truth b) = refl
 leaves-names f Tree.nil = refl
@@ -141,6 +142,7 @@ name_count-in_names t = ap length (named_again t) ∙ length-map (named_variable
 pub all_below-in_names : (vs : List ℕ) (t : Tm) → list_all (stands_in vs) (leaves t) ≡ true → all_below (length vs) (in_names vs t) ≡ true
 all_below-in_names vs (Tree.leaf v) h = lt-ltb (place_of vs v) (length vs) (place_below vs v (and_parts (stands_in vs v) true h).0)
 all_below-in_names vs (Tree.sym s) h = refl
+all_below-in_names vs (Tree.str s) h = refl
 all_below-in_names vs (Tree.num n) h = refl
 all_below-in_names vs (Tree.truth b) h = refl
 all_below-in_names vs Tree.nil h = refl
@@ -201,3 +203,13 @@ names_where-apart p q other n (v ∷ vs) = by (p v) refl (q v) refl (names_where
     by true e false f h = and_from (not (stands_in (names_where q (suc n) vs) n)) (apart (names_where p (suc n) vs) (names_where q (suc n) vs)) (not_from_false (stands_in (names_where q (suc n) vs) n) (stands_later n (names_where q (suc n) vs) (names_at_least q (suc n) vs))) h
     by false e true f h = apart_more n (names_where p (suc n) vs) (names_where q (suc n) vs) (names_at_least p (suc n) vs) h
     by false e false f h = h
+
+-- names that are apart from two lists are apart from both together
+pub apart_both : (xs ys zs : List ℕ) → apart xs ys ≡ true → apart xs zs ≡ true → apart xs (ys ++ zs) ≡ true
+apart_both [] ys zs h k = refl
+apart_both (x ∷ xs) ys zs h k =
+    let (first, firsts) = and_parts (not (stands_in ys x)) (apart xs ys) h in
+    let (second, seconds) = and_parts (not (stands_in zs x)) (apart xs zs) k in
+    let neither : stands_in (ys ++ zs) x ≡ false =
+    list_any-append (eqb x) ys zs ∙ ap₂ (λ a b. a || b) (not-true (stands_in ys x) first) (not-true (stands_in zs x) second) in
+    and_from (not (stands_in (ys ++ zs) x)) (apart xs (ys ++ zs)) (not_from_false (stands_in (ys ++ zs) x) neither) (apart_both xs ys zs firsts seconds)

@@ -21,6 +21,7 @@ AsPair p = record { left = Tree.leaf p.name; right = p.by }
 pair_apart : (x : ℕ) (t : Tm) → replaces_lower x t ≡ true → occurs x t ≡ false → work_apart nat_lt (Tree.leaf x) t ≡ Work.substitute x t
 pair_apart x (Tree.leaf v) lower out = rw lower refl
 pair_apart x (Tree.sym s) lower out = refl
+pair_apart x (Tree.str s) lower out = refl
 pair_apart x (Tree.num n) lower out = refl
 pair_apart x (Tree.truth b) lower out = refl
 pair_apart x Tree.nil lower out = refl

@@ -3,7 +3,7 @@ use Rattle.std.proofs.Common.{◌≡◌, true, eqb, List, [], ◌∷◌, ◌++�
 use Rattle.std.proofs.lemmas.Bool.{and_parts, and_from, eqb-true, eq-eqb, true≢false}
 use Rattle.kan_terms.specs.Tree.{Gd}
 use Rattle.kan_model.specs.Programs.Goals.{Goal, Relation, Program}
-use Rattle.kan_model.specs.Meaning.Derivations.{Derivation, Step, spelled, values, derives, Derives, TestIsFamily, SpelledOnce}
+use Rattle.kan_model.specs.Meaning.Derivations.{Derivation, Step, steps_of, values, derives, Derives, TestIsFamily, SpelledOnce}
 
 module _ (program : Program) where
   -- what the test accepts is in the family
@@ -18,6 +18,7 @@ module _ (program : Program) where
   Derives-from_test (Goal.fresh n g) us (Derivation.choose vs d) h =
       let (long, below) = and_parts (eqb (length vs) n) (derives program g (us ++ vs) d) h in
       subst (λ m. Derives program (Goal.fresh m g) us (Derivation.choose vs d)) (eqb-true (length vs) n long) (Derives.choose (Derives-from_test g (us ++ vs) d below))
+  Derives-from_test (Goal.later g) us (Derivation.enter d) h = Derives.later (Derives-from_test g us d h)
   Derives-from_test (Goal.call r args) us (Derivation.enter d) h = by (slice_get program.relations r) refl (λ rel. Derives-from_test rel.body (values us args) d)
     where
       by : (found : Option Relation) → slice_get program.relations r ≡ found →
@@ -37,6 +38,7 @@ module _ (program : Program) where
   test_from-Derives g us d (Derives.right {h = k} {d = d'} below) = test_from-Derives k us d' below
   test_from-Derives g us d (Derives.choose {g = g'} {vs = vs} {d = d'} below) =
       and_from (eqb (length vs) (length vs)) (derives program g' (us ++ vs) d') (eq-eqb (length vs) (length vs) refl) (test_from-Derives g' (us ++ vs) d' below)
+  test_from-Derives g us d (Derives.later {g = g'} {d = d'} below) = test_from-Derives g' us d' below
   test_from-Derives g us d (Derives.enter {args = args} {rel = rel} {d = d'} e below) = rw (e, derives) (test_from-Derives rel.body (values us args) d' below)
 
 pub test_is_family : TestIsFamily
@@ -47,12 +49,12 @@ without_first [] = []
 without_first (s ∷ ss) = ss
 
 -- steps spell one derivation, and it ends at one place
-pub spelled_once : (d e : Derivation) (more last : List Step) → spelled d ++ more ≡ spelled e ++ last → (d ≡ e) × (more ≡ last)
+pub spelled_once : (d e : Derivation) (more last : List Step) → steps_of d ++ more ≡ steps_of e ++ last → (d ≡ e) × (more ≡ last)
 unfolding without_first
 spelled_once Derivation.holds Derivation.holds more last h = (refl, ap without_first h)
 spelled_once (Derivation.both d e) (Derivation.both d' e') more last h =
-    let (first, rest) = spelled_once d d' (spelled e ++ more) (spelled e' ++ last)
-    (sym (append_assoc (spelled d) (spelled e) more) ∙ ap without_first h ∙ append_assoc (spelled d') (spelled e') last) in
+    let (first, rest) = spelled_once d d' (steps_of e ++ more) (steps_of e' ++ last)
+    (sym (append_assoc (steps_of d) (steps_of e) more) ∙ ap without_first h ∙ append_assoc (steps_of d') (steps_of e') last) in
     let (second, after) = spelled_once e e' more last rest in
     (cc, after)
 spelled_once (Derivation.left d) (Derivation.left d') more last h = let (below, after) = spelled_once d d' more last (ap without_first h) in (ap Derivation.left below, after)

@@ -1,15 +1,15 @@
 -- Worked examples of what goals mean: solutions, derivations, their bounds, scope, and the trees of tables.
-use Rattle.std.proofs.Common.{◌≡◌, ℕ, true, false, refl, sym, ◌∙◌, [], ◌∷◌, pos, append-nil, true≢false}
+use Rattle.std.proofs.Common.{◌≡◌, true, false, refl, sym, ◌∙◌, [], ◌∷◌, pos, append-nil, true≢false}
 use Rattle.kan_terms.specs.Tree.{Tree, Gd}
 use Rattle.kan_model.specs.Programs.Goals.{Template, Primitive, Goal, Program}
 use Rattle.kan_model.specs.Stores.Store.{Store}
 use Rattle.kan_model.specs.Streams.Stream.{Stream, Thunk}
 use Rattle.kan_model.specs.Meaning.Holds.{IsSolution}
 use Rattle.kan_model.specs.Programs.Scope.{width, is_small, in_scope, is_closed}
-use Rattle.kan_model.specs.Meaning.Derivations.{Derivation, Step, spelled, derives, AreSteps, InMeaning}
+use Rattle.kan_model.specs.Meaning.Derivations.{Derivation, Step, steps_of, derives, AreSteps, InMeaning}
 use Rattle.kan_model.specs.Streams.Pulls.{answers_within, pulls_for}
 use Rattle.kan_model.specs.Streams.Bounds.{top, floor}
-use Rattle.kan_model.specs.Programs.Tables.{TermEntry, GoalEntry, Tables, is_grown, nothing_open, program_of}
+use Rattle.kan_model.specs.Programs.Tables.{TermEntry, GoalEntry, Tables, is_grown, are_closed, program_of}
 use Rattle.kan_model.proofs.Meaning.DerivationLaws.{spelled_once}
 
 abbrev q : Template
@@ -56,7 +56,7 @@ chosen = (Derivation.choose (one ∷ []) Derivation.holds, refl, refl)
 -- with one step more they spell nothing
 pub one_step_more : AreSteps two_relations pair_of_one (Tree.pair one one ∷ []) (Step.choose (one ∷ []) ∷ Step.holds ∷ Step.holds ∷ []) → ⊥
 one_step_more (d, spells, h) =
-    let (same, rest) = spelled_once (Derivation.choose (one ∷ []) Derivation.holds) d (Step.holds ∷ []) [] (spells ∙ sym (append-nil (spelled d))) in cc
+    let (same, rest) = spelled_once (Derivation.choose (one ∷ []) Derivation.holds) d (Step.holds ∷ []) [] (spells ∙ sym (append-nil (steps_of d))) in cc
 
 -- a tuple in the meaning of a relation, by way of the second call
 pub in_meaning : InMeaning two_relations (record { params = 2; body = Goal.either (equal (Tree.leaf 0) (Tree.leaf 1)) (Goal.call 0 (Tree.leaf 0 ∷ Tree.leaf 1 ∷ [])) }) (a ∷ a ∷ [])
@@ -72,9 +72,20 @@ behind_two = refl
 pub behind_three : pulls_for two_relations (behind (behind (behind is_a))) (Derivation.right (Derivation.right (Derivation.right Derivation.holds))) ≡ 7
 behind_three = refl
 
+-- where a disjunction comes later, an answer behind a relation that only calls itself comes within 2 pulls
+pub behind_later : pulls_for two_relations (Goal.later (behind is_a)) (Derivation.enter (Derivation.right Derivation.holds)) ≡ 2
+behind_later = refl
+
+-- what comes later has no answer without a pull, and with one those that it has at once
+pub no_pull_later : answers_within two_relations (Goal.later is_a) 0 ≡ 0
+no_pull_later = refl
+
+pub one_pull_later : answers_within two_relations (Goal.later is_a) 1 ≡ 1
+one_pull_later = refl
+
 -- without a pull a call has no answer; within two pulls the first relation has two
-pub no_pull : (r : ℕ) → answers_within two_relations (Goal.call r (q ∷ q ∷ [])) 0 ≡ 0
-no_pull r = refl
+pub no_pull : answers_within two_relations (Goal.call 0 (q ∷ q ∷ [])) 0 ≡ 0
+no_pull = refl
 
 pub two_pulls : answers_within two_relations (Goal.call 0 (q ∷ q ∷ [])) 2 ≡ 2
 two_pulls = refl
@@ -82,6 +93,17 @@ two_pulls = refl
 -- a second goal waits for the pulls of the first one
 pub after_a_call : pulls_for two_relations (Goal.both (Goal.call 0 (q ∷ q ∷ [])) is_a) (Derivation.both (Derivation.enter (Derivation.left Derivation.holds)) Derivation.holds) ≡ 4
 after_a_call = refl
+
+-- what comes later holds where its goal does
+pub later_holds : derives two_relations (Goal.later is_a) (a ∷ []) (Derivation.enter Derivation.holds) ≡ true
+later_holds = refl
+
+-- a string isn't the symbol of the same number
+pub string_fails : derives two_relations is_a (Tree.str 0 ∷ []) Derivation.holds ≡ false
+string_fails = refl
+
+pub string_holds : derives two_relations (Goal.prim (Primitive.text q)) (Tree.str 0 ∷ []) Derivation.holds ≡ true
+string_holds = refl
 
 -- the width of a goal counts fresh variables and the arguments of calls
 pub wide : width (Goal.fresh 2 (Goal.both (Goal.call 0 (q ∷ q ∷ [])) is_a)) ≡ 4
@@ -119,14 +141,14 @@ trees = refl
 pub grown : is_grown tables ≡ true
 grown = refl
 
-pub none_open : nothing_open tables (3 ∷ []) ≡ true
+pub none_open : are_closed tables (3 ∷ []) ≡ true
 none_open = refl
 
 -- a goal of a run that isn't in the table is open, and so is one that uses slot 1
-pub not_there : nothing_open tables (4 ∷ []) ≡ false
+pub not_there : are_closed tables (4 ∷ []) ≡ false
 not_there = refl
 
-pub uses_more : nothing_open tables (0 ∷ []) ≡ false
+pub uses_more : are_closed tables (0 ∷ []) ≡ false
 uses_more = refl
 
 -- a solution of a store with a disequality and an absence

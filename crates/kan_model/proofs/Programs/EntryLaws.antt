@@ -23,6 +23,7 @@ at-end (y ∷ xs) x d = at-end xs x d
 template-same : (ts us : List Template) (n : ℕ) (e : TermEntry) → ((i : ℕ) → i < n → template_at us i ≡ template_at ts i) → is_term_grown n e ≡ true → template_of us e ≡ template_of ts e
 template-same ts us n (TermEntry.slot i) same h = refl
 template-same ts us n (TermEntry.sym s) same h = refl
+template-same ts us n (TermEntry.str s) same h = refl
 template-same ts us n (TermEntry.num m) same h = refl
 template-same ts us n (TermEntry.truth b) same h = refl
 template-same ts us n TermEntry.nil same h = refl
@@ -74,12 +75,14 @@ goal-like tables ts args gs hs n (GoalEntry.same a b) same h = refl
 goal-like tables ts args gs hs n (GoalEntry.differ a b) same h = refl
 goal-like tables ts args gs hs n (GoalEntry.symbol a) same h = refl
 goal-like tables ts args gs hs n (GoalEntry.number a) same h = refl
+goal-like tables ts args gs hs n (GoalEntry.text a) same h = refl
 goal-like tables ts args gs hs n (GoalEntry.absent tag a) same h = refl
 goal-like tables ts args gs hs n (GoalEntry.both a b) same h =
     let (left, right) = and_parts (nat_lt a n) (nat_lt b n) h in ap₂ Goal.both (same a (ltb-true a n left)) (same b (ltb-true b n right))
 goal-like tables ts args gs hs n (GoalEntry.either a b) same h =
     let (left, right) = and_parts (nat_lt a n) (nat_lt b n) h in ap₂ Goal.either (same a (ltb-true a n left)) (same b (ltb-true b n right))
 goal-like tables ts args gs hs n (GoalEntry.fresh k a) same h = ap (Goal.fresh k) (same a (ltb-true a n h))
+goal-like tables ts args gs hs n (GoalEntry.later a) same h = ap Goal.later (same a (ltb-true a n h))
 goal-like tables ts args gs hs n (GoalEntry.call r at k) same h = refl
 
 goal-after : (tables : Tables) (ts : List Template) (args : List ℕ) (gs : List Goal) (es : List GoalEntry) (i : ℕ) (e : GoalEntry) → goals_grown tables (length gs) es ≡ true → slice_get es i ≡ Some e →

@@ -17,7 +17,7 @@ use Rattle.kan_model.specs.Programs.Tables.{TermEntry, template_of}
 use Rattle.kan_model.specs.declared.letters.Letter.{Letter}
 use Rattle.kan_model.specs.declared.letters.Letter.TheVariants.{Nil as NilLetter}
 use Rattle.kan_model.specs.declared.nodes.TermNode.{TermNode}
-use Rattle.kan_model.specs.declared.nodes.TermNode.TheVariants.{Slot, Sym, Num, Truth, Nil, Pair}
+use Rattle.kan_model.specs.declared.nodes.TermNode.TheVariants.{Slot, Sym, Str, Num, Truth, Nil, Pair}
 use Rattle.kan_model.specs.Programs.Nodes.{term_entry}
 use Rattle.kan_model.proofs.LettersLaws.{built_from-spelling}
 
@@ -58,6 +58,7 @@ extended-flat env first k values is flat =
 pub flat-spelling : (t : Tm) → is_flat t ≡ true → spelling t ≡ letter_of t ∷ []
 flat-spelling (Tree.leaf v) h = refl
 flat-spelling (Tree.sym s) h = refl
+flat-spelling (Tree.str s) h = refl
 flat-spelling (Tree.num n) h = refl
 flat-spelling (Tree.truth b) h = refl
 flat-spelling Tree.nil h = refl
@@ -77,6 +78,7 @@ pub entry-spelling : (env : List Tm) (ts : List Template) (e : TermEntry) → li
     spelling (instance env (template_of ts e)) ≡ letter_of (instance env (template_of ts e)) ∷ []
 entry-spelling env ts (TermEntry.slot i) flat h = flat-spelling (slot env i) (slot-flat env i flat)
 entry-spelling env ts (TermEntry.sym s) flat h = refl
+entry-spelling env ts (TermEntry.str s) flat h = refl
 entry-spelling env ts (TermEntry.num n) flat h = refl
 entry-spelling env ts (TermEntry.truth b) flat h = refl
 entry-spelling env ts TermEntry.nil flat h = refl
@@ -121,6 +123,7 @@ built-is t letters r u spelled built some =
 pub node-flat : (node : TermNode) → ((a b : ℕ) → node ≡ Pair a b → ⊥) → is_flat_entry (term_entry node) ≡ true
 node-flat (Slot i) other = refl
 node-flat (Sym s) other = refl
+node-flat (Str s) other = refl
 node-flat (Num n) other = refl
 node-flat (Truth b) other = refl
 node-flat Nil other = refl

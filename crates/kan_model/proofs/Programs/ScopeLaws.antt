@@ -11,7 +11,7 @@ use Rattle.kan_model.specs.Programs.Goals.{Template, Goal, Primitive, Relation}
 use Rattle.kan_model.specs.Programs.Scope.{height, is_low, all_below, sides_below, in_scope, takes, calls_there, body_in_scope, is_closed}
 use Rattle.kan_model.specs.Programs.Measures.{slots, most_slots, sides_slots, goal_slots, noted_height}
 use Rattle.kan_model.specs.Programs.Calls.{call_there, entry_takes}
-use Rattle.kan_model.specs.Programs.Tables.{GoalEntry, RelationEntry, Tables, template_at, goal_at, templates_of, goals_of, goal_of, goals_after, arguments_at, program_of, is_grown, is_goal_grown, goals_grown, nothing_open}
+use Rattle.kan_model.specs.Programs.Tables.{GoalEntry, RelationEntry, Tables, template_at, goal_at, templates_of, goals_of, goal_of, goals_after, arguments_at, program_of, is_grown, is_goal_grown, goals_grown, are_closed}
 use Rattle.kan_model.proofs.Programs.NoteLaws.{found-needs}
 use Rattle.kan_model.proofs.Programs.TableLaws.{grown-parts}
 
@@ -36,6 +36,7 @@ pub below-slots : (n : ℕ) (t : Template) → all_below n t ≡ nat_le (slots t
 below-slots n (Tree.leaf i) =
     same-tests _ _ (λ h. let below = ltb-true i n h in le-leb (i + 1) n (omega (arith, below))) (λ h. let most = leb-true (i + 1) n h in lt-ltb i n (omega (arith, most)))
 below-slots n (Tree.sym s) = sym (leb-none n)
+below-slots n (Tree.str s) = sym (leb-none n)
 below-slots n (Tree.num m) = sym (leb-none n)
 below-slots n (Tree.truth b) = sym (leb-none n)
 below-slots n Tree.nil = sym (leb-none n)
@@ -46,6 +47,7 @@ sides-slots n (Primitive.same a b) = below-slots n (Tree.pair a b)
 sides-slots n (Primitive.differ a b) = below-slots n (Tree.pair a b)
 sides-slots n (Primitive.symbol a) = below-slots n a
 sides-slots n (Primitive.number a) = below-slots n a
+sides-slots n (Primitive.text a) = below-slots n a
 sides-slots n (Primitive.absent tag a) = below-slots n a
 
 all-slots : (n : ℕ) (ts : List Template) → list_all (all_below n) ts ≡ nat_le (most_slots ts) n
@@ -63,6 +65,7 @@ scope-slots n (Goal.fresh k g) =
     scope-slots (n + k) g
     ∙ same-tests _ _ (λ h. let most = leb-true (goal_slots g) (n + k) h in le-leb (goal_slots g - k) n (omega (arith, most)))
     (λ h. let most = leb-true (goal_slots g - k) n h in le-leb (goal_slots g) (n + k) (omega (arith, most)))
+scope-slots n (Goal.later g) = scope-slots n g
 scope-slots n (Goal.call r args) = all-slots n args
 
 -- a noted height says whether a template is low
@@ -110,10 +113,12 @@ calls-entry all rs tables n ts gs (GoalEntry.same a b) grown h = refl
 calls-entry all rs tables n ts gs (GoalEntry.differ a b) grown h = refl
 calls-entry all rs tables n ts gs (GoalEntry.symbol a) grown h = refl
 calls-entry all rs tables n ts gs (GoalEntry.number a) grown h = refl
+calls-entry all rs tables n ts gs (GoalEntry.text a) grown h = refl
 calls-entry all rs tables n ts gs (GoalEntry.absent tag a) grown h = refl
 calls-entry all rs tables n ts gs (GoalEntry.both g i) grown h = both-there _ _ (there-at (relations_with all rs) gs g h) (there-at (relations_with all rs) gs i h)
 calls-entry all rs tables n ts gs (GoalEntry.either g i) grown h = both-there _ _ (there-at (relations_with all rs) gs g h) (there-at (relations_with all rs) gs i h)
 calls-entry all rs tables n ts gs (GoalEntry.fresh k g) grown h = there-at (relations_with all rs) gs g h
+calls-entry all rs tables n ts gs (GoalEntry.later g) grown h = there-at (relations_with all rs) gs g h
 calls-entry all rs tables n ts gs (GoalEntry.call r at k) grown h =
     ap (λ m. takes (slice_get (relations_with all rs) r) m) (arguments-length ts tables.arguments at k (leb-true (at + k) (length tables.arguments) grown)) ∙ taken all rs r k
   where
@@ -180,7 +185,7 @@ queries gs n (q ∷ qs) = ap (λ r. (nat_lt q n && in_scope 1 (goal_at gs q)) &&
 pub tests-say : (tables : Tables) (qs : List ℕ) (low calls bodies_fit : Bool) → is_grown tables ≡ true →
     low ≡ list_all is_low (templates_of tables.terms) → calls ≡ list_all (call_there tables.relations) tables.goals →
     bodies_fit ≡ list_all (λ r. nat_lt r.body (length tables.goals) && in_scope r.params (goal_at (goals_of tables) r.body)) tables.relations →
-    (low && calls && bodies_fit && list_all (λ q. nat_lt q (length tables.goals) && in_scope 1 (goal_at (goals_of tables) q)) qs) ≡ nothing_open tables qs
+    (low && calls && bodies_fit && list_all (λ q. nat_lt q (length tables.goals) && in_scope 1 (goal_at (goals_of tables) q)) qs) ≡ are_closed tables qs
 tests-say tables qs low calls bodies_fit grown is_low_test is_calls_test is_bodies_test =
     ap₂ (λ p q. p && q) (ap₂ (λ p q. p && q) (ap₂ (λ p q. p && q) is_low_test (is_calls_test ∙ all-calls tables grown)) (is_bodies_test ∙ all-bodies tables grown))
     (queries (goals_of tables) (length tables.goals) qs)
@@ -197,7 +202,7 @@ tests-say tables qs low calls bodies_fit grown is_low_test is_calls_test is_bodi
     moved false b c false e = refl
 
 -- with no query, less may be open
-pub open-none : (tables : Tables) (qs : List ℕ) → nothing_open tables qs ≡ true → nothing_open tables [] ≡ true
+pub open-none : (tables : Tables) (qs : List ℕ) → are_closed tables qs ≡ true → are_closed tables [] ≡ true
 open-none tables qs h =
     let (there, rest) = and_parts (list_all (λ g. nat_lt g (length tables.goals)) qs) (is_closed (templates_of tables.terms) (program_of tables) (map (goal_at (goals_of tables)) qs)) h in
     let (three, last) = and_parts (list_all is_low (templates_of tables.terms) && list_all (calls_there (program_of tables).relations) (program_of tables).goals && list_all body_in_scope (program_of tables).relations) (list_all (in_scope 1) (map (goal_at (goals_of tables)) qs)) rest in

@@ -86,10 +86,12 @@ goal-same tables ts us args brgs same n gs (GoalEntry.differ a b) h =
     ap₂ (λ x y. Goal.prim (Primitive.differ x y)) (same.terms a (ltb-true a _ left)) (same.terms b (ltb-true b _ right))
 goal-same tables ts us args brgs same n gs (GoalEntry.symbol a) h = ap (λ x. Goal.prim (Primitive.symbol x)) (same.terms a (ltb-true a _ h))
 goal-same tables ts us args brgs same n gs (GoalEntry.number a) h = ap (λ x. Goal.prim (Primitive.number x)) (same.terms a (ltb-true a _ h))
+goal-same tables ts us args brgs same n gs (GoalEntry.text a) h = ap (λ x. Goal.prim (Primitive.text x)) (same.terms a (ltb-true a _ h))
 goal-same tables ts us args brgs same n gs (GoalEntry.absent tag a) h = ap (λ x. Goal.prim (Primitive.absent tag x)) (same.terms a (ltb-true a _ h))
 goal-same tables ts us args brgs same n gs (GoalEntry.both g i) h = refl
 goal-same tables ts us args brgs same n gs (GoalEntry.either g i) h = refl
 goal-same tables ts us args brgs same n gs (GoalEntry.fresh k g) h = refl
+goal-same tables ts us args brgs same n gs (GoalEntry.later g) h = refl
 goal-same tables ts us args brgs same n gs (GoalEntry.call r at k) h = ap (Goal.call r) (same.lists at k (leb-true (at + k) _ h))
 
 pub goals-same : (tables : Tables) (ts us : List Template) (args brgs : List ℕ) → SaysTheSame tables ts us args brgs →
@@ -166,10 +168,12 @@ goal_grown-more tables more n (GoalEntry.differ a b) ts as' h =
     let (left, right) = and_parts (nat_lt a (length tables.terms)) (nat_lt b (length tables.terms)) h in and_from _ _ (ltb-le a _ _ ts left) (ltb-le b _ _ ts right)
 goal_grown-more tables more n (GoalEntry.symbol a) ts as' h = ltb-le a _ _ ts h
 goal_grown-more tables more n (GoalEntry.number a) ts as' h = ltb-le a _ _ ts h
+goal_grown-more tables more n (GoalEntry.text a) ts as' h = ltb-le a _ _ ts h
 goal_grown-more tables more n (GoalEntry.absent tag a) ts as' h = ltb-le a _ _ ts h
 goal_grown-more tables more n (GoalEntry.both g i) ts as' h = h
 goal_grown-more tables more n (GoalEntry.either g i) ts as' h = h
 goal_grown-more tables more n (GoalEntry.fresh k g) ts as' h = h
+goal_grown-more tables more n (GoalEntry.later g) ts as' h = h
 goal_grown-more tables more n (GoalEntry.call r at k) ts as' h = leb-le (at + k) _ _ as' h
 
 pub goals_grown-more : (tables more : Tables) (n : ℕ) (es : List GoalEntry) → length tables.terms ≤ length more.terms → length tables.arguments ≤ length more.arguments →

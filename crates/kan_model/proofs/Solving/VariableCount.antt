@@ -58,6 +58,7 @@ count_lt (suc n) x es fs h below out there = by (cases_order x n) (count_lt n x 
 pub above_occurs : (v : ℕ) (t : Tm) → occurs v t ≡ true → v < above t
 above_occurs v (Tree.leaf x) h = omega (arith, eqb-true v x h)
 above_occurs v (Tree.sym s) h = absurd (true≢false (sym h))
+above_occurs v (Tree.str s) h = absurd (true≢false (sym h))
 above_occurs v (Tree.num n) h = absurd (true≢false (sym h))
 above_occurs v (Tree.truth b) h = absurd (true≢false (sym h))
 above_occurs v Tree.nil h = absurd (true≢false (sym h))

@@ -21,6 +21,7 @@ Explains V a b Work.clash = (f : ℕ → Tree V) → fill f a ≡ fill f b → �
 pub size-fill_inside : {V : Type 0} (x : ℕ) (f : ℕ → Tree V) (t : Tm) → t ≢ Tree.leaf x → occurs x t ≡ true → size (f x) < size (fill f t)
 size-fill_inside x f (Tree.leaf v) apart inside = absurd (apart (ap Tree.leaf (sym (eqb-true x v inside))))
 size-fill_inside x f (Tree.sym s) apart inside = absurd (true≢false (sym inside))
+size-fill_inside x f (Tree.str s) apart inside = absurd (true≢false (sym inside))
 size-fill_inside x f (Tree.num n) apart inside = absurd (true≢false (sym inside))
 size-fill_inside x f (Tree.truth b) apart inside = absurd (true≢false (sym inside))
 size-fill_inside x f Tree.nil apart inside = absurd (true≢false (sym inside))
@@ -58,6 +59,7 @@ apart_explains V left (Tree.leaf x) t apart = inside_left V x t apart
 apart_explains V left t (Tree.leaf x) apart = inside_right V x t apart
 apart_explains V left (Tree.pair a b) (Tree.pair c d) apart = (refl, refl)
 apart_explains V left (Tree.sym s) (Tree.sym r) apart = λ f e. grind arith
+apart_explains V left (Tree.str s) (Tree.str r) apart = λ f e. grind arith
 apart_explains V left (Tree.num m) (Tree.num n) apart = λ f e. grind arith
 apart_explains V left (Tree.truth a) (Tree.truth b) apart = λ f e. grind arith
 apart_explains V left Tree.nil Tree.nil apart = λ f e. absurd (apart refl)

@@ -2,12 +2,14 @@
 use Rattle.std.specs.Prelude.{ℕ, suc, ◌+◌, Bool, true, false, ◌&&◌, not, nat_lt, eqb, List, [], ◌∷◌, ◌++◌, length, map, filter, Option, Some, None, if◌then◌else◌}
 use Rattle.std.specs.List.{list_all, list_any}
 use Rattle.kan_terms.specs.Tree.{Tree, Tm, fill, leaves, occurs, term_eq}
+use Rattle.kan_terms.specs.Table.{Table}
 use Rattle.kan_model.specs.Programs.Goals.{Primitive}
 use Rattle.kan_model.specs.Stores.Store.{Store}
 use Rattle.kan_model.specs.Stores.Solve.{Replaced, Replacement, apply, solve_by}
-use Rattle.kan_model.specs.Stores.Kept.{is_kept, is_number_variable}
+use Rattle.kan_model.specs.Stores.Kept.{is_kept, has_type}
+use Rattle.kan_model.specs.declared.prims.Kind.TheVariants.{Number, Text}
 use Rattle.kan_model.specs.Answers.Order.{bytes_le, in_order, each_once, place_of, stands_in}
-use Rattle.kan_model.specs.Answers.Text.{Table, symbol_text}
+use Rattle.kan_model.specs.Answers.Text.{symbol_text}
 
 -- a pair of a disequality over names: a name, and the term that would make it false
 pub record NamedPair : Type 0 where
@@ -24,6 +26,7 @@ pub record Answer : Type 0 where
   pub disequalities : List (List NamedPair)
   pub numbers : List ℕ
   pub symbols : List ℕ
+  pub strings : List ℕ
   pub absences : List Absence
 
 -- the variables that have names, in the order of their names: that of their first occurrence in the term
@@ -100,11 +103,6 @@ strongest forms = each_once same_form (filter (λ form. not (is_weaker forms for
 abbrev pub form_in_names : List ℕ → Replacement → List NamedPair
 form_in_names vs = map (λ p. record { name = place_of vs p.var; by = in_names vs p.by })
 
--- the numbers from one on, as many as there are elements
-abbrev pub numbered : {X : Type 0} → ℕ → List X → List ℕ
-numbered n [] = []
-numbered n (x ∷ xs) = n ∷ numbered (suc n) xs
-
 -- the names of the variables that pass a test
 abbrev pub names_where : (ℕ → Bool) → ℕ → List ℕ → List ℕ
 names_where test n [] = []
@@ -123,9 +121,13 @@ tags_of [] = []
 tags_of (Primitive.absent tag a ∷ ps) = tag ∷ tags_of ps
 tags_of (p ∷ ps) = tags_of ps
 
--- a tag with its names, where there are any; numbers have no tag in them anyway
+-- a variable may have a tag in it: it is no number and no string
+abbrev pub may_have_tag : Replacement → List (Primitive Tm) → ℕ → Bool
+may_have_tag s ps v = not (has_type Number s ps v) && not (has_type Text s ps v)
+
+-- a tag with the names in which it must not stand, but for those in which it can't
 abbrev pub absence_of : List ℕ → Replacement → List (Primitive Tm) → ℕ → Absence
-absence_of vs s ps tag = record { tag = tag; names = names_where (λ v. has_absence s ps tag v && not (is_number_variable s ps v)) 0 vs }
+absence_of vs s ps tag = record { tag = tag; names = names_where (λ v. has_absence s ps tag v && may_have_tag s ps v) 0 vs }
 
 abbrev pub has_names : Absence → Bool
 has_names a = nat_lt 0 (length a.names)

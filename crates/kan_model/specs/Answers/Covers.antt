@@ -3,7 +3,7 @@ use Rattle.std.specs.Prelude.{◌≡◌, Bool, true, ◌&&◌, not, List}
 use Rattle.std.specs.List.{list_all}
 use Rattle.kan_terms.specs.Tree.{Gd, has_symbol, ground_eq}
 use Rattle.kan_terms.specs.Valuations.{value_at, value}
-use Rattle.kan_model.specs.Meaning.Holds.{is_symbol, is_number}
+use Rattle.kan_model.specs.Meaning.Holds.{is_symbol, is_number, is_string}
 use Rattle.kan_model.specs.Answers.Answer.{NamedPair, Absence, Answer}
 
 -- a pair's name has the value of its term
@@ -21,7 +21,8 @@ absence_met us a = list_all (λ n. not (has_symbol a.tag (value_at us n))) a.nam
 abbrev pub meets : List Gd → Answer → Bool
 meets us a =
     list_all (difference_met us) a.disequalities && list_all (λ n. is_number (value_at us n)) a.numbers
-    && list_all (λ n. is_symbol (value_at us n)) a.symbols && list_all (absence_met us) a.absences
+    && list_all (λ n. is_symbol (value_at us n)) a.symbols && list_all (λ n. is_string (value_at us n)) a.strings
+    && list_all (absence_met us) a.absences
 
 -- the answer covers a ground term: ground terms for its names make its term that one, and meet its constraints
 abbrev pub Covers : Answer → Gd → Type 0

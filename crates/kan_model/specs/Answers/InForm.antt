@@ -1,5 +1,5 @@
 -- Answers in form: those that are written in just one way.
-use Rattle.std.specs.Prelude.{◌≡◌, ℕ, suc, ◌<◌, Bool, true, false, ◌&&◌, not, eqb, nat_lt, List, [], ◌∷◌, length, map, Some}
+use Rattle.std.specs.Prelude.{◌≡◌, ℕ, suc, ◌<◌, Bool, true, false, ◌&&◌, not, eqb, nat_lt, List, [], ◌∷◌, ◌++◌, length, map, Some}
 use Rattle.std.specs.List.{list_all, list_any}
 use Rattle.kan_terms.specs.Tree.{Tree, Tm, occurs, term_eq}
 use Rattle.kan_model.specs.Stores.Store.{Store, Equation}
@@ -7,7 +7,8 @@ use Rattle.kan_model.specs.Stores.Solve.{Replacement, solve_by}
 use Rattle.kan_model.specs.Stores.Kept.{is_kept}
 use Rattle.kan_model.specs.Answers.Order.{stands_in}
 use Rattle.kan_model.specs.Programs.Scope.{all_below}
-use Rattle.kan_model.specs.Answers.Text.{Table, symbol_text}
+use Rattle.kan_terms.specs.Table.{Table}
+use Rattle.kan_model.specs.Answers.Text.{symbol_text}
 use Rattle.kan_model.specs.Answers.Answer.{NamedPair, Absence, Answer, named_variables, tag_le, tags_of}
 use Rattle.kan_model.specs.Answers.AnswerText.{difference_le, answer_of}
 
@@ -68,9 +69,9 @@ names_in_form n names = list_all (λ v. nat_lt v n) names && ascends nat_lt name
 abbrev pub apart : List ℕ → List ℕ → Bool
 apart xs ys = list_all (λ x. not (stands_in ys x)) xs
 
--- an absence has a name, and none that is a number
+-- an absence has a name, and none of these, which are numbers or strings
 abbrev pub absence_in_form : ℕ → List ℕ → Absence → Bool
-absence_in_form n numbers a = is_filled a.names && names_in_form n a.names && apart a.names numbers
+absence_in_form n others a = is_filled a.names && names_in_form n a.names && apart a.names others
 
 -- a tag's bytes come before those of another one
 abbrev pub tag_before : Table → Absence → Absence → Bool
@@ -81,8 +82,9 @@ abbrev pub in_form : Table → Answer → Bool
 in_form table a =
     counts_up 0 (named_variables a.term)
     && list_all (difference_in_form (name_count a)) a.disequalities && all_different a.disequalities && ascends (difference_le table) a.disequalities
-    && names_in_form (name_count a) a.numbers && names_in_form (name_count a) a.symbols && apart a.numbers a.symbols
-    && list_all (absence_in_form (name_count a) a.numbers) a.absences && ascends (tag_before table) a.absences
+    && names_in_form (name_count a) a.numbers && names_in_form (name_count a) a.symbols && names_in_form (name_count a) a.strings
+    && apart a.numbers a.symbols && apart a.strings a.symbols && apart a.numbers a.strings
+    && list_all (absence_in_form (name_count a) (a.numbers ++ a.strings)) a.absences && ascends (tag_before table) a.absences
 
 -- the pairs of a disequality as equations, and as a replacement
 abbrev pub pair_equations : List NamedPair → List Equation
@@ -97,9 +99,9 @@ FormIsSolved = (n : ℕ) (ps : List NamedPair) → difference_in_form n ps ≡ t
 
 -- no two symbols of a table have one text
 abbrev pub TextsDiffer : Table → Type 0
-TextsDiffer table = (r s : ℕ) → r < length table → s < length table → symbol_text table r ≡ symbol_text table s → r ≡ s
+TextsDiffer table = (r s : ℕ) → r < length table.symbols → s < length table.symbols → symbol_text table r ≡ symbol_text table s → r ≡ s
 
 -- the answer of a kept store whose tags have texts in the table is in form
 abbrev pub AnswerInForm : Type 0
-AnswerInForm = (table : Table) (st : Store) → TextsDiffer table → list_all (λ tag. nat_lt tag (length table)) (tags_of st.prims) ≡ true →
+AnswerInForm = (table : Table) (st : Store) → TextsDiffer table → list_all (λ tag. nat_lt tag (length table.symbols)) (tags_of st.prims) ≡ true →
     is_kept st ≡ true → in_form table (answer_of table st) ≡ true

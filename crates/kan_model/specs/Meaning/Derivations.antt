@@ -23,13 +23,13 @@ pub data Step : Type 0 where
   choose : List Gd → Step
   enter : Step
 
-abbrev pub spelled : Derivation → List Step
-spelled Derivation.holds = Step.holds ∷ []
-spelled (Derivation.both d e) = Step.both ∷ spelled d ++ spelled e
-spelled (Derivation.left d) = Step.left ∷ spelled d
-spelled (Derivation.right d) = Step.right ∷ spelled d
-spelled (Derivation.choose us d) = Step.choose us ∷ spelled d
-spelled (Derivation.enter d) = Step.enter ∷ spelled d
+abbrev pub steps_of : Derivation → List Step
+steps_of Derivation.holds = Step.holds ∷ []
+steps_of (Derivation.both d e) = Step.both ∷ steps_of d ++ steps_of e
+steps_of (Derivation.left d) = Step.left ∷ steps_of d
+steps_of (Derivation.right d) = Step.right ∷ steps_of d
+steps_of (Derivation.choose us d) = Step.choose us ∷ steps_of d
+steps_of (Derivation.enter d) = Step.enter ∷ steps_of d
 
 -- the values of templates at slot values
 abbrev pub values : List Gd → List Template → List Gd
@@ -44,6 +44,7 @@ derives program (Goal.both g h) us (Derivation.both d e) = derives program g us 
 derives program (Goal.either g h) us (Derivation.left d) = derives program g us d
 derives program (Goal.either g h) us (Derivation.right d) = derives program h us d
 derives program (Goal.fresh k g) us (Derivation.choose vs d) = eqb (length vs) k && derives program g (us ++ vs) d
+derives program (Goal.later g) us (Derivation.enter d) = derives program g us d
 derives program (Goal.call r args) us (Derivation.enter d) = elim (slice_get program.relations r) [
   | Some rel ↦ derives program rel.body (values us args) d
   | None ↦ false
@@ -52,7 +53,7 @@ derives _ _ _ _ = false
 
 -- the steps spell a derivation of the goal at these slot values
 abbrev pub AreSteps : Program → Goal → List Gd → List Step → Type 0
-AreSteps program g us steps = (d : Derivation) × (steps ≡ spelled d) × (derives program g us d ≡ true)
+AreSteps program g us steps = (d : Derivation) × (steps ≡ steps_of d) × (derives program g us d ≡ true)
 
 -- the same as a family: a constructor for each way in which a goal holds
 pub data Derives (program : Program) : Goal → List Gd → Derivation → Type 0 where
@@ -64,6 +65,7 @@ pub data Derives (program : Program) : Goal → List Gd → Derivation → Type 
   right : {g h : Goal} {us : List Gd} {d : Derivation} → Derives program h us d → Derives program (Goal.either g h) us (Derivation.right d)
   choose : {g : Goal} {us vs : List Gd} {d : Derivation} → Derives program g (us ++ vs) d →
       Derives program (Goal.fresh (length vs) g) us (Derivation.choose vs d)
+  later : {g : Goal} {us : List Gd} {d : Derivation} → Derives program g us d → Derives program (Goal.later g) us (Derivation.enter d)
   enter : {r : ℕ} {args : List Template} {us : List Gd} {rel : Relation} {d : Derivation} →
       slice_get program.relations r ≡ Some rel → Derives program rel.body (values us args) d →
       Derives program (Goal.call r args) us (Derivation.enter d)
@@ -82,4 +84,4 @@ TestIsFamily = (program : Program) (g : Goal) (us : List Gd) (d : Derivation) �
 
 -- steps spell one derivation at most
 abbrev pub SpelledOnce : Type 0
-SpelledOnce = (d e : Derivation) → spelled d ≡ spelled e → d ≡ e
+SpelledOnce = (d e : Derivation) → steps_of d ≡ steps_of e → d ≡ e

@@ -14,12 +14,17 @@ abbrev pub is_number : Gd → Bool
 is_number (Tree.num n) = true
 is_number _ = false
 
--- equality, its opposite, the types of symbols and numbers, and a tag that stands nowhere in a term
+abbrev pub is_string : Gd → Bool
+is_string (Tree.str s) = true
+is_string _ = false
+
+-- equality, its opposite, the types of symbols, numbers and strings, and a tag that stands nowhere in a term
 abbrev pub holds : Primitive Gd → Bool
 holds (Primitive.same a b) = ground_eq a b
 holds (Primitive.differ a b) = not (ground_eq a b)
 holds (Primitive.symbol a) = is_symbol a
 holds (Primitive.number a) = is_number a
+holds (Primitive.text a) = is_string a
 holds (Primitive.absent tag a) = not (has_symbol tag a)
 
 -- the primitive holds of its values under a valuation

@@ -3,9 +3,10 @@ use Rattle.std.specs.Prelude.{◌≡◌, ℕ, List, true, false, Result, Ok, Err
 use Rattle.kan_model.specs.Programs.Goals as model
 use Rattle.kan_model.specs.Programs.Goals.{Template, Goal}
 use Rattle.kan_model.specs.Programs.Tables as facts
-use Rattle.kan_model.specs.Programs.Tables.{Tables, program_of, nothing_open}
+use Rattle.kan_model.specs.Programs.Tables.{Tables, program_of, are_closed}
 use Rattle.kan_model.specs.Programs.Drafts as drafts
 use Rattle.kan_model.specs.declared.draft.Draft.{Draft}
+use Rattle.kan_model.specs.declared.nodes.Query.{Query}
 use Rattle.kan_model.specs.declared.program.Program.{Program}
 use Rattle.kan_model.specs.declared.program.CloseRefused.{CloseRefused}
 use Rattle.kan_model.specs.declared.program.CloseRefused.TheVariants.{Open, Memory}
@@ -34,12 +35,16 @@ goal p i = facts.goal_at (goals p) i
 abbrev pub entry_goal : Program → facts.GoalEntry → Goal
 entry_goal p e = facts.goal_of (templates p) (tables p).arguments (goals p) e
 
--- a refused draft is the one that was given, and is open where that is said
-abbrev pub HandsBack : Draft → List ℕ → CloseRefused → Type 0
-HandsBack d queries (Open back) = (back ≡ d) × (nothing_open (drafts.tables d) queries ≡ false)
-HandsBack d queries (Memory back) = back ≡ d
+-- the run that a query asks for of a program
+abbrev pub query_of : Program → Query → model.Query
+query_of p q = record { goal = goal p q.goal; limit = q.limit }
 
--- what closing a draft for the goals of queries gives: its tables, where nothing is open
+-- a refused draft is the one that was given, and isn't complete; memory is never wanted
+abbrev pub HandsBack : Draft → List ℕ → CloseRefused → Type 0
+HandsBack d queries (Open back) = (back ≡ d) × (are_closed (drafts.tables d) queries ≡ false)
+HandsBack d queries (Memory back) = ⊥
+
+-- what closing a draft for the goals of queries gives: its tables, where they are complete
 abbrev pub Closes : Draft → List ℕ → Result Program CloseRefused → Type 0
-Closes d queries (Ok p) = (tables p ≡ drafts.tables d) × (nothing_open (drafts.tables d) queries ≡ true)
+Closes d queries (Ok p) = (tables p ≡ drafts.tables d) × (are_closed (drafts.tables d) queries ≡ true)
 Closes d queries (Err refused) = HandsBack d queries refused

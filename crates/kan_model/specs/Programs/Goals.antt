@@ -6,12 +6,13 @@ use Rattle.kan_terms.specs.Tree.{Tree}
 abbrev pub Template : Type 0
 Template = Tree ℕ
 
--- the five primitives, over sides of the type X
+-- the six primitives, over sides of the type X
 pub data Primitive (X : Type 0) : Type 0 where
   same : X → X → Primitive X
   differ : X → X → Primitive X
   symbol : X → Primitive X
   number : X → Primitive X
+  text : X → Primitive X
   absent : ℕ → X → Primitive X
 
 -- a primitive with a function applied to its sides
@@ -20,9 +21,11 @@ on_sides f (Primitive.same a b) = Primitive.same (f a) (f b)
 on_sides f (Primitive.differ a b) = Primitive.differ (f a) (f b)
 on_sides f (Primitive.symbol a) = Primitive.symbol (f a)
 on_sides f (Primitive.number a) = Primitive.number (f a)
+on_sides f (Primitive.text a) = Primitive.text (f a)
 on_sides f (Primitive.absent tag a) = Primitive.absent tag (f a)
 
--- a goal: the slots of its templates are the arguments, and behind them those that each enclosing fresh adds
+-- a goal: the slots of its templates are the arguments, and behind them those that each enclosing fresh adds;
+-- later suspends the goal in it
 pub data Goal : Type 0 where
   prim : Primitive Template → Goal
   succeed : Goal
@@ -30,6 +33,7 @@ pub data Goal : Type 0 where
   both : Goal → Goal → Goal
   either : Goal → Goal → Goal
   fresh : ℕ → Goal → Goal
+  later : Goal → Goal
   call : ℕ → List Template → Goal
 
 -- a relation takes a number of arguments and has a goal for its body

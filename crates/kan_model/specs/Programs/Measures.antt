@@ -8,6 +8,7 @@ use Rattle.kan_model.specs.Programs.Scope.{height, width}
 abbrev pub slots : Template → ℕ
 slots (Tree.leaf i) = i + 1
 slots (Tree.sym s) = 0
+slots (Tree.str s) = 0
 slots (Tree.num n) = 0
 slots (Tree.truth b) = 0
 slots Tree.nil = 0
@@ -24,6 +25,7 @@ sides_slots (Primitive.same a b) = max (slots a) (slots b)
 sides_slots (Primitive.differ a b) = max (slots a) (slots b)
 sides_slots (Primitive.symbol a) = slots a
 sides_slots (Primitive.number a) = slots a
+sides_slots (Primitive.text a) = slots a
 sides_slots (Primitive.absent tag a) = slots a
 
 -- how many slots a goal finds outside it: each fresh brings some itself
@@ -34,6 +36,7 @@ goal_slots Goal.fail = 0
 goal_slots (Goal.both g h) = max (goal_slots g) (goal_slots h)
 goal_slots (Goal.either g h) = max (goal_slots g) (goal_slots h)
 goal_slots (Goal.fresh k g) = goal_slots g - k
+goal_slots (Goal.later g) = goal_slots g
 goal_slots (Goal.call r args) = most_slots args
 
 -- heights are noted as far as the first one that is too high, widths as far as the greatest number of 32 bits

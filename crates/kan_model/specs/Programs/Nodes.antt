@@ -2,9 +2,9 @@
 use Rattle.std.specs.Prelude.{ℕ, List, map}
 use Rattle.kan_model.specs.Programs.Tables.{TermEntry, GoalEntry, RelationEntry, Tables}
 use Rattle.kan_model.specs.declared.nodes.TermNode.{TermNode}
-use Rattle.kan_model.specs.declared.nodes.TermNode.TheVariants.{Slot, Sym, Num, Truth, Nil, Pair}
+use Rattle.kan_model.specs.declared.nodes.TermNode.TheVariants.{Slot, Sym, Str, Num, Truth, Nil, Pair}
 use Rattle.kan_model.specs.declared.nodes.GoalNode.{GoalNode}
-use Rattle.kan_model.specs.declared.nodes.GoalNode.TheVariants.{Succeed, Fail, Same, Differ, Symbol, Number, Absent, Both, Either, Fresh, Call}
+use Rattle.kan_model.specs.declared.nodes.GoalNode.TheVariants.{Succeed, Fail, Same, Differ, Symbol, Number, Text, Absent, Both, Either, Fresh, Later, Call}
 use Rattle.kan_model.specs.declared.nodes.Relation.{Relation}
 use Rattle.kan_model.specs.declared.nodes.Query.{Query}
 use Rattle.kan_model.specs.declared.nodes.TermRow.{TermRow}
@@ -13,6 +13,7 @@ use Rattle.kan_model.specs.declared.nodes.GoalRow.{GoalRow}
 abbrev pub term_entry : TermNode → TermEntry
 term_entry (Slot i) = TermEntry.slot i
 term_entry (Sym s) = TermEntry.sym s
+term_entry (Str s) = TermEntry.str s
 term_entry (Num n) = TermEntry.num n
 term_entry (Truth b) = TermEntry.truth b
 term_entry Nil = TermEntry.nil
@@ -25,10 +26,12 @@ goal_entry (Same a b) = GoalEntry.same a b
 goal_entry (Differ a b) = GoalEntry.differ a b
 goal_entry (Symbol a) = GoalEntry.symbol a
 goal_entry (Number a) = GoalEntry.number a
+goal_entry (Text a) = GoalEntry.text a
 goal_entry (Absent tag a) = GoalEntry.absent tag a
 goal_entry (Both g h) = GoalEntry.both g h
 goal_entry (Either g h) = GoalEntry.either g h
 goal_entry (Fresh k g) = GoalEntry.fresh k g
+goal_entry (Later g) = GoalEntry.later g
 goal_entry (Call r at k) = GoalEntry.call r at k
 
 abbrev pub relation_entry : Relation → RelationEntry

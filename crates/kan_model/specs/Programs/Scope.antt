@@ -13,6 +13,7 @@ width Goal.fail = 0
 width (Goal.both g h) = width g + width h
 width (Goal.either g h) = width g + width h
 width (Goal.fresh k g) = k + width g
+width (Goal.later g) = width g
 width (Goal.call r args) = length args
 
 abbrev pub is_narrow : Goal → Bool
@@ -26,6 +27,7 @@ is_small program = list_all is_narrow program.goals
 abbrev pub all_below : ℕ → Tree ℕ → Bool
 all_below n (Tree.leaf v) = nat_lt v n
 all_below n (Tree.sym s) = true
+all_below n (Tree.str s) = true
 all_below n (Tree.num m) = true
 all_below n (Tree.truth b) = true
 all_below n Tree.nil = true
@@ -37,6 +39,7 @@ sides_below n (Primitive.same a b) = all_below n a && all_below n b
 sides_below n (Primitive.differ a b) = all_below n a && all_below n b
 sides_below n (Primitive.symbol a) = all_below n a
 sides_below n (Primitive.number a) = all_below n a
+sides_below n (Primitive.text a) = all_below n a
 sides_below n (Primitive.absent tag a) = all_below n a
 
 -- a store's counter lies above all its variables
@@ -51,6 +54,7 @@ in_scope n Goal.fail = true
 in_scope n (Goal.both g h) = in_scope n g && in_scope n h
 in_scope n (Goal.either g h) = in_scope n g && in_scope n h
 in_scope n (Goal.fresh k g) = in_scope (n + k) g
+in_scope n (Goal.later g) = in_scope n g
 in_scope n (Goal.call r args) = list_all (all_below n) args
 
 -- a relation is there, and takes so many arguments
@@ -66,12 +70,14 @@ calls_there rs Goal.fail = true
 calls_there rs (Goal.both g h) = calls_there rs g && calls_there rs h
 calls_there rs (Goal.either g h) = calls_there rs g && calls_there rs h
 calls_there rs (Goal.fresh k g) = calls_there rs g
+calls_there rs (Goal.later g) = calls_there rs g
 calls_there rs (Goal.call r args) = takes (slice_get rs r) (length args)
 
 -- how many pairs high a tree is
 abbrev pub height : {V : Type 0} → Tree V → ℕ
 height (Tree.leaf v) = 0
 height (Tree.sym s) = 0
+height (Tree.str s) = 0
 height (Tree.num n) = 0
 height (Tree.truth b) = 0
 height Tree.nil = 0
@@ -84,7 +90,7 @@ is_low t = nat_le (height t) 2048
 abbrev pub body_in_scope : Relation → Bool
 body_in_scope r = in_scope r.params r.body
 
--- nothing is open in a program with these templates and goals of runs, which have slot 0
+-- a program with these templates and goals of runs, which have slot 0, is complete: templates are low, calls are answered, and slots are in scope
 abbrev pub is_closed : List Template → Program → List Goal → Bool
 is_closed templates program goals =
     list_all is_low templates && list_all (calls_there program.relations) program.goals && list_all body_in_scope program.relations && list_all (in_scope 1) goals

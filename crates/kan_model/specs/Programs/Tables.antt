@@ -9,6 +9,7 @@ use Rattle.kan_model.specs.Programs.Scope.{is_closed}
 pub data TermEntry : Type 0 where
   slot : ℕ → TermEntry
   sym : ℕ → TermEntry
+  str : ℕ → TermEntry
   num : ℤ → TermEntry
   truth : Bool → TermEntry
   nil : TermEntry
@@ -22,10 +23,12 @@ pub data GoalEntry : Type 0 where
   differ : ℕ → ℕ → GoalEntry
   symbol : ℕ → GoalEntry
   number : ℕ → GoalEntry
+  text : ℕ → GoalEntry
   absent : ℕ → ℕ → GoalEntry
   both : ℕ → ℕ → GoalEntry
   either : ℕ → ℕ → GoalEntry
   fresh : ℕ → ℕ → GoalEntry
+  later : ℕ → GoalEntry
   call : ℕ → ℕ → ℕ → GoalEntry
 
 -- an entry of the table of relations, with the symbol that is its name
@@ -65,6 +68,7 @@ goal_at gs i = unwrap_or (slice_get gs i) Goal.fail
 abbrev pub template_of : List Template → TermEntry → Template
 template_of ts (TermEntry.slot i) = Tree.leaf i
 template_of ts (TermEntry.sym s) = Tree.sym s
+template_of ts (TermEntry.str s) = Tree.str s
 template_of ts (TermEntry.num n) = Tree.num n
 template_of ts (TermEntry.truth b) = Tree.truth b
 template_of ts TermEntry.nil = Tree.nil
@@ -90,10 +94,12 @@ goal_of ts args gs (GoalEntry.same a b) = Goal.prim (Primitive.same (template_at
 goal_of ts args gs (GoalEntry.differ a b) = Goal.prim (Primitive.differ (template_at ts a) (template_at ts b))
 goal_of ts args gs (GoalEntry.symbol a) = Goal.prim (Primitive.symbol (template_at ts a))
 goal_of ts args gs (GoalEntry.number a) = Goal.prim (Primitive.number (template_at ts a))
+goal_of ts args gs (GoalEntry.text a) = Goal.prim (Primitive.text (template_at ts a))
 goal_of ts args gs (GoalEntry.absent tag a) = Goal.prim (Primitive.absent tag (template_at ts a))
 goal_of ts args gs (GoalEntry.both g h) = Goal.both (goal_at gs g) (goal_at gs h)
 goal_of ts args gs (GoalEntry.either g h) = Goal.either (goal_at gs g) (goal_at gs h)
 goal_of ts args gs (GoalEntry.fresh k g) = Goal.fresh k (goal_at gs g)
+goal_of ts args gs (GoalEntry.later g) = Goal.later (goal_at gs g)
 goal_of ts args gs (GoalEntry.call r at k) = Goal.call r (arguments_at ts args at k)
 
 -- the goals of a table, grown from those before it
@@ -128,10 +134,12 @@ is_goal_grown tables n (GoalEntry.same a b) = nat_lt a (length tables.terms) && 
 is_goal_grown tables n (GoalEntry.differ a b) = nat_lt a (length tables.terms) && nat_lt b (length tables.terms)
 is_goal_grown tables n (GoalEntry.symbol a) = nat_lt a (length tables.terms)
 is_goal_grown tables n (GoalEntry.number a) = nat_lt a (length tables.terms)
+is_goal_grown tables n (GoalEntry.text a) = nat_lt a (length tables.terms)
 is_goal_grown tables n (GoalEntry.absent tag a) = nat_lt a (length tables.terms)
 is_goal_grown tables n (GoalEntry.both g h) = nat_lt g n && nat_lt h n
 is_goal_grown tables n (GoalEntry.either g h) = nat_lt g n && nat_lt h n
 is_goal_grown tables n (GoalEntry.fresh k g) = nat_lt g n
+is_goal_grown tables n (GoalEntry.later g) = nat_lt g n
 is_goal_grown tables n (GoalEntry.call r at k) = nat_le (at + k) (length tables.arguments)
 
 abbrev pub goals_grown : Tables → ℕ → List GoalEntry → Bool
@@ -144,8 +152,8 @@ is_grown tables =
     terms_grown 0 tables.terms && list_all (λ t. nat_lt t (length tables.terms)) tables.arguments && goals_grown tables 0 tables.goals
     && list_all (λ r. nat_lt r.body (length tables.goals)) tables.relations
 
--- nothing is open in a program with these goals of runs, by number: they are in the table, and their trees and the tables' are closed
-abbrev pub nothing_open : Tables → List ℕ → Bool
-nothing_open tables goals =
+-- tables are complete for these goals of runs, by number: they are in the table, and their trees and the tables' are closed
+abbrev pub are_closed : Tables → List ℕ → Bool
+are_closed tables goals =
     list_all (λ g. nat_lt g (length tables.goals)) goals
     && is_closed (templates_of tables.terms) (program_of tables) (map (goal_at (goals_of tables)) goals)

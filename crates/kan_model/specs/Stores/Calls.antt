@@ -1,15 +1,15 @@
 -- What the calls of a store answer.
-use Rattle.std.specs.Prelude.{◌≡◌, ℕ, Bool, true, false, List, [], ◌∷◌, Option, Some, None, ◌↔◌, Contains, All, Any, unwrap_or, is_some, if◌then◌else◌}
+use Rattle.std.specs.Prelude.{◌≡◌, ℕ, Bool, true, false, List, [], ◌∷◌, Option, Some, None, ◌↔◌, Contains, unwrap_or, is_some, if◌then◌else◌}
 use Rattle.std.specs.List.{list_all}
 use Rattle.kan_terms.specs.Tree.{Tree, Tm, Gd, ground_eq}
 use Rattle.kan_terms.specs.Valuations.{value}
 use Rattle.kan_model.specs.Programs.Goals.{Primitive}
 use Rattle.kan_model.specs.Stores.Store.{Store, Equation, equations}
-use Rattle.kan_model.specs.Stores.Solve.{Replacement, image, apply, solve, solved}
-use Rattle.kan_model.specs.Stores.Kept.{is_kept, is_symbol_variable, is_number_variable}
+use Rattle.kan_model.specs.Stores.Solve.{Replacement, image, apply, solve, solve_store}
+use Rattle.kan_model.specs.Stores.Kept.{is_kept, has_type}
 use Rattle.kan_model.specs.Answers.Answer.{has_absence, same_form}
 use Rattle.kan_model.specs.declared.prims.Kind.{Kind}
-use Rattle.kan_model.specs.declared.prims.Kind.TheVariants.{Symbol, Number}
+use Rattle.kan_model.specs.declared.prims.Kind.TheVariants.{Symbol, Number, Text}
 
 -- the store where it is kept, and none exactly where it isn't
 abbrev pub Gives : Store → Option Store → Type 0
@@ -18,7 +18,7 @@ Gives st (Some new) = (is_kept st ≡ true) × (new ≡ st)
 
 -- the answer of a kept store's equations
 abbrev pub answer : Store → Replacement
-answer st = unwrap_or (solved st) []
+answer st = unwrap_or (solve_store st) []
 
 -- the primitive is an equation
 abbrev pub is_equation : Primitive Tm → Bool
@@ -42,7 +42,10 @@ IsFree st v = image (answer st) v ≡ Tree.leaf v
 
 -- the type that a variable has, where it has one
 abbrev pub kind_at : Store → ℕ → Option Kind
-kind_at st v = if is_symbol_variable (answer st) st.prims v then Some Symbol else (if is_number_variable (answer st) st.prims v then Some Number else None)
+kind_at st v =
+    if has_type Symbol (answer st) st.prims v then Some Symbol
+    else (if has_type Number (answer st) st.prims v then Some Number
+    else (if has_type Text (answer st) st.prims v then Some Text else None))
 
 -- the tags whose absence a variable has
 abbrev pub AreTags : Store → ℕ → List ℕ → Type 0
@@ -66,10 +69,13 @@ can_unify s e = is_some (solve (record { left = apply s e.left; right = apply s 
 abbrev pub SaysTheSame : Store → Equation → List Equation → Type 0
 SaysTheSame st e pairs = (us : List Gd) → all_equal us (equations st.prims) ≡ true → all_equal us pairs ≡ ground_eq (value us e.left) (value us e.right)
 
--- each disequality that may still become false has its list of pairs, and each list its disequality
-pub record AreDifferences (st : Store) (lists : List (List Equation)) : Type 0 where
-  pub all : All (λ e. can_unify (answer st) e ≡ true → Any (SaysTheSame st e) lists) (differences st.prims)
-  pub each : All (λ pairs. Any (λ e. SaysTheSame st e pairs) (differences st.prims)) lists
+-- lists of pairs for disequalities, in their order; one whose sides can't become equal may be left out
+pub data AreDifferences (st : Store) : List Equation → List (List Equation) → Type 0 where
+  no_more : AreDifferences st [] []
+  listed : {e : Equation} {es : List Equation} {pairs : List Equation} {lists : List (List Equation)} →
+      SaysTheSame st e pairs → AreDifferences st es lists → AreDifferences st (e ∷ es) (pairs ∷ lists)
+  left_out : {e : Equation} {es : List Equation} {lists : List (List Equation)} →
+      can_unify (answer st) e ≡ false → AreDifferences st es lists → AreDifferences st (e ∷ es) lists
 
 -- the replacement is the answer
 abbrev pub is_answer : Replacement → Option Replacement → Bool

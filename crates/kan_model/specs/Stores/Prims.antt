@@ -5,13 +5,14 @@ use Rattle.kan_terms.specs.declared.terms.TermPair.{TermPair}
 use Rattle.kan_model.specs.Programs.Goals.{Primitive}
 use Rattle.kan_model.specs.Stores.Store.{Equation}
 use Rattle.kan_model.specs.declared.prims.Asserted.{Asserted}
-use Rattle.kan_model.specs.declared.prims.Asserted.TheVariants.{Same, Differ, Symbol, Number, Absent}
+use Rattle.kan_model.specs.declared.prims.Asserted.TheVariants.{Same, Differ, Symbol, Number, Text, Absent}
 
 abbrev pub prim : Asserted → Primitive Tm
 prim (Same a b) = Primitive.same (tree a) (tree b)
 prim (Differ a b) = Primitive.differ (tree a) (tree b)
 prim (Symbol a) = Primitive.symbol (tree a)
 prim (Number a) = Primitive.number (tree a)
+prim (Text a) = Primitive.text (tree a)
 prim (Absent tag a) = Primitive.absent tag (tree a)
 
 -- a pair of terms is the equation of its two parts

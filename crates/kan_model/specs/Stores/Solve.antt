@@ -74,6 +74,7 @@ sizes (e ∷ es) = size e.left + size e.right + sizes es
 abbrev pub above : Tm → ℕ
 above (Tree.leaf v) = suc v
 above (Tree.sym s) = 0
+above (Tree.str s) = 0
 above (Tree.num n) = 0
 above (Tree.truth b) = 0
 above Tree.nil = 0
@@ -111,5 +112,5 @@ abbrev pub solve : List Equation → Option Replacement
 solve = solve_by left_first
 
 -- the answer of a store's equations
-abbrev pub solved : Store → Option Replacement
-solved st = solve (equations st.prims)
+abbrev pub solve_store : Store → Option Replacement
+solve_store st = solve (equations st.prims)

@@ -30,4 +30,5 @@ equations (Primitive.same a b ∷ ps) = record { left = a; right = b } ∷ equat
 equations (Primitive.differ a b ∷ ps) = equations ps
 equations (Primitive.symbol a ∷ ps) = equations ps
 equations (Primitive.number a ∷ ps) = equations ps
+equations (Primitive.text a ∷ ps) = equations ps
 equations (Primitive.absent tag a ∷ ps) = equations ps

@@ -19,6 +19,7 @@ abbrev mutual
   -- a number that the counters of a thunk's force don't pass
   pub top : Thunk → ℕ
   top (Thunk.call r args st) = st.counter + 2 ^ 21
+  top (Thunk.pause g env st) = st.counter + 2 ^ 21
   top (Thunk.swap t i) = stream_top t (top i)
   top (Thunk.bind g env i) = top i + width g
 
@@ -31,6 +32,7 @@ abbrev mutual
   -- a number below which no counter of a thunk's force lies
   pub floor : Thunk → ℕ
   floor (Thunk.call r args st) = st.counter
+  floor (Thunk.pause g env st) = st.counter
   floor (Thunk.swap t i) = stream_floor t (floor i)
   floor (Thunk.bind g env i) = floor i
 
@@ -44,6 +46,8 @@ abbrev mutual
   pub Fits : Program → Thunk → Type 0
   Fits program (Thunk.call r args st) =
       (takes (slice_get program.relations r) (length args) ≡ true) × (list_all (all_below st.counter) args ≡ true)
+  Fits program (Thunk.pause g env st) =
+      Contains program.goals g × (in_scope (length env) g ≡ true) × (list_all (all_below st.counter) env ≡ true)
   Fits program (Thunk.swap t i) = StreamFits program t × Fits program i
   Fits program (Thunk.bind g env i) =
       Contains program.goals g × (in_scope (length env) g ≡ true) × (list_all (all_below (floor i)) env ≡ true) × Fits program i

@@ -38,10 +38,10 @@ abbrev pub named_store : Store → Tm → Store
 named_store st t = with_prim (with_fresh st 1) (Primitive.same (Tree.leaf st.counter) t)
 
 -- each argument that is a pair is named by a fresh variable, from left to right
-abbrev pub named : Store → List Tm → Arguments
-named st [] = record { values = []; store = st }
-named st (Tree.pair a b ∷ ts) = and_value (Tree.leaf st.counter) (named (named_store st (Tree.pair a b)) ts)
-named st (t ∷ ts) = and_value t (named st ts)
+abbrev pub name_pairs : Store → List Tm → Arguments
+name_pairs st [] = record { values = []; store = st }
+name_pairs st (Tree.pair a b ∷ ts) = and_value (Tree.leaf st.counter) (name_pairs (named_store st (Tree.pair a b)) ts)
+name_pairs st (t ∷ ts) = and_value t (name_pairs st ts)
 
 abbrev pub instances : List Tm → List Template → List Tm
 instances env [] = []
@@ -59,16 +59,18 @@ run Goal.fail env st = empty
 run (Goal.both g h) env st = bind_all (run h env) h env (run g env st)
 run (Goal.either g h) env st = append (run g env st) (run h env st)
 run (Goal.fresh k g) env st = run g (env ++ variables st.counter k) (with_fresh st k)
-run (Goal.call r args) env st = suspended_call r (named st (instances env args))
+run (Goal.later g) env st = Stream.goes_on [] (Thunk.pause g env st)
+run (Goal.call r args) env st = suspended_call r (name_pairs st (instances env args))
 
 -- the body of a relation, run with its parameters standing for the arguments
 abbrev pub enter : Option Relation → List Tm → Store → Stream
 enter None args st = empty
 enter (Some r) args st = run r.body args st
 
--- the stream that a thunk stands for: one call is expanded
+-- the stream that a thunk stands for: one call or pause is expanded
 abbrev pub force : Program → Thunk → Stream
 force program (Thunk.call r args st) = enter (slice_get program.relations r) args st
+force program (Thunk.pause g env st) = run g env st
 force program (Thunk.swap t i) = append t (force program i)
 force program (Thunk.bind g env i) = bind_all (run g env) g env (force program i)
 

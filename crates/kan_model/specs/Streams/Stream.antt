@@ -10,9 +10,10 @@ mutual
     ends : List Store → Stream
     goes_on : List Store → Thunk → Stream
 
-  -- a thunk is a call of a relation at a store, a stream that waits behind a thunk, or a goal that waits for a thunk's stores
+  -- a thunk is a call of a relation at a store, a goal that pauses at a store, a stream that waits behind a thunk, or a goal that waits for a thunk's stores
   pub data Thunk : Type 0 where
     call : ℕ → List Tm → Store → Thunk
+    pause : Goal → List Tm → Store → Thunk
     swap : Stream → Thunk → Thunk
     bind : Goal → List Tm → Thunk → Thunk
 

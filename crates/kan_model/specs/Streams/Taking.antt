@@ -46,5 +46,9 @@ take program (suc f) (Stream.ends hs) l = give (λ rest. nothing_more Ending.end
 take program (suc f) (Stream.goes_on hs i) l = give (λ rest. with_pull (take program f (force program i) rest)) hs l
 
 -- what a run gives at a fuel
-abbrev pub taken : Program → ℕ → Query → Taken
-taken program f q = take program f (start q.goal) q.limit
+abbrev pub take_query : Program → ℕ → Query → Taken
+take_query program f q = take program f (start q.goal) q.limit
+
+-- the stores that a stream gives within some pulls
+abbrev pub stores_within : Program → ℕ → Stream → List Store
+stores_within program pulls s = (take program pulls s None).stores

@@ -7,12 +7,13 @@ use Rattle.kan_terms.specs.Terms.{tree}
 use Rattle.kan_terms.specs.declared.terms.Term.{Term}
 use Rattle.kan_model.specs.Stores.Solve.{Replacement, image}
 use Rattle.kan_model.specs.declared.letters.Letter.{Letter}
-use Rattle.kan_model.specs.declared.letters.Letter.TheVariants.{Pair, Var, Sym, Num, Truth, Nil}
+use Rattle.kan_model.specs.declared.letters.Letter.TheVariants.{Pair, Var, Sym, Str, Num, Truth, Nil}
 
 -- the first letter of a term
 abbrev pub letter_of : Tm → Letter
 letter_of (Tree.leaf v) = Var v
 letter_of (Tree.sym s) = Sym s
+letter_of (Tree.str s) = Str s
 letter_of (Tree.num n) = Num n
 letter_of (Tree.truth b) = Truth b
 letter_of Tree.nil = Nil
@@ -22,6 +23,7 @@ letter_of (Tree.pair a b) = Pair
 abbrev pub spelling : Tm → List Letter
 spelling (Tree.leaf v) = Var v ∷ []
 spelling (Tree.sym s) = Sym s ∷ []
+spelling (Tree.str s) = Str s ∷ []
 spelling (Tree.num n) = Num n ∷ []
 spelling (Tree.truth b) = Truth b ∷ []
 spelling Tree.nil = Nil ∷ []
@@ -33,19 +35,20 @@ waiting_spelling [] = []
 waiting_spelling (t ∷ ts) = waiting_spelling ts ++ spelling (tree t.now)
 
 -- a pair of the first two terms of a list
-abbrev pub joined : List Tm → Option (List Tm)
-joined [] = None
-joined (a ∷ []) = None
-joined (a ∷ b ∷ rest) = Some (Tree.pair a b ∷ rest)
+abbrev pub join_two : List Tm → Option (List Tm)
+join_two [] = None
+join_two (a ∷ []) = None
+join_two (a ∷ b ∷ rest) = Some (Tree.pair a b ∷ rest)
 
 -- a letter in front of terms: a pair takes the first two of them
 abbrev pub put_letter : Letter → List Tm → Option (List Tm)
 put_letter (Var v) ts = Some (Tree.leaf v ∷ ts)
 put_letter (Sym s) ts = Some (Tree.sym s ∷ ts)
+put_letter (Str s) ts = Some (Tree.str s ∷ ts)
 put_letter (Num n) ts = Some (Tree.num n ∷ ts)
 put_letter (Truth b) ts = Some (Tree.truth b ∷ ts)
 put_letter Nil ts = Some (Tree.nil ∷ ts)
-put_letter Pair ts = joined ts
+put_letter Pair ts = join_two ts
 
 abbrev pub put_letter_on : Letter → Option (List Tm) → Option (List Tm)
 put_letter_on x None = None
@@ -86,12 +89,13 @@ abbrev pub letter_eq : Letter → Letter → Bool
 letter_eq Pair Pair = true
 letter_eq (Var v) other = is_letter_of v other
 letter_eq (Sym s) (Sym r) = eqb r s
+letter_eq (Str s) (Str r) = eqb r s
 letter_eq (Num n) (Num m) = int_eq m n
 letter_eq (Truth b) (Truth c) = bool_eq c b
 letter_eq Nil Nil = true
 letter_eq _ _ = false
 
 -- the letters that stand for a letter, where variables are replaced
-abbrev pub spliced : Replacement → Letter → List Letter
-spliced s (Var v) = spelling (image s v)
-spliced s letter = letter ∷ []
+abbrev pub splice : Replacement → Letter → List Letter
+splice s (Var v) = spelling (image s v)
+splice s letter = letter ∷ []

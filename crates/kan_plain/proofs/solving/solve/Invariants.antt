@@ -1,12 +1,12 @@
 use Rattle.std.proofs.Common.{◌≡◌, map}
 use Rattle.kan_model.specs.Stores.Solve.{solve}
-use Rattle.kan_plain.specs.Solving.{replaced_by, finished, stacked}
+use Rattle.kan_plain.specs.Solving.{replaced_by, put_all_first, on_stack}
 use Rattle.kan_plain.proofs.SolvingSteps.{steps_for}
 use Rattle.kan_plain.proofs.solving.solve.Given as goal
 
 -- the replacements made so far, in front of the answer of the equations that are left, are the whole answer
 abbrev pub invariant-loop-given : goal.invariant-loop-given
-invariant-loop-given l = finished (map replaced_by l.made.items) (solve (stacked l.pending.items)) ≡ solve (stacked l.fn.pending.items)
+invariant-loop-given l = put_all_first (map replaced_by l.made.items) (solve (on_stack l.pending.items)) ≡ solve (on_stack l.fn.pending.items)
 
 abbrev pub decreases-loop-given : goal.decreases-loop-given
-decreases-loop-given l = steps_for (stacked l.pending.items)
+decreases-loop-given l = steps_for (on_stack l.pending.items)

@@ -1,7 +1,7 @@
 -- Each mark changes how many trees are wanted, and the test of all marks stays the same.
 use Rattle.std.proofs.Common.{◌≡◌, ℕ, Bool, false, nat_eq, arith, get_or, ap, sym, ◌∙◌, inl, inr, ◌⊎◌}
 use Rattle.std.proofs.lemmas.Bool.{true≢false}
-use Rattle.kan_terms.specs.declared.marks.Mark.TheVariants.{Pair, Sym, Num, Truth, Nil}
+use Rattle.kan_terms.specs.declared.marks.Mark.TheVariants.{Pair, Sym, Str, Num, Truth, Nil}
 use Rattle.kan_terms.specs.declared.marks.Mark.{Mark}
 use Rattle.std.specs.Prelude.{ℤ}
 use Rattle.std.proofs.Math.ListN.{drop_of_length-le}
@@ -9,12 +9,13 @@ use Rattle.kan_terms.proofs.SpellingLaws.{is_pair, spells_many, Decides-spells_m
 use Rattle.kan_terms.proofs.marks.spells_tree.Goals as goal
 use Rattle.kan_terms.proofs.marks.spells_tree.Goals.{in-Pair, in-Sym}
 
--- a mark of the other four kinds is no pair
-no_pair : (mark : Mark) → ((s : ℕ) × (mark ≡ Sym s)) ⊎ (((n : ℤ) × (mark ≡ Num n)) ⊎ (((b : Bool) × (mark ≡ Truth b)) ⊎ (mark ≡ Nil))) → is_pair mark ≡ false
+-- a mark of the other five kinds is no pair
+no_pair : (mark : Mark) → ((s : ℕ) × (mark ≡ Sym s)) ⊎ (((s : ℕ) × (mark ≡ Str s)) ⊎ (((n : ℤ) × (mark ≡ Num n)) ⊎ (((b : Bool) × (mark ≡ Truth b)) ⊎ (mark ≡ Nil)))) → is_pair mark ≡ false
 no_pair mark (inl h) = ap is_pair h.1
 no_pair mark (inr (inl h)) = ap is_pair h.1
 no_pair mark (inr (inr (inl h))) = ap is_pair h.1
-no_pair mark (inr (inr (inr h))) = ap is_pair h
+no_pair mark (inr (inr (inr (inl h)))) = ap is_pair h.1
+no_pair mark (inr (inr (inr (inr h)))) = ap is_pair h
 
 pub returns-then-wanted-eq0 : goal.returns-then-wanted-eq0
 returns-then-wanted-eq0 c =

@@ -5,7 +5,7 @@ use Rattle.std.specs.declared.string.String.{String}
 use Rattle.std.proofs.lemmas.List.{length-map}
 use Rattle.kan_terms.specs.Table.{number_of}
 use Rattle.kan_terms.proofs.TableLaws.{Inserts, Inserts-full}
-use Rattle.kan_terms.proofs.symbols.Names.intern.Goals as goal
+use Rattle.kan_terms.proofs.names.Texts.intern.Goals as goal
 
 inserts : (c : goal.In_ok-number) → Inserts string_bytes c.self.inside.texts.keys c.insert_full.new.self.keys c.args.text.now c.in_ok-number.number
 inserts c =
