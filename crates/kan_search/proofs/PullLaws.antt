@@ -55,10 +55,12 @@ entry-is-built ts args gs (GoalEntry.same a b) = refl
 entry-is-built ts args gs (GoalEntry.differ a b) = refl
 entry-is-built ts args gs (GoalEntry.symbol a) = refl
 entry-is-built ts args gs (GoalEntry.number a) = refl
+entry-is-built ts args gs (GoalEntry.text a) = refl
 entry-is-built ts args gs (GoalEntry.absent tag a) = refl
 entry-is-built ts args gs (GoalEntry.both g h) = refl
 entry-is-built ts args gs (GoalEntry.either g h) = refl
 entry-is-built ts args gs (GoalEntry.fresh k g) = refl
+entry-is-built ts args gs (GoalEntry.later g) = refl
 entry-is-built ts args gs (GoalEntry.call r at k) = refl
 
 goals-are-built : (ts : List Template) (args : List ℕ) (gs : List Goal) (es : List GoalEntry) → list_all goal_is_built (goals_after ts args gs es) ≡ (list_all goal_is_built gs && list_all is_built es)

@@ -1,6 +1,6 @@
 -- Streams that are there at once.
-use Rattle.std.proofs.Common.{◌≡◌, ℕ, zero, suc, ◌+◌, ◌≤◌, ◌<◌, Bool, true, false, List, [], ◌∷◌, ◌++◌, refl, sym, ◌∙◌, ap, arith, lt-ltb, ◌^◌, get_or, map, take, drop, append-nil, append_assoc, length}
-use Rattle.std.specs.Prelude.{Some, None}
+use Rattle.std.proofs.Common.{◌≡◌, ℕ, zero, suc, ◌+◌, ◌≤◌, ◌<◌, Bool, true, false, List, [], ◌∷◌, ◌++◌, refl, sym, ◌∙◌, ap, ap₂, subst, arith, lt-ltb, ◌^◌, get_or, map, take, drop, append-nil, append_assoc, length}
+use Rattle.std.specs.Prelude.{Option, Some, None, option_map}
 use Rattle.std.specs.List.{list_all}
 use Rattle.std.proofs.lemmas.Bool.{and_from, and_parts}
 use Rattle.kan_terms.specs.Tree.{Tree, Tm}
@@ -11,7 +11,7 @@ use Rattle.kan_model.specs.Stores.Store.{Store, with_prim, with_fresh}
 use Rattle.kan_model.specs.Stores.Kept.{is_kept}
 use Rattle.kan_model.specs.Streams.Stream.{Stream, Thunk, one, empty}
 use Rattle.kan_model.specs.Stores.Calls.{Gives}
-use Rattle.kan_model.specs.Streams.Running.{assert, slot, instance, instances, named, named_store, suspended_call}
+use Rattle.kan_model.specs.Streams.Running.{assert, slot, instance, instances, name_pairs, named_store, suspended_call}
 use Rattle.kan_model.specs.Programs.Scope.{all_below, sides_below}
 use Rattle.kan_model.specs.Terms.Flat.{is_flat}
 use Rattle.kan_model.specs.Programs.Tables.{template_at, arguments_at}
@@ -29,6 +29,7 @@ slot-below n (t ∷ ts) (suc i) h = slot-below n ts i (and_parts (all_below n t)
 pub instance-below : (n : ℕ) (env : List Tm) (t : Template) → list_all (all_below n) env ≡ true → all_below n (instance env t) ≡ true
 instance-below n env (Tree.leaf i) h = slot-below n env i h
 instance-below n env (Tree.sym s) h = refl
+instance-below n env (Tree.str s) h = refl
 instance-below n env (Tree.num x) h = refl
 instance-below n env (Tree.truth b) h = refl
 instance-below n env Tree.nil h = refl
@@ -57,6 +58,7 @@ named-below st wider v t more next below =
 pub names-itself : (st : Store) (t : Tm) → is_flat t ≡ true → NamesOne st t t st
 names-itself st (Tree.leaf v) h = record { goes_on = λ rest. refl; flat = refl; above = omega arith; within = omega arith }
 names-itself st (Tree.sym s) h = record { goes_on = λ rest. refl; flat = refl; above = omega arith; within = omega arith }
+names-itself st (Tree.str s) h = record { goes_on = λ rest. refl; flat = refl; above = omega arith; within = omega arith }
 names-itself st (Tree.num n) h = record { goes_on = λ rest. refl; flat = refl; above = omega arith; within = omega arith }
 names-itself st (Tree.truth b) h = record { goes_on = λ rest. refl; flat = refl; above = omega arith; within = omega arith }
 names-itself st Tree.nil h = record { goes_on = λ rest. refl; flat = refl; above = omega arith; within = omega arith }
@@ -91,19 +93,19 @@ pub names-next : (before middle after : Store) (arguments values longer : List T
 names-next before middle after arguments values longer argument value first next grown =
     record {
       goes_on = λ rest.
-          ap (named before) (append_assoc arguments (argument ∷ []) rest) ∙ first.goes_on (argument ∷ rest) ∙ ap (in_front values) (next.goes_on rest)
-          ∙ ap (λ vs. record { values = vs; store = (named after rest).store }) (sym (append_assoc values (value ∷ []) (named after rest).values) ∙ ap (λ vs. vs ++ (named after rest).values) (sym grown));
+          ap (name_pairs before) (append_assoc arguments (argument ∷ []) rest) ∙ first.goes_on (argument ∷ rest) ∙ ap (in_front values) (next.goes_on rest)
+          ∙ ap (λ vs. record { values = vs; store = (name_pairs after rest).store }) (sym (append_assoc values (value ∷ []) (name_pairs after rest).values) ∙ ap (λ vs. vs ++ (name_pairs after rest).values) (sym grown));
       flat = ap (list_all is_flat) grown ∙ list_all-append is_flat values (value ∷ []) ∙ and_from _ _ first.flat (and_from _ _ next.flat refl);
     }
 
 -- the names of all arguments
-pub names-all : (before after : Store) (arguments values : List Tm) → NamesFirst before arguments values after → named before arguments ≡ record { values = values; store = after }
+pub names-all : (before after : Store) (arguments values : List Tm) → NamesFirst before arguments values after → name_pairs before arguments ≡ record { values = values; store = after }
 names-all before after arguments values names =
-    ap (named before) (sym (append-nil arguments)) ∙ names.goes_on [] ∙ ap (λ vs. record { values = vs; store = after }) (append-nil values)
+    ap (name_pairs before) (sym (append-nil arguments)) ∙ names.goes_on [] ∙ ap (λ vs. record { values = vs; store = after }) (append-nil values)
 
 -- with all arguments named, the call waits
 pub call-waits : (r : ℕ) (before after : Store) (arguments values : List Tm) → NamesFirst before arguments values after →
-    Stream.goes_on [] (Thunk.call r values after) ≡ suspended_call r (named before arguments)
+    Stream.goes_on [] (Thunk.call r values after) ≡ suspended_call r (name_pairs before arguments)
 call-waits r before after arguments values names =
     ap (suspended_call r) (sym (names-all before after arguments values names))
 
@@ -123,3 +125,11 @@ pub arguments-many : (ts : List Template) (xs args : List ℕ) (at count room : 
 arguments-many ts xs args at count room is low =
     let same = length-map (take count (drop at args)) (template_at ts) in
     let long : length xs ≡ length (take count (drop at args)) = ap length is in omega (arith, low, same, long)
+
+-- the equation of the next variable isn't lost
+pub not-kept : (st wider : Store) (v : ℕ) (t : Tm) {St : Type 0} {means : St → Store} (given : Option St) → wider ≡ with_fresh st 1 → v ≡ st.counter → is_kept (named_store st t) ≡ true → given ≡ None →
+    Gives (with_prim wider (Primitive.same (Tree.leaf v) t)) (option_map means given) → ⊥
+not-kept st wider v t {means} given more next kept none gives =
+    let lost : is_kept (with_prim wider (Primitive.same (Tree.leaf v) t)) ≡ false = subst (λ o. Gives (with_prim wider (Primitive.same (Tree.leaf v) t)) (option_map means o)) none gives in
+    let same : with_prim wider (Primitive.same (Tree.leaf v) t) ≡ named_store st t = ap₂ (λ s w. with_prim s (Primitive.same (Tree.leaf w) t)) more next in
+    let both : true ≡ false = sym kept ∙ ap is_kept (sym same) ∙ lost in cc

@@ -1,5 +1,5 @@
 -- What a suspension that may be forced lets its parts do.
-use Rattle.std.proofs.Common.{◌≡◌, ℕ, ◌+◌, ◌≤◌, ◌<◌, ◌^◌, true, List, [], map, sym, ◌∙◌, ap, subst, arith, length, ltb-true}
+use Rattle.std.proofs.Common.{◌≡◌, ℕ, ◌+◌, ◌≤◌, ◌<◌, ◌^◌, true, false, List, [], map, refl, sym, ◌∙◌, ap, subst, arith, length, ltb-true}
 use Rattle.std.specs.Prelude.{Option, Some, None, option_map, slice_get, nat_lt}
 use Rattle.std.specs.List.{list_all}
 use Rattle.std.proofs.lemmas.Option.{slice_get-map}
@@ -18,7 +18,7 @@ use Rattle.stream_core.specs.InnerSuspensions.{MayForce, has_inner, inner_of}
 use Rattle.stream_core.specs.Suspensions.{goal_in, listed}
 use Rattle.stream_core.specs.Tables.{Table, OnlyAdds, GrowsBy, Told, IsTableOf, HasStream, IsForce, stream_in, thunk_in}
 use Rattle.stream_core.specs.declared.streams.Thunk.{Thunk as Suspension}
-use Rattle.stream_core.specs.declared.streams.Thunk.TheVariants.{Call, Swap, Bind}
+use Rattle.stream_core.specs.declared.streams.Thunk.TheVariants.{Call, Pause, Swap, Bind}
 use Rattle.stream_core.specs.declared.streams.Stream.{Stream as Listed}
 use Rattle.kan_model.specs.Programs.Closed as programs
 use Rattle.kan_model.specs.Programs.Environments.{terms_of}
@@ -45,6 +45,7 @@ bind-inner program g env i ((there, slots, below, fits), most) = (fits, omega (a
 -- what is inside a suspension that may be forced may be forced
 pub inner-may : (program : Program) (t : Thunk) → MayForce program t → MayForce program (inner_of t)
 inner-may program (Thunk.call r args st) may = may
+inner-may program (Thunk.pause g env st) may = may
 inner-may program (Thunk.swap t i) may = swap-inner program t i may
 inner-may program (Thunk.bind g env i) may = bind-inner program g env i may
 
@@ -125,6 +126,38 @@ module _ {I St : Type 0} (t : Table I) (p : code.Program) (means : St → Store)
       made ≡ enter (slice_get (programs.meaning p).relations rel) (terms_of args) (means store) → made ≡ force t.program (thunk_in t means thunk)
   called-force thunk rel args store made called built =
       built ∙ ap (λ q. enter (slice_get q.relations rel) (terms_of args) (means store)) (sym is.program) ∙ ap (λ u. force t.program (thunk_in t means u)) (sym called)
+
+  -- a goal that pauses may be run
+  pub record MayResume (goal : ℕ) (env : Env) (store : St) : Type 0 where
+    pub is : IsOf (programs.meaning p) (programs.goal p goal) (terms_of env)
+    pub below : list_all (all_below (means store).counter) (terms_of env) ≡ true
+    pub room : (means store).counter ≤ 2 ^ 62
+
+  pub pause-may : (thunk : Suspension I St) (goal : ℕ) (env : Env) (store : St) → thunk ≡ Pause goal env store → MayForce t.program (thunk_in t means thunk) → MayResume goal env store
+  pause-may thunk goal env store paused may =
+      let ((there, slots, below), most) = subst (λ q. MayForce q (Thunk.pause (goal_in q goal) (terms_of env) (means store))) is.program (subst (λ u. MayForce t.program (thunk_in t means u)) paused may) in
+      record { is = (there, slots); below = below; room = omega (arith, most) }
+
+  pub paused-force : (thunk : Suspension I St) (goal : ℕ) (env : Env) (store : St) (made : Stream) → thunk ≡ Pause goal env store →
+      made ≡ run (programs.goal p goal) (terms_of env) (means store) → made ≡ force t.program (thunk_in t means thunk)
+  paused-force thunk goal env store made paused built =
+      built ∙ ap (λ q. run (goal_in q goal) (terms_of env) (means store)) (sym is.program) ∙ ap (λ u. force t.program (thunk_in t means u)) (sym paused)
+
+module _ {I St : Type 0} (t : Table I) (means : St → Store) where
+  -- suspensions of the code with and without one inside
+  pub no-leaf : (thunk : Suspension I St) → has_inner (thunk_in t means thunk) ≡ false → ((rel : ℕ) (args : Env) (store : St) → thunk ≡ Call rel args store → ⊥) →
+      ((goal : ℕ) (env : Env) (store : St) → thunk ≡ Pause goal env store → ⊥) → ⊥
+  no-leaf (Call rel args store) last c q = c rel args store refl
+  no-leaf (Pause goal env store) last c q = q goal env store refl
+  no-leaf (Swap heads tail inner) last c q = cc
+  no-leaf (Bind goal env inner) last c q = cc
+
+  pub no-around : (thunk : Suspension I St) → has_inner (thunk_in t means thunk) ≡ true → ((heads : List St) (tail : Option I) (inner : I) → thunk ≡ Swap heads tail inner → ⊥) →
+      ((goal : ℕ) (env : Env) (inner : I) → thunk ≡ Bind goal env inner → ⊥) → ⊥
+  no-around (Call rel args store) around s b = cc
+  no-around (Pause goal env store) around s b = cc
+  no-around (Swap heads tail inner) around s b = s heads tail inner refl
+  no-around (Bind goal env inner) around s b = b goal env inner refl
 
 module _ {I St : Type 0} (means : St → Store) where
   -- what is made of an id's suspension while suspensions are added is its force

@@ -55,12 +55,14 @@ run-between (Goal.either g h) env st =
 run-between (Goal.fresh k g) env st =
     Each-like (Between (st.counter + k) (st.counter + k + width g)) (Between st.counter (st.counter + (k + width g))) (λ b (l, m). (omega (arith, l), omega (arith, m)))
     (heads (run g (env ++ variables st.counter k) (with_fresh st k))) (run-between g (env ++ variables st.counter k) (with_fresh st k))
+run-between (Goal.later g) env st = tt
 run-between (Goal.call r args) env st = tt
 
 -- variables that are there are there below a higher counter too
 pub below-more : (n m : ℕ) → n ≤ m → (t : Tm) → all_below n t ≡ true → all_below m t ≡ true
 below-more n m more (Tree.leaf v) h = let low = ltb-true v n h in lt-ltb v m (omega (arith, low, more))
 below-more n m more (Tree.sym s) h = refl
+below-more n m more (Tree.str s) h = refl
 below-more n m more (Tree.num x) h = refl
 below-more n m more (Tree.truth b) h = refl
 below-more n m more Tree.nil h = refl

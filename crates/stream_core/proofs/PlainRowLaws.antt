@@ -15,7 +15,7 @@ use Rattle.stream_core.specs.PlainTables.{rows_table}
 use Rattle.stream_core.specs.PlainTrees.{no_thunk, trees_after, all_grown, is_placed, grown_tree}
 use Rattle.stream_core.specs.PlainRows.{thunks, is_kept_at, inner_at, row_tree, RowIsSound, IsSound, BelongsTo}
 use Rattle.stream_core.specs.declared.streams.Thunk.{Thunk}
-use Rattle.stream_core.specs.declared.streams.Thunk.TheVariants.{Call, Swap, Bind}
+use Rattle.stream_core.specs.declared.streams.Thunk.TheVariants.{Call, Pause, Swap, Bind}
 use Rattle.stream_core.specs.declared.streams.Stream.{Stream}
 use Rattle.stream_core.specs.declared.plain_nodes.PlainId.{PlainId}
 use Rattle.stream_core.specs.declared.plain_nodes.Row.{Row}
@@ -135,11 +135,13 @@ module _ {St : Type 0} where
   -- and the same of a suspension's ids
   thunk-like : (P Q : PlainId → Type 0) → ((id : PlainId) → P id → Q id) → (t : Thunk PlainId St) → ThunkBelongs P t → ThunkBelongs Q t
   thunk-like P Q f (Call rel args store) h = tt
+  thunk-like P Q f (Pause g env store) h = tt
   thunk-like P Q f (Swap heads tail inner) (h, k) = (tail-like P Q f tail h, f inner k)
   thunk-like P Q f (Bind g env inner) h = f inner h
 
   thunk-all : (P : ℕ → PlainId → Type 0) (t : Thunk PlainId St) → ((n : ℕ) → ThunkBelongs (P n) t) → ThunkBelongs (λ id. (n : ℕ) → P n id) t
   thunk-all P (Call rel args store) h = tt
+  thunk-all P (Pause g env store) h = tt
   thunk-all P (Swap heads tail inner) h = (tail-all P tail (λ n. (h n).0), λ n. (h n).1)
   thunk-all P (Bind g env inner) h = h
 
@@ -342,3 +344,11 @@ module _ {St : Type 0} (means : St → facts.Store) (program : Program) where
       λ other. ⊎_elim (λ same. inl (ap (λ k. record { at = k }) same)) (λ same. inr same) (told-other old id.at other.at now),
     );
   }
+
+  pub kept-force : (old : List (Row St)) (id : PlainId) (was now : Row St) (s copy : Stream PlainId St) → BelongsTo means program old id → was ≡ get_or old id.at was →
+      now.thunk ≡ was.thunk → now.kept ≡ Some copy → copy.tail ≡ s.tail → map means copy.heads ≡ map means s.heads →
+      ForceOf (BelongsTo means program old) (row_tree means program old) means program (row_tree means program old id) s →
+      ForceOf (BelongsTo means program (slice_set old id.at now)) (row_tree means program (slice_set old id.at now)) means program (row_tree means program old id) s
+  kept-force old id was now s copy belongs is named kept tail heads forced =
+      force-stays (BelongsTo means program old) (BelongsTo means program (slice_set old id.at now)) (row_tree means program old) (row_tree means program (slice_set old id.at now)) (row_tree means program old id) s
+      (kept-grows old id was now s copy belongs is named kept tail heads forced) forced

@@ -10,7 +10,7 @@ use Rattle.kan_model.specs.Programs.Environments.{terms_of}
 use Rattle.stream_core.specs.Suspensions as standing
 use Rattle.stream_core.specs.PlainTrees.{no_thunk, tree_at, trees_after, is_below, tail_below, names_below, all_grown, is_placed, grown_tree}
 use Rattle.stream_core.specs.declared.streams.Thunk.{Thunk}
-use Rattle.stream_core.specs.declared.streams.Thunk.TheVariants.{Call, Swap, Bind}
+use Rattle.stream_core.specs.declared.streams.Thunk.TheVariants.{Call, Pause, Swap, Bind}
 use Rattle.stream_core.specs.declared.plain_nodes.PlainId.{PlainId}
 
 get-front : {X : Type 0} (xs : List X) (x d : X) (i : ℕ) → i < length xs → unwrap_or (slice_get (xs ++ x ∷ []) i) d ≡ unwrap_or (slice_get xs i) d
@@ -48,6 +48,7 @@ module _ {St : Type 0} (means : St → facts.Store) (goal : ℕ → Goal) where
   pub thunk-same : (ts us : List model.Thunk) (n : ℕ) → ((id : PlainId) → id.at < n → tree_at us id ≡ tree_at ts id) → (t : Thunk PlainId St) → names_below n t ≡ true →
       standing.thunk (tree_at us) means goal t ≡ standing.thunk (tree_at ts) means goal t
   thunk-same ts us n same (Call rel args store) h = refl
+  thunk-same ts us n same (Pause g env store) h = refl
   thunk-same ts us n same (Swap heads tail inner) h =
       let (one, two) = and_parts (tail_below n tail) (is_below n inner) h in
       ap₂ (λ o t. model.Thunk.swap (standing.going_on (map means heads) o) t) (tail-same ts us n same tail one) (same inner (ltb-true inner.at n two))
@@ -79,6 +80,7 @@ module _ {St : Type 0} (means : St → facts.Store) (goal : ℕ → Goal) where
 -- ids that are placed are below the length
 belong-below : {St : Type 0} (ns : List (Thunk PlainId St)) (t : Thunk PlainId St) → standing.ThunkBelongs (is_placed ns) t → names_below (length ns) t ≡ true
 belong-below ns (Call rel args store) h = refl
+belong-below ns (Pause g env store) h = refl
 belong-below ns (Swap heads None inner) (h, k) = lt-ltb inner.at (length ns) k
 belong-below ns (Swap heads (Some id) inner) (h, k) = and_from _ _ (lt-ltb id.at (length ns) h) (lt-ltb inner.at (length ns) k)
 belong-below ns (Bind g env inner) h = lt-ltb inner.at (length ns) h

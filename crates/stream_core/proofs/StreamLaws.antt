@@ -1,5 +1,5 @@
 -- Stacks of streams while the table of suspensions grows, and steps of the tasks in the words of the code.
-use Rattle.std.proofs.Common.{◌≡◌, ◌<◌, List, [], ◌∷◌, ◌++◌, refl, sym, ◌∙◌, ap, ap₂, subst, arith, map}
+use Rattle.std.proofs.Common.{◌≡◌, suc, ◌<◌, ◌≤◌, List, [], ◌∷◌, ◌++◌, length, refl, sym, ◌∙◌, ap, ap₂, subst, arith, map}
 use Rattle.std.specs.Prelude.{Option, Some, None, option_map, IfSome, Result, Ok, Err, OnOk}
 use Rattle.kan_terms.specs.Tree.{Tm}
 use Rattle.kan_model.specs.Programs.Goals.{Goal, Program}
@@ -11,6 +11,7 @@ use Rattle.stream_core.specs.Tasks.{Becomes, Each, count, done}
 use Rattle.stream_core.specs.Suspensions.{Stays, StreamBelongs, stream, going_on}
 use Rattle.stream_core.specs.CodeTasks.{stack}
 use Rattle.stream_core.specs.declared.streams.Stream.{Stream}
+use Rattle.stream_core.proofs.StackLaws.{stack-length}
 use Rattle.stream_core.proofs.TaskLaws.{becomes-stream, becomes-appended, becomes-bound}
 
 tail-stays : {I : Type 0} (belonged belongs : I → Type 0) (was is : I → model.Thunk) → Stays belonged was belongs is → (o : Option I) → IfSome o belonged → option_map is o ≡ option_map was o
@@ -70,6 +71,7 @@ count-some Goal.fail env st = omega arith
 count-some (Goal.both g h) env st = omega arith
 count-some (Goal.either g h) env st = omega arith
 count-some (Goal.fresh k g) env st = omega arith
+count-some (Goal.later g) env st = omega arith
 count-some (Goal.call r args) env st = omega arith
 
 -- a goal's stream on top
@@ -109,10 +111,17 @@ step-done program ts us ws t vs xs whole is step kept = step.same ∙ ap (λ ys.
 pub step-fewer : (program : Program) (ts us ws : List pending.Task) (t : pending.Task) (vs xs : List model.Stream) → ts ≡ t ∷ us → Becomes program (t ∷ us) vs ws xs → pending.AreReady program ts vs → pending.left ws xs < pending.left ts vs
 step-fewer program ts us ws t vs xs is step ready = rw is (step.fewer (first-ready program ts us t vs is ready))
 
--- the top of the stack when no task is left
-pub top-is : (ts : List pending.Task) (vs rest whole : List model.Stream) (s : model.Stream) → ts ≡ [] → done ts vs ≡ whole → vs ≡ s ∷ rest → (v : model.Stream) (more : List model.Stream) → whole ≡ v ∷ more → s ≡ v
-top-is ts vs rest whole s none kept top v more is =
-    let same : s ∷ rest ≡ v ∷ more = sym top ∙ ap (λ xs. done xs vs) (sym none) ∙ kept ∙ is in cc
+-- the one stream when no task is left
+pub top-is : (ts : List pending.Task) (vs rest whole : List model.Stream) (s : model.Stream) → ts ≡ [] → done ts vs ≡ whole → vs ≡ s ∷ rest → length whole ≡ 1 → whole ≡ s ∷ []
+top-is ts vs rest whole s none kept top one = go rest (sym kept ∙ ap (λ xs. done xs vs) none ∙ top)
+  where
+    go : (xs : List model.Stream) → whole ≡ s ∷ xs → whole ≡ s ∷ []
+    go [] is = is
+    go (x ∷ xs) is = let long : length whole ≡ suc (suc (length xs)) = ap length is in let bad : ⊥ = omega (arith, one, long) in absurd bad
+
+pub none-done : (ts : List pending.Task) (vs whole : List model.Stream) → ts ≡ [] → done ts vs ≡ whole → vs ≡ [] → length whole ≡ 1 → ⊥
+none-done ts vs whole none kept empty one =
+    let long : length whole ≡ 0 = ap length (sym kept ∙ ap (λ xs. done xs vs) none ∙ empty) in omega (arith, one, long)
 
 -- what the stacks of a run and of a binding leave
 pub run-done : (g : Goal) (env env' : List Tm) (st : facts.Store) (ts : List pending.Task) (vs : List model.Stream) → ts ≡ pending.Task.run_at g env' st ∷ [] → vs ≡ [] → env' ≡ env →
@@ -133,7 +142,25 @@ pub below-going : (env : List Tm) (hs : List facts.Store) (o : Option model.Thun
 below-going env hs None h = h
 below-going env hs (Some i) h = h
 
+pub bound-going : (g : Goal) (env : List Tm) (hs : List facts.Store) (o : Option model.Thunk) → pending.bound_last g env (going_on [] o) ≡ pending.bound_last g env (going_on hs o)
+bound-going g env hs None = refl
+bound-going g env hs (Some i) = refl
+
+pub none-to-bind : (program : Program) (g : Goal) (env : List Tm) (ts : List pending.Task) (vs : List model.Stream) → vs ≡ [] → pending.AreReady program (pending.Task.bind_to g env ∷ ts) vs → ⊥
+none-to-bind program g env ts vs none ready = subst (pending.AreReady program (pending.Task.bind_to g env ∷ ts)) none ready
+
+pub two-to-append : {X : Type 0} (f : X → model.Stream) (program : Program) (ts : List pending.Task) (vs : List X) → pending.AreReady program (pending.Task.append_two ∷ ts) (stack f vs) → 2 ≤ length vs
+two-to-append f program ts vs ready = subst (λ n. 2 ≤ n) (stack-length f vs) (go (stack f vs) ready)
+  where
+    go : (xs : List model.Stream) → pending.AreReady program (pending.Task.append_two ∷ ts) xs → 2 ≤ length xs
+    go [] h = absurd h
+    go (x ∷ []) h = absurd h
+    go (x ∷ y ∷ xs) h = omega arith
+
 -- the goal of the first task may be bound to the stream on top
 pub top-may-bind : (program : Program) (g : Goal) (env : List Tm) (ts : List pending.Task) (vs rest : List model.Stream) (s : model.Stream) → vs ≡ s ∷ rest →
     pending.AreReady program (pending.Task.bind_to g env ∷ ts) vs → pending.MayBind program g env s
 top-may-bind program g env ts vs rest s is ready = (subst (pending.AreReady program (pending.Task.bind_to g env ∷ ts)) is ready).0
+
+pub only-one : {s t : model.Stream} → s ∷ [] ≡ t ∷ [] → s ≡ t
+only-one same = cc

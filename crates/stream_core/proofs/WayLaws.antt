@@ -42,9 +42,15 @@ module _ {I : Type 0} where
       subst (λ xs. Leads told.inner whole xs inside) (sym (stack-pop (λ (i : I). i) longer ids last grown)) (inner, leads)
 
   -- where a way begins
-  pub leads-here : (whole copy : I) (o : Option (Told I)) → IfSome o (λ told. copy ≡ whole) → IfSome o (λ told. Leads told.inner whole [] copy)
-  leads-here whole copy None same = tt
-  leads-here whole copy (Some told) same = same
+  pub way-begins : (t : Table I) (whole : Thunk) (ids : List I) → ids ≡ [] → IsWayFrom t whole ids
+  way-begins t whole ids none = rw none (record { way = tt; each = tt })
+
+  pub next-begins : (t : Table I) (id last : I) (ids : List I) → ids ≡ [] → MayForce t.program (t.tree id) → t.belongs last × (t.tree last ≡ t.tree id) → IsNext t (t.tree id) ids last
+  next-begins t id last ids none may (there, same) = rw none (record { belongs = there; may = subst (MayForce t.program) (sym same) may; is = same })
+
+  pub leads-begins : (whole copy : I) (ids : List I) (o : Option (Told I)) → ids ≡ [] → IfSome o (λ told. copy ≡ whole) → IfSome o (λ told. Leads told.inner whole (stack (λ (i : I). i) ids) copy)
+  leads-begins whole copy ids None none same = tt
+  leads-begins whole copy ids (Some told) none same = rw none same
 
   -- the last id of a way
   pub last-around : (t : Table I) (whole : Thunk) (ids rest : List I) (at : I) → IsWayFrom t whole ids → ids ≡ rest ++ at ∷ [] → MayForceAround t at
@@ -54,7 +60,7 @@ module _ {I : Type 0} where
   module _ (R : Told I → Told I → Type 0) (t u : Table I) (grew : GrowsBy R t u) where
     trees-stay : (ids : List I) → Each (MayForceAround t) ids → stack u.tree ids ≡ stack t.tree ids
     trees-stay [] h = refl
-    trees-stay (id ∷ ids) ((there, may), hs) = ap₂ (λ x xs. xs ++ x ∷ []) (grew.ids id there).1 (trees-stay ids hs)
+    trees-stay (id ∷ ids) ((there, may, holds), hs) = ap₂ (λ x xs. xs ++ x ∷ []) (grew.ids id there).1 (trees-stay ids hs)
 
     each-stays : (ids : List I) → Each (MayForceAround t) ids → Each (MayForceAround u) ids
     each-stays [] h = tt

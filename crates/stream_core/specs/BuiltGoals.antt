@@ -7,6 +7,7 @@ abbrev pub is_built : GoalEntry → Bool
 is_built (GoalEntry.differ a b) = false
 is_built (GoalEntry.symbol a) = false
 is_built (GoalEntry.number a) = false
+is_built (GoalEntry.text a) = false
 is_built (GoalEntry.absent tag a) = false
 is_built _ = true
 
@@ -15,5 +16,6 @@ abbrev pub is_atomic : GoalEntry → Bool
 is_atomic GoalEntry.succeed = true
 is_atomic GoalEntry.fail = true
 is_atomic (GoalEntry.same a b) = true
+is_atomic (GoalEntry.later g) = true
 is_atomic (GoalEntry.call r at k) = true
 is_atomic _ = false

@@ -3,7 +3,7 @@ use Rattle.std.specs.Prelude.{◌≡◌, ℕ, ◌+◌, ◌≤◌, true, List, �
 use Rattle.std.specs.List.{list_all}
 use Rattle.kan_terms.specs.Tree.{Tm}
 use Rattle.kan_model.specs.Stores.Store.{Store}
-use Rattle.kan_model.specs.Streams.Running.{Arguments, named, and_value}
+use Rattle.kan_model.specs.Streams.Running.{Arguments, name_pairs, and_value}
 use Rattle.kan_model.specs.Terms.Flat.{is_flat}
 use Rattle.kan_model.specs.Programs.Goals.{Template}
 use Rattle.kan_model.specs.Programs.Tables.{GoalEntry, arguments_at}
@@ -25,7 +25,7 @@ ArgumentsPlaced p _ = Unit {0}
 
 -- an argument's value and the store after it: whatever follows, naming goes on from there
 pub record NamesOne (before : Store) (argument value : Tm) (after : Store) : Type 0 where
-  pub goes_on : (rest : List Tm) → named before (argument ∷ rest) ≡ and_value value (named after rest)
+  pub goes_on : (rest : List Tm) → name_pairs before (argument ∷ rest) ≡ and_value value (name_pairs after rest)
   pub flat : is_flat value ≡ true
   pub above : before.counter ≤ after.counter
   pub within : after.counter ≤ before.counter + 1
@@ -36,5 +36,5 @@ in_front values rest = record { values = values ++ rest.values; store = rest.sto
 
 -- the values of the first arguments and the store after them
 pub record NamesFirst (before : Store) (arguments values : List Tm) (after : Store) : Type 0 where
-  pub goes_on : (rest : List Tm) → named before (arguments ++ rest) ≡ in_front values (named after rest)
+  pub goes_on : (rest : List Tm) → name_pairs before (arguments ++ rest) ≡ in_front values (name_pairs after rest)
   pub flat : list_all is_flat values ≡ true

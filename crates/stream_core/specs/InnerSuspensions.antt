@@ -8,18 +8,21 @@ use Rattle.stream_core.specs.Tables.{Table, IsInner}
 -- whether a suspension has one inside
 abbrev pub has_inner : Thunk → Bool
 has_inner (Thunk.call r args st) = false
+has_inner (Thunk.pause g env st) = false
 has_inner (Thunk.swap t i) = true
 has_inner (Thunk.bind g env i) = true
 
 -- the one inside, and the suspension itself where there is none
 abbrev pub inner_of : Thunk → Thunk
 inner_of (Thunk.call r args st) = Thunk.call r args st
+inner_of (Thunk.pause g env st) = Thunk.pause g env st
 inner_of (Thunk.swap t i) = i
 inner_of (Thunk.bind g env i) = i
 
 -- how many suspensions are inside one another
 abbrev pub depth : Thunk → ℕ
 depth (Thunk.call r args st) = 0
+depth (Thunk.pause g env st) = 0
 depth (Thunk.swap t i) = suc (depth i)
 depth (Thunk.bind g env i) = suc (depth i)
 

@@ -3,6 +3,7 @@ use Rattle.std.specs.Prelude.{List, length, Some}
 use Rattle.kan_model.specs.Programs.Goals.{Program}
 use Rattle.kan_model.specs.Programs.Closed as programs
 use Rattle.kan_model.specs.Stores.Store as facts
+use Rattle.kan_model.specs.declared.program.Program as code
 use Rattle.stream_core.specs.Tables.{Table, Told}
 use Rattle.stream_core.specs.PlainRows.{is_kept_at, inner_at, row_tree, BelongsTo}
 use Rattle.stream_core.specs.declared.plain_nodes.PlainId.{PlainId}
@@ -24,5 +25,9 @@ module _ {St : Type 0} where
     size = Some (length rows);
   }
 
+  -- the program of a table
+  abbrev pub program_of : PlainNodes St → code.Program
+  program_of nodes = nodes.program.now
+
   abbrev pub plain_table : (St → facts.Store) → PlainNodes St → Table PlainId
-  plain_table means nodes = rows_table means (programs.meaning nodes.program.now) nodes.rows.items
+  plain_table means nodes = rows_table means (programs.meaning (program_of nodes)) nodes.rows.items

@@ -5,7 +5,7 @@ use Rattle.kan_model.specs.Stores.Store as facts
 use Rattle.kan_model.specs.Streams.Stream as model
 use Rattle.stream_core.specs.Suspensions as standing
 use Rattle.stream_core.specs.declared.streams.Thunk.{Thunk}
-use Rattle.stream_core.specs.declared.streams.Thunk.TheVariants.{Call, Swap, Bind}
+use Rattle.stream_core.specs.declared.streams.Thunk.TheVariants.{Call, Pause, Swap, Bind}
 use Rattle.stream_core.specs.declared.plain_nodes.PlainId.{PlainId}
 
 -- what stands for nothing
@@ -32,6 +32,7 @@ tail_below n (Some id) = is_below n id
 
 abbrev pub names_below : {St : Type 0} → ℕ → Thunk PlainId St → Bool
 names_below n (Call rel args store) = true
+names_below n (Pause g env store) = true
 names_below n (Swap heads tail inner) = tail_below n tail && is_below n inner
 names_below n (Bind g env inner) = is_below n inner
 

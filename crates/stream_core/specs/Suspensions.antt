@@ -7,7 +7,7 @@ use Rattle.kan_model.specs.Streams.Stream as model
 use Rattle.kan_model.specs.Streams.Running.{force}
 use Rattle.kan_model.specs.Programs.Environments.{terms_of}
 use Rattle.stream_core.specs.declared.streams.Thunk.{Thunk}
-use Rattle.stream_core.specs.declared.streams.Thunk.TheVariants.{Call, Swap, Bind}
+use Rattle.stream_core.specs.declared.streams.Thunk.TheVariants.{Call, Pause, Swap, Bind}
 use Rattle.stream_core.specs.declared.streams.Stream.{Stream}
 
 -- stores, and then the end or a thunk
@@ -25,12 +25,14 @@ module _ {I St : Type 0} where
 
   abbrev pub thunk : (I → model.Thunk) → (St → facts.Store) → (ℕ → Goal) → Thunk I St → model.Thunk
   thunk tree means goal (Call rel args store) = model.Thunk.call rel (terms_of args) (means store)
+  thunk tree means goal (Pause g env store) = model.Thunk.pause (goal g) (terms_of env) (means store)
   thunk tree means goal (Swap heads tail inner) = model.Thunk.swap (listed tree means heads tail) (tree inner)
   thunk tree means goal (Bind g env inner) = model.Thunk.bind (goal g) (terms_of env) (tree inner)
 
   -- the id inside a suspension, where there is one
   abbrev pub inner_id : Thunk I St → Option I
   inner_id (Call rel args store) = None
+  inner_id (Pause g env store) = None
   inner_id (Swap heads tail inner) = Some inner
   inner_id (Bind g env inner) = Some inner
 
@@ -40,6 +42,7 @@ module _ {I St : Type 0} where
 
   abbrev pub ThunkBelongs : (I → Type 0) → Thunk I St → Type 0
   ThunkBelongs belongs (Call rel args store) = Unit {0}
+  ThunkBelongs belongs (Pause g env store) = Unit {0}
   ThunkBelongs belongs (Swap heads tail inner) = IfSome tail belongs × belongs inner
   ThunkBelongs belongs (Bind g env inner) = belongs inner
 

@@ -75,6 +75,7 @@ count Goal.fail env st = 1
 count (Goal.both g h) env st = count g env st + (for_each (count h env) (heads (run g env st)) + 1) + 1
 count (Goal.either g h) env st = count h env st + (count g env st + 1) + 1
 count (Goal.fresh k g) env st = count g (env ++ variables st.counter k) (with_fresh st k) + 1
+count (Goal.later g) env st = 1
 count (Goal.call r args) env st = 1
 
 -- how many tasks it takes until all are done

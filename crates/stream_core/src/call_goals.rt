@@ -4,7 +4,7 @@ ghost use Rattle.std.specs.Prelude.{◌≡◌, length, ◌+◌, ◌≤◌, ◌^�
 ghost use Rattle.std.specs.List.{list_all};
 ghost use Rattle.kan_terms.specs.Tree.{Tree};
 ghost use Rattle.kan_terms.specs.Terms.{tree};
-ghost use Rattle.kan_model.specs.Streams.Running.{instances, named, named_store, suspended_call};
+ghost use Rattle.kan_model.specs.Streams.Running.{instances, name_pairs, named_store, suspended_call};
 ghost use Rattle.kan_model.specs.Programs.Scope.{all_below, takes};
 ghost use Rattle.kan_model.specs.Programs.Environments.{terms_of};
 ghost use Rattle.kan_model.specs.Programs.Closed as programs;
@@ -33,7 +33,7 @@ fn name_pair<St: Store>(alloc: Global, term: Term, store: St) -> Result<(Term, S
 {
     let var = store.counter();
     let wider = store.fresh(alloc, 1)?;
-    match wider.assert(alloc, &Prim::Same(Term::Var(var), term))? {
+    match wider.assert_owned(alloc, &Prim::Same(Term::Var(var), term))? {
         Some(longer) => Ok((Term::Var(var), longer)),
         None => unreachable!(),
     }
@@ -45,7 +45,7 @@ fn name_one<St: Store>(alloc: Global, term: Term, store: St) -> Result<(Term, St
     requires room { (St.meaning store).counter + 1 ≤ 2 ^ 63 }
     ensures { IfOk result (λ made. NamesOne (St.meaning store) (tree term) (tree made.0) (St.meaning made.1)) }
 {
-    match term {
+    match &term {
         Term::Pair(_) => name_pair(alloc, term, store),
         _ => Ok((term, store)),
     }
@@ -90,7 +90,7 @@ pub(crate) fn call_stream<N: Nodes<St>, St: Store>(
     requires room { (St.meaning store).counter + length (arguments_of program.now call.at call.count) ≤ 2 ^ 63 }
     requires there { takes (slice_get (programs.meaning program.now).relations call.rel) (length (arguments_of program.now call.at call.count)) ≡ true }
     ensures made { IfOk result (λ made. stream_in (N.table nodes.new) St.meaning made
-        ≡ suspended_call call.rel (named (St.meaning store) (instances (terms_of env.now) (arguments_of program.now call.at call.count)))) }
+        ≡ suspended_call call.rel (name_pairs (St.meaning store) (instances (terms_of env.now) (arguments_of program.now call.at call.count)))) }
     ensures belong { IfOk result (HasStream (N.table nodes.new)) }
     ensures adds { OnlyAdds (N.table nodes.old) (N.table nodes.new) }
 {

@@ -59,6 +59,15 @@ pub(crate) fn thunk_again<N: Nodes<St>, St: Store>(
                 store,
             })
         }
+        Thunk::Pause { goal, env, store } => {
+            let env = env.again(alloc)?;
+            let store = store.again(alloc)?;
+            Ok(Thunk::Pause {
+                goal: *goal,
+                env,
+                store,
+            })
+        }
         Thunk::Swap { heads, tail, inner } => {
             let heads = stores_again(alloc, heads.items())?;
             let tail = tail_again(nodes, tail)?;

@@ -57,15 +57,22 @@ fn expand<N: Nodes<St>, St: Store>(
     nodes: &mut N,
 ) -> Result<Stream<N::Id, St>, Memory>
     requires table { IsTableOf program.now (N.table nodes.old) }
-    requires may { MayForce (programs.meaning program.now) (thunk_in (N.table nodes.old) St.meaning thunk) }
+    requires may { MayForce (N.table nodes.old).program (thunk_in (N.table nodes.old) St.meaning thunk) }
     requires last { has_inner (thunk_in (N.table nodes.old) St.meaning thunk) ≡ false }
     ensures made { IfOk result (λ made. stream_in (N.table nodes.new) St.meaning made
-        ≡ forced (programs.meaning program.now) (thunk_in (N.table nodes.old) St.meaning thunk)) }
+        ≡ forced (N.table nodes.old).program (thunk_in (N.table nodes.old) St.meaning thunk)) }
     ensures belong { IfOk result (HasStream (N.table nodes.new)) }
     ensures adds { OnlyAdds (N.table nodes.old) (N.table nodes.new) }
 {
     match thunk {
-        Thunk::Call { rel, args, store } => enter_call(alloc, program, rel, args, store, nodes),
+        Thunk::Call { rel, args, store } => {
+            let made = enter_call(alloc, program, rel, args, store, nodes)?;
+            Ok(made)
+        }
+        Thunk::Pause { goal, env, store } => {
+            let made = run_with(alloc, program, goal, env, store, nodes)?;
+            Ok(made)
+        }
         _ => unreachable!(),
     }
 }
@@ -80,11 +87,11 @@ fn go_around<N: Nodes<St>, St: Store>(
 ) -> Result<Stream<N::Id, St>, Memory>
     requires table { IsTableOf program.now (N.table nodes.old) }
     requires belong { HasThunk (N.table nodes.old) thunk }
-    requires may { MayForce (programs.meaning program.now) (thunk_in (N.table nodes.old) St.meaning thunk) }
+    requires may { MayForce (N.table nodes.old).program (thunk_in (N.table nodes.old) St.meaning thunk) }
     requires around { has_inner (thunk_in (N.table nodes.old) St.meaning thunk) ≡ true }
     requires inside { IsForce (N.table nodes.old) St.meaning (inner_of (thunk_in (N.table nodes.old) St.meaning thunk)) inside }
     ensures made { IfOk result (λ made. stream_in (N.table nodes.new) St.meaning made
-        ≡ forced (programs.meaning program.now) (thunk_in (N.table nodes.old) St.meaning thunk)) }
+        ≡ forced (N.table nodes.old).program (thunk_in (N.table nodes.old) St.meaning thunk)) }
     ensures belong { IfOk result (HasStream (N.table nodes.new)) }
     ensures adds { OnlyAdds (N.table nodes.old) (N.table nodes.new) }
 {
@@ -93,12 +100,18 @@ fn go_around<N: Nodes<St>, St: Store>(
             heads,
             tail,
             inner: _,
-        } => append(alloc, Stream { heads, tail }, inside, nodes),
+        } => {
+            let made = append(alloc, Stream { heads, tail }, inside, nodes)?;
+            Ok(made)
+        }
         Thunk::Bind {
             goal,
             env,
             inner: _,
-        } => bind_with(alloc, program, goal, env, inside, nodes),
+        } => {
+            let made = bind_with(alloc, program, goal, env, inside, nodes)?;
+            Ok(made)
+        }
         _ => unreachable!(),
     }
 }
@@ -112,6 +125,11 @@ fn inner_again<N: Nodes<St>, St: Store>(nodes: &N, id: &N::Id) -> Result<Option<
         Thunk::Call {
             rel: _,
             args: _,
+            store: _,
+        } => Ok(None),
+        Thunk::Pause {
+            goal: _,
+            env: _,
             store: _,
         } => Ok(None),
         Thunk::Swap {
@@ -181,7 +199,7 @@ fn way_down<N: Nodes<St>, St: Store>(
     }
 }
 
-// The force of the last id on a way: the one that was found, or else one call is expanded, and the stream kept.
+// The force of the last id on a way: the one that was found, or else one call or pause is expanded, and the stream kept.
 fn force_last<N: Nodes<St>, St: Store>(
     alloc: Global,
     program: &Program,
@@ -231,7 +249,7 @@ fn force_around<N: Nodes<St>, St: Store>(
     Ok(kept)
 }
 
-/// The force of a suspension: one call is expanded. What is found on the way down to it is used, and
+/// The force of a suspension: one call or pause is expanded. What is found on the way down to it is used, and
 /// each stream that is made on the way up is kept for its id.
 pub fn force<N: Nodes<St>, St: Store>(
     alloc: Global,

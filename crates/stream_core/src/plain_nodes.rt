@@ -47,12 +47,11 @@ fn stream_again<St: Store>(
 
 impl<'a, St: Store> PlainNodes<'a, St> {
     ghost use Rattle.std.specs.Prelude.{Some};
-    ghost use Rattle.kan_model.specs.Programs.Closed as programs;
-    ghost use Rattle.stream_core.specs.PlainTables.{plain_table};
+    ghost use Rattle.stream_core.specs.PlainTables.{plain_table, program_of};
 
     /// The empty table for a program.
     pub fn new(alloc: Global, program: &'a Program) -> PlainNodes<'a, St>
-        ensures program { (plain_table St.meaning result).program ≡ programs.meaning program.now }
+        ensures program { program_of result ≡ program.now }
         ensures empty { (plain_table St.meaning result).size ≡ Some 0 }
     {
         PlainNodes {
@@ -63,7 +62,7 @@ impl<'a, St: Store> PlainNodes<'a, St> {
 
     /// The program that the suspensions are of.
     pub fn program(&self) -> &'a Program
-        ensures { programs.meaning result.now ≡ (plain_table St.meaning self.now).program }
+        ensures { result.now ≡ program_of self.now }
     {
         self.program
     }

@@ -2,7 +2,7 @@
 
 ghost use Rattle.std.specs.Prelude.{◌≡◌, ◌+◌, ◌≤◌, ◌<◌, ◌^◌, length, List, [], ◌∷◌, map, true, option_map, IfSome, IfOk, OnOk};
 ghost use Rattle.std.specs.List.{list_all};
-ghost use Rattle.kan_model.specs.Programs.Goals.{Program};
+ghost use Rattle.kan_model.specs.Programs.Goals as goals;
 ghost use Rattle.kan_model.specs.Streams.Stream as model;
 ghost use Rattle.kan_model.specs.Streams.Running.{run};
 ghost use Rattle.kan_model.specs.Programs.Scope.{width, all_below, in_scope};
@@ -68,7 +68,7 @@ fn run_node<N: Nodes<St>, St: Store>(
         GoalNode::Either(left, right) => split_either(alloc, left, right, env, store, tasks),
         GoalNode::Fresh(count, body) => split_fresh(alloc, count, body, &env, &store, tasks),
         _ => {
-            let stream = atomic_stream(alloc, program, node, &env, store, nodes)?;
+            let stream = atomic_stream(alloc, program, node, env, store, nodes)?;
             values.push(stream)?;
             Ok(())
         }
@@ -83,7 +83,7 @@ fn append_top<N: Nodes<St>, St: Store>(
 ) -> Result<(), Memory>
     requires two { 2 ≤ length values.old.items }
     requires belong { Each (HasStream (N.table nodes.old)) values.old.items }
-    ensures becomes { OnOk result ((p : Program) (ts : List pending.Task) → Becomes p (pending.Task.append_two ∷ ts)
+    ensures becomes { OnOk result ((p : goals.Program) (ts : List pending.Task) → Becomes p (pending.Task.append_two ∷ ts)
         (streams_of (N.table nodes.old) St.meaning values.old.items) ts (streams_of (N.table nodes.new) St.meaning values.new.items)) }
     ensures belong { OnOk result (Each (HasStream (N.table nodes.new)) values.new.items) }
     ensures adds { OnlyAdds (N.table nodes.old) (N.table nodes.new) }
@@ -229,8 +229,7 @@ pub(crate) fn run_with<N: Nodes<St>, St: Store>(
     nodes: &mut N,
 ) -> Result<Stream<N::Id, St>, Memory>
     requires table { IsTableOf program.now (N.table nodes.old) }
-    requires there { goal < length (programs.goals program.now) }
-    requires slots { in_scope (length (terms_of env)) (programs.goal program.now goal) ≡ true }
+    requires is { IsOf (programs.meaning program.now) (programs.goal program.now goal) (terms_of env) }
     requires below { list_all (all_below (St.meaning store).counter) (terms_of env) ≡ true }
     requires room { (St.meaning store).counter ≤ 2 ^ 62 }
     ensures made { IfOk result (λ made. stream_in (N.table nodes.new) St.meaning made ≡ run (programs.goal program.now goal) (terms_of env) (St.meaning store)) }

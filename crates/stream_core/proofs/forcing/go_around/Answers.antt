@@ -1,43 +1,25 @@
-use Rattle.std.proofs.Common.{ap, subst, map}
-use Rattle.std.specs.Prelude.{IfSome, option_map}
-use Rattle.kan_model.specs.Programs.Environments.{terms_of}
-use Rattle.kan_model.specs.Programs.Closed as programs
-use Rattle.stream_core.specs.InnerSuspensions.{inner_of}
-use Rattle.stream_core.specs.Suspensions as standing
-use Rattle.stream_core.proofs.ClosedLaws.{program-closed}
-use Rattle.stream_core.proofs.ForceLaws.{climb-binds}
-use Rattle.stream_core.proofs.StreamLaws.{heads-going}
-use Rattle.stream_core.proofs.forcing.climb.Goals as goal
+use Rattle.stream_core.proofs.ForceLaws.{around-binds, bound-force, swapped-force, no-around}
+use Rattle.stream_core.proofs.forcing.go_around.Goals as goal
 
-pub bind_all-requires-clause-is : goal.bind_all-requires-clause-is
-bind_all-requires-clause-is g c =
-    let p = c.args.program.now in
-    let means = g.St.Store.meaning in
-    let tree = (g.N.Nodes.table c.args.nodes.now).tree in
-    let is_force = standing.ForceOf (g.N.Nodes.table c.args.nodes.now).belongs tree means (programs.meaning p) (inner_of (standing.thunk tree means (programs.goal p) c.args.thunk)) in
-    let made = subst (λ o. IfSome o is_force) c.in-Some-inside.is c.requires.inside in
-    (climb-binds (programs.meaning p) (programs.goal p c.in-Bind.goal) (terms_of c.in-Bind.env) _ _ _ (map means c.in-Some-inside.stream.heads) (program-closed p c.requires.table.small)
-    (ap (standing.thunk tree means (programs.goal p)) c.in-Bind.is) c.requires.may made.1
-    (heads-going (map means c.in-Some-inside.stream.heads) (option_map tree c.in-Some-inside.stream.tail))).is
+pub bind_with-requires-clause-is : goal.bind_with-requires-clause-is
+bind_with-requires-clause-is g c =
+    (around-binds (g.N.Nodes.table c.args.nodes.now) c.args.program.now g.St.Store.meaning c.requires.table c.args.thunk c.in-Bind.goal c.in-Bind.env _ c.args.inside c.in-Bind.is c.requires.may c.requires.inside).is
 
-pub bind_all-requires-clause-room : goal.bind_all-requires-clause-room
-bind_all-requires-clause-room g c =
-    let p = c.args.program.now in
-    let means = g.St.Store.meaning in
-    let tree = (g.N.Nodes.table c.args.nodes.now).tree in
-    let is_force = standing.ForceOf (g.N.Nodes.table c.args.nodes.now).belongs tree means (programs.meaning p) (inner_of (standing.thunk tree means (programs.goal p) c.args.thunk)) in
-    let made = subst (λ o. IfSome o is_force) c.in-Some-inside.is c.requires.inside in
-    (climb-binds (programs.meaning p) (programs.goal p c.in-Bind.goal) (terms_of c.in-Bind.env) _ _ _ (map means c.in-Some-inside.stream.heads) (program-closed p c.requires.table.small)
-    (ap (standing.thunk tree means (programs.goal p)) c.in-Bind.is) c.requires.may made.1
-    (heads-going (map means c.in-Some-inside.stream.heads) (option_map tree c.in-Some-inside.stream.tail))).room
+pub bind_with-requires-clause-room : goal.bind_with-requires-clause-room
+bind_with-requires-clause-room g c =
+    (around-binds (g.N.Nodes.table c.args.nodes.now) c.args.program.now g.St.Store.meaning c.requires.table c.args.thunk c.in-Bind.goal c.in-Bind.env _ c.args.inside c.in-Bind.is c.requires.may c.requires.inside).room
 
-pub bind_all-requires-clause-below : goal.bind_all-requires-clause-below
-bind_all-requires-clause-below g c =
-    let p = c.args.program.now in
-    let means = g.St.Store.meaning in
-    let tree = (g.N.Nodes.table c.args.nodes.now).tree in
-    let is_force = standing.ForceOf (g.N.Nodes.table c.args.nodes.now).belongs tree means (programs.meaning p) (inner_of (standing.thunk tree means (programs.goal p) c.args.thunk)) in
-    let made = subst (λ o. IfSome o is_force) c.in-Some-inside.is c.requires.inside in
-    (climb-binds (programs.meaning p) (programs.goal p c.in-Bind.goal) (terms_of c.in-Bind.env) _ _ _ (map means c.in-Some-inside.stream.heads) (program-closed p c.requires.table.small)
-    (ap (standing.thunk tree means (programs.goal p)) c.in-Bind.is) c.requires.may made.1
-    (heads-going (map means c.in-Some-inside.stream.heads) (option_map tree c.in-Some-inside.stream.tail))).below
+pub bind_with-requires-clause-below : goal.bind_with-requires-clause-below
+bind_with-requires-clause-below g c =
+    (around-binds (g.N.Nodes.table c.args.nodes.now) c.args.program.now g.St.Store.meaning c.requires.table c.args.thunk c.in-Bind.goal c.in-Bind.env _ c.args.inside c.in-Bind.is c.requires.may c.requires.inside).below
+
+pub returns-in_ok-made-in-Bind-clause-made : goal.returns-in_ok-made-in-Bind-clause-made
+returns-in_ok-made-in-Bind-clause-made g c =
+    bound-force (g.N.Nodes.table c.args.nodes.now) c.args.program.now g.St.Store.meaning c.requires.table c.args.thunk c.in-Bind.goal c.in-Bind.env _ c.args.inside _ c.in-Bind.is c.requires.inside c.in_ok-made-in-Bind.ensures.made
+
+pub returns-in_ok-made-in-Swap-clause-made : goal.returns-in_ok-made-in-Swap-clause-made
+returns-in_ok-made-in-Swap-clause-made g c =
+    swapped-force (g.N.Nodes.table c.args.nodes.now) c.args.program.now g.St.Store.meaning c.requires.table c.args.thunk c.in-Swap.heads c.in-Swap.tail _ c.args.inside _ c.in-Swap.is c.requires.inside c.in_ok-made-in-Swap.ensures.made
+
+pub unreachable-requires : goal.unreachable-requires
+unreachable-requires g c = no-around (g.N.Nodes.table c.args.nodes.now) g.St.Store.meaning c.args.thunk c.requires.around c.in_default.not-Swap c.in_default.not-Bind

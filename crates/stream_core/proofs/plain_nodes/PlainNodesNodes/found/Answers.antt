@@ -1,4 +1,4 @@
-use Rattle.std.proofs.Common.{◌≡◌, length, arith, rules, ap, sym, ◌∙◌}
+use Rattle.std.proofs.Common.{◌≡◌, length, arith, rules, ap, ◌∙◌}
 use Rattle.std.specs.Vec.{vec_len}
 use Rattle.std.specs.Prelude.{is_some}
 use Rattle.kan_model.specs.Programs.Closed as programs
@@ -17,8 +17,8 @@ returns-in_ok-copy-in-Some-clause-force g c =
 
 pub returns-in_ok-copy-in-Some-clause-told : goal.returns-in_ok-copy-in-Some-clause-told
 returns-in_ok-copy-in-Some-clause-told g c =
-    sym (told-row c.args.self.now.rows.items c.args.id.now.at c.index.result.now (placed-within c.args.self.now.rows.items c.args.id.now (c.requires 0).0) c.index.ensures ∙ ap is_some c.in-Some.is)
+    (told-row c.args.self.now.rows.items c.args.id.now.at c.index.result.now (placed-within c.args.self.now.rows.items c.args.id.now (c.requires 0).0) c.index.ensures ∙ ap is_some c.in-Some.is)
 
 pub returns-in-None-clause-told : goal.returns-in-None-clause-told
 returns-in-None-clause-told g c =
-    sym (told-row c.args.self.now.rows.items c.args.id.now.at c.index.result.now (placed-within c.args.self.now.rows.items c.args.id.now (c.requires 0).0) c.index.ensures ∙ ap is_some c.in-None.is)
+    (told-row c.args.self.now.rows.items c.args.id.now.at c.index.result.now (placed-within c.args.self.now.rows.items c.args.id.now (c.requires 0).0) c.index.ensures ∙ ap is_some c.in-None.is)

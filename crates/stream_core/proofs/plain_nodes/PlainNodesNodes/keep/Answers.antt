@@ -3,7 +3,7 @@ use Rattle.std.specs.Prelude.{Some}
 use Rattle.std.specs.Vec.{vec_len}
 use Rattle.std.proofs.lemmas.List.{length-set}
 use Rattle.kan_model.specs.Programs.Closed as programs
-use Rattle.stream_core.proofs.PlainRowLaws.{placed-within, rows-kept, kept-more, force-stays}
+use Rattle.stream_core.proofs.PlainRowLaws.{placed-within, rows-kept, kept-more, kept-force}
 use Rattle.stream_core.proofs.plain_nodes.PlainNodesNodes.keep.Goals as goal
 
 pub index_mut-requires : goal.index_mut-requires
@@ -21,7 +21,8 @@ returns-clause-kept g c =
 
 pub returns-clause-force : goal.returns-clause-force
 returns-clause-force g c =
-    force-stays g.St.Store.meaning (programs.meaning c.args.self.now.program.now) _ _ _ _ _ c.args.stream (returns-clause-kept g c).ids c.requires.force
+    kept-force g.St.Store.meaning (programs.meaning c.args.self.now.program.now) c.args.self.now.rows.items c.args.id.now c.index_mut.result.now _ c.args.stream c.in_ok-copy.copy c.requires.belongs c.index_mut.ensures.value refl refl
+    c.in_ok-copy.ensures.tail c.in_ok-copy.ensures.heads c.requires.force
 
 pub returns-clause-size : goal.returns-clause-size
 returns-clause-size g c = ap Some (length-set _ _ _)

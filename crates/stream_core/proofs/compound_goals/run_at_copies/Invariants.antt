@@ -3,7 +3,7 @@ use Rattle.kan_model.specs.Programs.Goals.{Goal}
 use Rattle.kan_model.specs.Programs.Environments.{terms_of}
 use Rattle.stream_core.specs.Tasks as pending
 use Rattle.stream_core.specs.CodeTasks.{task, stack}
-use Rattle.stream_core.proofs.compound_goals.run_at_each.Given as goal
+use Rattle.stream_core.proofs.compound_goals.run_at_copies.Given as goal
 
 -- with a goal at each store that is left, the tasks are those with a goal at each store
 abbrev pub invariant-loop-store : goal.invariant-loop-store
