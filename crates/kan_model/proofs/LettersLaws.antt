@@ -1,8 +1,9 @@
 -- Letters of the terms that wait on a stack, and terms from their letters.
-use Rattle.std.proofs.Common.{◌≡◌, ℕ, List, [], ◌∷◌, ◌++◌, length, ◌<◌, refl, sym, ◌∙◌, ap, ap₂, append_assoc, append-nil, Option, Some, None, arith, Bool, true, false}
+use Rattle.std.proofs.Common.{◌≡◌, ℕ, List, [], ◌∷◌, ◌++◌, length, ◌<◌, refl, sym, ◌∙◌, ap, ap₂, append_assoc, append-nil, Option, Some, None, is_some, IsSome, IfOk, Result, Ok, Err, subst, arith, Bool, true, false}
 use Rattle.std.specs.Prelude.{eqb, ◌||◌, IsTrue}
 use Rattle.std.specs.List.{list_any, flat_map}
-use Rattle.std.proofs.lemmas.Bool.{eqb-true, eq-eqb}
+use Rattle.std.specs.Option.{option_to_list}
+use Rattle.std.proofs.lemmas.Bool.{eqb-true, eq-eqb, true≢false}
 use Rattle.std.proofs.lemmas.Bool.Decides.{Decides-int_eq}
 use Rattle.std.proofs.lemmas.List.Folds.{list_any-append}
 use Rattle.std.proofs.lemmas.Grind.{flat_map-append}
@@ -15,7 +16,7 @@ use Rattle.kan_terms.specs.Terms.{tree}
 use Rattle.kan_terms.specs.declared.terms.Term.{Term}
 use Rattle.kan_model.specs.declared.letters.Letter.{Letter}
 use Rattle.kan_model.specs.declared.letters.Letter.TheVariants.{Pair, Var, Sym, Str, Num, Truth, Nil}
-use Rattle.kan_model.specs.Terms.Letters.{letter_of, spelling, waiting_spelling, only_one, stack_terms, Gives, IsAtomOf, join_two, put_letter, put_letter_on, built_from, is_letter_of, letter_eq, splice}
+use Rattle.kan_model.specs.Terms.Letters.{letter_of, spelling, waiting_spelling, only_one, term_of, stack_terms, IsAtomOf, join_two, put_letter, put_letter_on, built_from, is_letter_of, letter_eq, splice}
 
 -- a term put on top is spelled first
 pub waiting-push : (ts : List (Bor Term)) (t : Bor Term) → waiting_spelling (ts ++ t ∷ []) ≡ spelling (tree t.now) ++ waiting_spelling ts
@@ -89,11 +90,16 @@ pub built_step : (letters rest : List Letter) (x : Letter) (old new : List Tm) (
 built_step letters rest x old new whole split kept put =
     sym (ap (built_on rest) put) ∙ sym (built_from-append rest (x ∷ []) old) ∙ ap (λ xs. built_from xs old) (sym split) ∙ kept
 
--- a letter that doesn't fit leaves nothing
-pub built_stop : (letters rest : List Letter) (x : Letter) (old : List Tm) (whole : Option (List Tm)) →
-    letters ≡ rest ++ x ∷ [] → built_from letters old ≡ whole → put_letter x old ≡ None → whole ≡ None
-built_stop letters rest x old whole split kept put =
-    sym kept ∙ ap (λ xs. built_from xs old) split ∙ built_from-append rest (x ∷ []) old ∙ ap (built_on rest) put
+-- the last letter fits, where the letters spell one term
+pub letter_fits : (letters rest whole : List Letter) (x : Letter) (old : List Tm) →
+    letters ≡ rest ++ x ∷ [] → built_from letters old ≡ built_from whole [] → IsSome (term_of whole) → IsSome (put_letter x old)
+letter_fits letters rest whole x old split kept spells = by (put_letter x old) refl
+  where
+    by : (r : Option (List Tm)) → put_letter x old ≡ r → IsSome r
+    by None e =
+        let none : built_from whole [] ≡ None = sym kept ∙ ap (λ xs. built_from xs old) split ∙ built_from-append rest (x ∷ []) old ∙ ap (built_on rest) e in
+        subst IsSome (ap only_one none) spells
+    by (Some ts) e = refl
 
 -- the two terms on top made a pair
 pub joins_top : (old mid low new : List Term) (a b t : Term) →
@@ -106,29 +112,48 @@ pub puts_atom : (old new : List Term) (x : Letter) (t : Term) →
     new ≡ old ++ t ∷ [] → IsAtomOf x (Some (tree t)) → put_letter x (stack_terms old) ≡ Some (stack_terms new)
 puts_atom old new x t put is_atom = rw (put, stack-push) (is_atom (stack_terms old))
 
--- what a stack of one term has, and one of several
-pub only_top : (old rest : List Term) (t : Term) → old ≡ rest ++ t ∷ [] → rest ≡ [] → Some (tree t) ≡ only_one (Some (stack_terms old))
-only_top old rest t split none = rw (split, none) refl
+-- the item that is taken off a list was its last one
+pub last_off : {A : Type 0} (r : Option A) (x : A) (old new : List A) → r ≡ Some x → old ≡ new ++ option_to_list r → old ≡ new ++ x ∷ []
+last_off r x old new e h = h ∙ ap (λ o. new ++ option_to_list o) e
 
-not_alone : (us : List Tm) (a b : Tm) → only_one (Some (a ∷ (us ++ b ∷ []))) ≡ None
-not_alone [] a b = refl
-not_alone (u ∷ us) a b = refl
+-- terms to be joined are there
+pub top_there : (old : List Term) → IsSome (join_two (stack_terms old)) → 0 < length old
+top_there [] two = absurd (true≢false (sym two))
+top_there (t ∷ ts) two = omega arith
 
-pub only_more : (old rest : List Term) (t : Term) → old ≡ rest ++ t ∷ [] → (rest ≡ [] → ⊥) → None ≡ only_one (Some (stack_terms old))
-only_more old [] t split some = absurd (some refl)
-only_more old (u ∷ us) t split some = sym (ap (λ xs. only_one (Some (stack_terms xs))) split ∙ ap (λ xs. only_one (Some xs)) (stack-push (u ∷ us) t) ∙ not_alone (stack_terms us) (tree t) (tree u))
+pub next_there : (old rest : List Term) (a : Term) → old ≡ rest ++ a ∷ [] → IsSome (join_two (stack_terms old)) → 0 < length rest
+next_there old [] a split two = absurd (none (subst (λ ts. IsSome (join_two (stack_terms ts))) split two))
+  where
+    none : IsSome (join_two (tree a ∷ [])) → ⊥
+    none two = true≢false (sym two)
+next_there old (t ∷ ts) a split two = omega arith
 
-pub only_none : (old : List Term) → old ≡ [] → None ≡ only_one (Some (stack_terms old))
-only_none old none = rw none refl
+-- the one term of a stack is on its top
+pub last_there : (old : List Term) → IsSome (only_one (Some (stack_terms old))) → 0 < length old
+last_there [] one = absurd (true≢false (sym one))
+last_there (t ∷ ts) one = omega arith
 
--- what a test says of terms that may be there
-pub gives_some : (r : Option (List Tm)) (fits : Bool) (found : List Tm) → Gives r fits found → fits ≡ true → r ≡ Some found
-gives_some r true found g e = g
-gives_some r false found g e = cc
+pub last_is : (old rest : List Term) (t : Term) → old ≡ rest ++ t ∷ [] → IsSome (only_one (Some (stack_terms old))) → only_one (Some (stack_terms old)) ≡ Some (tree t)
+last_is old rest t split one = by (stack_terms rest) (ap only_one (ap Some (ap stack_terms split ∙ stack-push rest t)))
+  where
+    by : (ts : List Tm) → only_one (Some (stack_terms old)) ≡ only_one (Some (tree t ∷ ts)) → only_one (Some (stack_terms old)) ≡ Some (tree t)
+    by [] e = e
+    by (u ∷ ts) e = absurd (none (subst IsSome e one))
+      where
+        none : IsSome {T = Tm} None → ⊥
+        none one = true≢false (sym one)
 
-pub gives_none : (r : Option (List Tm)) (fits : Bool) (found : List Tm) → Gives r fits found → fits ≡ false → r ≡ None
-gives_none r true found g e = cc
-gives_none r false found g e = g
+-- what is left when all letters are taken
+pub built_there : (letters whole : List Letter) (old : List Term) →
+    letters ≡ [] → built_from letters (stack_terms old) ≡ built_from whole [] → IsSome (term_of whole) → 0 < length old
+built_there letters whole old none kept spells =
+    last_there old (subst IsSome (ap only_one (sym kept ∙ ap (λ xs. built_from xs (stack_terms old)) none)) spells)
+
+pub built_last : (letters whole : List Letter) (old rest : List Term) (t : Term) →
+    letters ≡ [] → built_from letters (stack_terms old) ≡ built_from whole [] → IsSome (term_of whole) → old ≡ rest ++ t ∷ [] → term_of whole ≡ Some (tree t)
+built_last letters whole old rest t none kept spells split =
+    let same : term_of whole ≡ only_one (Some (stack_terms old)) = ap only_one (sym kept ∙ ap (λ xs. built_from xs (stack_terms old)) none) in
+    same ∙ last_is old rest t split (subst IsSome same spells)
 
 -- the test of letters is exact
 pub letter_eq-true : (x y : Letter) → letter_eq x y ≡ true → x ≡ y
@@ -185,10 +210,21 @@ spelling-apply s Tree.nil = refl
 spelling-apply s (Tree.pair a b) =
     ap (λ w. Pair ∷ w) (flat_map-append (splice s) (spelling a) (spelling b) ∙ ap₂ (λ l r. l ++ r) (spelling-apply s a) (spelling-apply s b))
 
--- what is built from spliced letters
-pub applied_is : (s : Replacement) (t : Tm) (letters made : List Letter) (r : Option Tm) (u : Tm) →
-    letters ≡ spelling t → made ≡ flat_map (splice s) letters → r ≡ only_one (built_from made []) → r ≡ Some u → u ≡ apply s t
-applied_is s t letters made r u l m built some =
-    let whole : made ≡ spelling (apply s t) = m ∙ ap (flat_map (splice s)) l ∙ spelling-apply s t in
-    let same : Some u ≡ Some (apply s t) = sym some ∙ built ∙ ap (λ w. only_one (built_from w [])) whole ∙ ap only_one (built_from-spelling (apply s t) []) in
-    cc
+-- the letters of a term spell it
+pub term_of-spelling : (t : Tm) → term_of (spelling t) ≡ Some t
+term_of-spelling t = ap only_one (built_from-spelling t [])
+
+pub spells_one : (t : Tm) (letters : List Letter) → letters ≡ spelling t → IsSome (term_of letters)
+spells_one t letters e = ap is_some (ap term_of e ∙ term_of-spelling t)
+
+pub spelled_is : (t u : Tm) (letters : List Letter) → letters ≡ spelling t → term_of letters ≡ Some u → u ≡ t
+spelled_is t u letters e made = let same : Some u ≡ Some t = sym made ∙ ap term_of e ∙ term_of-spelling t in cc
+
+pub spelled_ok : {E : Type 0} (r : Result Term E) (t : Tm) (letters : List Letter) → letters ≡ spelling t →
+    IfOk r (λ made. term_of letters ≡ Some (tree made)) → IfOk r (λ made. tree made ≡ t)
+spelled_ok (Ok u) t letters e h = spelled_is t (tree u) letters e h
+spelled_ok (Err m) t letters e h = tt
+
+-- spliced letters spell the term under the replacement
+pub applied_spells : (s : Replacement) (t : Tm) (letters made : List Letter) → letters ≡ spelling t → made ≡ flat_map (splice s) letters → made ≡ spelling (apply s t)
+applied_spells s t letters made l m = m ∙ ap (flat_map (splice s)) l ∙ spelling-apply s t

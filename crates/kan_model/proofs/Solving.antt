@@ -5,3 +5,5 @@ pub mod UnifierLaws
 pub mod VariableCount
 pub mod WorkLaws
 pub mod ConstraintExamples
+pub mod FreshLaws
+pub mod CompositionLaws

@@ -5,3 +5,4 @@ pub mod Solve
 pub mod Kept
 pub mod Unifiers
 pub mod Calls
+pub mod Composition

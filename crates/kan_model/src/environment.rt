@@ -147,9 +147,6 @@ impl Env {
         ensures { IfOk result (λ made. tree made ≡ instance (terms_of self.now) (programs.template program.now term)) }
     {
         let letters = self.spelled(alloc, program, term)?;
-        match build(alloc, letters)? {
-            Some(made) => Ok(made),
-            None => Err(Memory),
-        }
+        build(alloc, letters)
     }
 }

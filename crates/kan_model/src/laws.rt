@@ -4,6 +4,7 @@ ghost use Rattle.kan_model.specs.Meaning.Derivations.{SpelledOnce, TestIsFamily}
 ghost use Rattle.kan_model.specs.Answers.Decimals.{DecimalAsPrinted};
 ghost use Rattle.kan_model.specs.Answers.InForm.{AnswerInForm, FormIsSolved};
 ghost use Rattle.kan_model.specs.Streams.Stream.{AppendEmpty};
+ghost use Rattle.kan_model.specs.Stores.Composition.{FreshIsKept, SolverGoesOn};
 ghost use Rattle.kan_model.specs.Stores.Unifiers.{AnswerMostGeneral, AnswerUnifies, AppliedTwice, FactorsUnify, ReplacedIsGone};
 
 /// What the solver answers is a unifier of its equations.
@@ -34,6 +35,18 @@ pub fn replaced_variables_are_gone()
 #[tactic(auto, using(crate::proofs::Solving::ReplacedLaws::applied_twice))]
 pub fn twice_is_once()
     ensures { AppliedTwice }
+{}
+
+/// Equations in two pieces are solved one piece after the other.
+#[tactic(auto, using(crate::proofs::Solving::CompositionLaws::solver_goes_on))]
+pub fn solver_goes_on()
+    ensures { SolverGoesOn }
+{}
+
+/// A kept store stays kept where its next variable is made equal to a term of those before it.
+#[tactic(auto, using(crate::proofs::Solving::FreshLaws::fresh_is_kept))]
+pub fn fresh_equations_are_kept()
+    ensures { FreshIsKept }
 {}
 
 /// The empty stream in front of another one changes nothing.

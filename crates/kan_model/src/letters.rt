@@ -1,10 +1,10 @@
 //! Terms as lists of letters, so that plain code works on lists and never recurses on a term's depth.
 
-ghost use Rattle.std.specs.Prelude.{◌≡◌, [], ◌∷◌, ◌++◌, IfOk, OnOk, option_map, IsTrue, ◌↔◌};
+ghost use Rattle.std.specs.Prelude.{◌≡◌, [], ◌∷◌, ◌++◌, IfOk, OnOk, IsSome, Some, option_map, IsTrue, ◌↔◌};
 ghost use Rattle.std.specs.List.{list_any};
 ghost use Rattle.kan_terms.specs.Tree.{term_eq, occurs};
 ghost use Rattle.kan_terms.specs.Terms.{tree};
-ghost use Rattle.kan_model.specs.Terms.Letters.{spelling, letter_of, waiting_spelling, IsAtomOf, Gives, join_two, stack_terms, put_letter, only_one, built_from, is_letter_of, letter_eq};
+ghost use Rattle.kan_model.specs.Terms.Letters.{spelling, letter_of, waiting_spelling, IsAtomOf, join_two, stack_terms, put_letter, term_of, is_letter_of, letter_eq};
 
 use kan_terms::{Memory, Term};
 use std::alloc::Global;
@@ -83,53 +83,41 @@ fn atom(letter: Letter) -> Option<Term>
     }
 }
 
-// Makes a pair of the two terms on top of the stack, where there are two.
-fn join_top(alloc: Global, stack: &mut Vec<Term>) -> Result<bool, Memory>
-    ensures { IfOk result (λ fits. Gives (join_two (stack_terms stack.old.items)) fits (stack_terms stack.new.items)) }
+// Makes a pair of the two terms on top of the stack.
+fn join_top(alloc: Global, stack: &mut Vec<Term>) -> Result<(), Memory>
+    requires { IsSome (join_two (stack_terms stack.old.items)) }
+    ensures { OnOk result (join_two (stack_terms stack.old.items) ≡ Some (stack_terms stack.new.items)) }
 {
-    let Some(first) = stack.pop() else {
-        return Ok(false);
-    };
-    let Some(rest) = stack.pop() else {
-        return Ok(false);
-    };
+    let first = stack.pop().unwrap();
+    let rest = stack.pop().unwrap();
     stack.push(Term::pair(alloc, first, rest)?)?;
-    Ok(true)
+    Ok(())
 }
 
 // Puts the term of a letter on the stack, where a pair takes the two on top.
-fn put_on_stack(alloc: Global, letter: Letter, stack: &mut Vec<Term>) -> Result<bool, Memory>
-    ensures { IfOk result (λ fits. Gives (put_letter letter (stack_terms stack.old.items)) fits (stack_terms stack.new.items)) }
+fn put_on_stack(alloc: Global, letter: Letter, stack: &mut Vec<Term>) -> Result<(), Memory>
+    requires { IsSome (put_letter letter (stack_terms stack.old.items)) }
+    ensures { OnOk result (put_letter letter (stack_terms stack.old.items) ≡ Some (stack_terms stack.new.items)) }
 {
     match atom(letter) {
         None => join_top(alloc, stack),
         Some(term) => {
             stack.push(term)?;
-            Ok(true)
+            Ok(())
         }
     }
 }
 
-// The one term of a stack.
-fn only(mut stack: Vec<Term>) -> Option<Term>
-    ensures { option_map tree result ≡ only_one (Some (stack_terms stack.items)) }
-{
-    let last = stack.pop()?;
-    if stack.is_empty() { Some(last) } else { None }
-}
-
-/// The term that letters spell, where they spell one and nothing after it.
-pub fn build(alloc: Global, mut letters: Vec<Letter>) -> Result<Option<Term>, Memory>
-    ensures { IfOk result (λ made. option_map tree made ≡ only_one (built_from letters.items [])) }
+/// The term that letters spell.
+pub fn build(alloc: Global, mut letters: Vec<Letter>) -> Result<Term, Memory>
+    requires { IsSome (term_of letters.items) }
+    ensures { IfOk result (λ made. term_of letters.items ≡ Some (tree made)) }
 {
     let mut stack = Vec::new(alloc);
     while let Some(letter) = letters.pop() {
-        let fits = put_on_stack(alloc, letter, &mut stack)?;
-        if !fits {
-            return Ok(None);
-        }
+        put_on_stack(alloc, letter, &mut stack)?;
     }
-    Ok(only(stack))
+    Ok(stack.pop().unwrap())
 }
 
 // Whether two letters are the same.

@@ -1,8 +1,8 @@
 -- What the plain store's equations are, and that equations alone are kept exactly where they have an answer.
-use Rattle.std.proofs.Common.{◌≡◌, ℕ, Bool, true, false, List, [], ◌∷◌, ◌++◌, map, reverse, refl, sym, ◌∙◌, ap, ap₂, subst, lt-ltb, ltb-true, arith, append_assoc, append-nil, eqb, take, get_or, length, ◌<◌, ◌+◌, Option, Some, None, true≢false}
+use Rattle.std.proofs.Common.{◌≡◌, ℕ, Bool, true, false, List, [], ◌∷◌, ◌++◌, map, reverse, refl, sym, ◌∙◌, ap, ap₂, subst, lt-ltb, ltb-true, arith, eqb, take, get_or, length, ◌<◌, ◌+◌, Option, Some, None, true≢false}
 use Rattle.std.specs.Prelude.{◌&&◌, Contains, unwrap_or}
-use Rattle.std.specs.List.{list_all, list_any}
-use Rattle.std.proofs.lemmas.List.{map-append, map_push, reverse-append, take_more}
+use Rattle.std.specs.List.{list_all}
+use Rattle.std.proofs.lemmas.List.{map_push, reverse-reverse, take_more}
 use Rattle.kan_terms.specs.Tree.{Tree, Tm, term_eq}
 use Rattle.kan_terms.proofs.TreeLaws.{term_eq-true, eq-term_eq}
 use Rattle.std.proofs.lemmas.Bool.{eqb-true, eq-eqb}
@@ -16,7 +16,6 @@ use Rattle.kan_model.proofs.Solving.ReplacedLaws.{applied_twice}
 use Rattle.kan_terms.specs.Terms.{tree}
 use Rattle.kan_terms.specs.declared.terms.Term.{Term}
 use Rattle.std.specs.Borrow.{Bor}
-use Rattle.std.proofs.lemmas.List.Elements.{All-nil}
 use Rattle.kan_model.specs.Stores.Prims.{prim as primitive}
 use Rattle.kan_model.specs.declared.prims.Asserted.{Asserted}
 use Rattle.kan_model.specs.Stores.Kept.{is_kept, holds_with, holds_under, allows, gives_one_type, gives_type, has_type}
@@ -24,42 +23,20 @@ use Rattle.kan_model.specs.declared.prims.Kind.{Kind}
 use Rattle.kan_model.specs.declared.prims.Kind.TheVariants.{Symbol, Number, Text}
 use Rattle.kan_model.specs.Answers.Answer.{same_form, same_pair, has_absence}
 use Rattle.kan_model.specs.Stores.Calls.{is_equation, is_answer, answer, kind_at, AreTags, AreDifferences, differences, IsFoundFor, WalksTo}
-use Rattle.kan_plain.specs.Solving.{backwards, on_stack, IsImage}
+use Rattle.kan_plain.specs.Solving.{on_stack, IsImage}
+use Rattle.kan_model.proofs.Solving.FreshLaws.{equations-append}
 use Rattle.kan_model.specs.Stores.Prims.{equation}
-
--- the equations of two lists
-pub equations-append : (ps qs : List (Primitive Tm)) → equations (ps ++ qs) ≡ equations ps ++ equations qs
-equations-append [] qs = refl
-equations-append (Primitive.same a b ∷ ps) qs = ap (λ es. record { left = a; right = b } ∷ es) (equations-append ps qs)
-equations-append (Primitive.differ a b ∷ ps) qs = equations-append ps qs
-equations-append (Primitive.symbol a ∷ ps) qs = equations-append ps qs
-equations-append (Primitive.number a ∷ ps) qs = equations-append ps qs
-equations-append (Primitive.text a ∷ ps) qs = equations-append ps qs
-equations-append (Primitive.absent tag a ∷ ps) qs = equations-append ps qs
+use Rattle.kan_plain.proofs.SolvingSteps.{map-reverse}
 
 -- the equations of a list with one primitive more
 pub equations-push : (ps : List (Primitive Tm)) (p : Primitive Tm) (listed : List Equation) (longer : List Equation) →
     listed ≡ equations ps → longer ≡ listed ++ equations (p ∷ []) → longer ≡ equations (ps ++ p ∷ [])
 equations-push ps p listed longer so_far grown = grown ∙ ap (λ es. es ++ equations (p ∷ [])) so_far ∙ sym (equations-append ps (p ∷ []))
 
-backwards-append : {X : Type 0} (xs ys : List X) → backwards (xs ++ ys) ≡ backwards ys ++ backwards xs
-backwards-append [] ys = sym (append-nil (backwards ys))
-backwards-append (x ∷ xs) ys = ap (λ zs. zs ++ x ∷ []) (backwards-append xs ys) ∙ append_assoc (backwards ys) (backwards xs) (x ∷ [])
-
--- a list from its end, reversed, is the list
-backwards-reverse : {X : Type 0} (xs : List X) → backwards (reverse xs) ≡ xs
-backwards-reverse [] = refl
-backwards-reverse (x ∷ xs) = ap backwards (reverse-append (x ∷ []) xs) ∙ backwards-append (reverse xs) (x ∷ []) ∙ ap (λ zs. x ∷ zs) (backwards-reverse xs)
-
-map-reverse : {X Y : Type 0} (f : X → Y) (xs : List X) → map f (reverse xs) ≡ reverse (map f xs)
-map-reverse f [] = refl
-map-reverse f (x ∷ xs) =
-    ap (map f) (reverse-append (x ∷ []) xs) ∙ map-append f (reverse xs) (x ∷ []) ∙ ap (λ ys. ys ++ f x ∷ []) (map-reverse f xs) ∙ sym (reverse-append (f x ∷ []) (map f xs))
-
 -- a reversed list is a stack with its first equation on top
 pub stacked-reverse : (listed pending : List TermPair) (es : List Equation) → map equation listed ≡ es → pending ≡ reverse listed → on_stack pending ≡ es
 stacked-reverse listed pending es so_far turned =
-    ap on_stack turned ∙ ap backwards (map-reverse equation listed) ∙ backwards-reverse (map equation listed) ∙ so_far
+    ap on_stack turned ∙ ap reverse (map-reverse equation listed) ∙ reverse-reverse (map equation listed) ∙ so_far
 
 and-split : (a b : Bool) → (a && b) ≡ true → (a ≡ true) × (b ≡ true)
 and-split true true e = (refl, refl)

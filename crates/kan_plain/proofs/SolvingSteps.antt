@@ -1,11 +1,12 @@
 -- How many steps solving takes, and what each step leaves.
-use Rattle.std.proofs.Common.{◌≡◌, ℕ, suc, Bool, ◌<◌, List, [], ◌∷◌, ◌++◌, map, refl, sym, ◌∙◌, ap, subst, Option, Some, None, option_map, arith, true, false, true≢false}
-use Rattle.std.proofs.lemmas.List.{map_push, map-append}
+use Rattle.std.proofs.Common.{◌≡◌, ℕ, suc, Bool, ◌<◌, List, [], ◌∷◌, ◌++◌, map, reverse, refl, sym, ◌∙◌, ap, subst, Option, Some, None, option_map, arith, true, false, true≢false}
+use Rattle.std.proofs.lemmas.List.{map_push, map-append, reverse-append}
 use Rattle.kan_terms.specs.Tree.{Tm}
 use Rattle.kan_terms.specs.declared.terms.TermPair.{TermPair}
 use Rattle.kan_model.specs.Stores.Store.{Equation}
 use Rattle.kan_model.specs.Stores.Solve.{Replacement, Work, Solves, work, put_first, replace_sides, solve, left_first}
-use Rattle.kan_plain.specs.Solving.{backwards, on_stack, put_all_first, apply_sides, StepTo}
+use Rattle.kan_plain.specs.Solving.{on_stack, put_all_first, StepTo}
+use Rattle.kan_model.specs.Stores.Composition.{apply_sides}
 use Rattle.kan_model.specs.Stores.Prims.{equation}
 use Rattle.kan_model.proofs.Solving.SolveLaws.{solve_by-Solves, solve_by-identical, solve_by-parts, solve_by-substitute, solve_by-clash, solve_by-nothing}
 use Rattle.kan_plain.proofs.SolvingLaws.{finished-push}
@@ -71,16 +72,13 @@ steps_substitute e x t es h =
     omega (arith, same)
 
 -- the top of a stack comes first
-pub backwards-push : {X : Type 0} (xs : List X) (x : X) → backwards (xs ++ x ∷ []) ≡ x ∷ backwards xs
-backwards-push [] x = refl
-backwards-push (y ∷ ys) x = ap (λ zs. zs ++ y ∷ []) (backwards-push ys x)
-
 pub stacked-push : (pending : List TermPair) (e : TermPair) → on_stack (pending ++ e ∷ []) ≡ equation e ∷ on_stack pending
-stacked-push pending e = ap backwards (map_push equation pending e) ∙ backwards-push (map equation pending) (equation e)
+stacked-push pending e = ap reverse (map_push equation pending e) ∙ reverse-append (map equation pending) (equation e ∷ [])
 
-pub backwards-map : {X Y : Type 0} (f : X → Y) (xs : List X) → backwards (map f xs) ≡ map f (backwards xs)
-backwards-map f [] = refl
-backwards-map f (x ∷ xs) = ap (λ ys. ys ++ f x ∷ []) (backwards-map f xs) ∙ sym (map-append f (backwards xs) (x ∷ []))
+pub map-reverse : {X Y : Type 0} (f : X → Y) (xs : List X) → map f (reverse xs) ≡ reverse (map f xs)
+map-reverse f [] = refl
+map-reverse f (x ∷ xs) =
+    ap (map f) (reverse-append (x ∷ []) xs) ∙ map-append f (reverse xs) (x ∷ []) ∙ ap (λ ys. ys ++ f x ∷ []) (map-reverse f xs) ∙ sym (reverse-append (f x ∷ []) (map f xs))
 
 -- a step keeps the whole answer, and leaves fewer steps
 pub step_keeps : (e : Equation) (es es' : List Equation) (ms ms' : Replacement) (goes_on : Bool) →
@@ -143,7 +141,7 @@ loop_ends old ms r whole none all kept =
 -- a replacement that goes through a stack
 pub stacked-apply : (x : ℕ) (t : Tm) (after pending : List TermPair) →
     map equation after ≡ map (apply_sides (record { var = x; by = t } ∷ [])) (map equation pending) → on_stack after ≡ map (replace_sides x t) (on_stack pending)
-stacked-apply x t after pending h = ap backwards h ∙ backwards-map (replace_sides x t) (map equation pending)
+stacked-apply x t after pending h = ap reverse h ∙ sym (map-reverse (replace_sides x t) (map equation pending))
 
 -- the two equations of a pair on the stack
 pub parts_step : (old mid new : List TermPair) (first rest : TermPair) (ms : Replacement) (w : Work) →

@@ -1,5 +1,5 @@
 -- What the equations and replacements of the plain solver stand for.
-use Rattle.std.specs.Prelude.{◌≡◌, ℕ, Bool, true, false, List, [], ◌∷◌, ◌++◌, Option, Some, None, map, option_map}
+use Rattle.std.specs.Prelude.{◌≡◌, ℕ, Bool, true, false, List, [], ◌∷◌, ◌++◌, Option, Some, None, map, reverse, option_map}
 use Rattle.std.specs.Borrow.{Bor}
 use Rattle.kan_terms.specs.Tree.{Tree}
 use Rattle.kan_terms.specs.Terms.{tree}
@@ -15,14 +15,9 @@ use Rattle.kan_plain.specs.declared.solving.Work.TheVariants.{Identical, Parts, 
 abbrev pub replaced_by : Replaced → spec.Replaced
 replaced_by r = record { var = r.var; by = tree r.by }
 
--- a list from its end
-abbrev pub backwards : {X : Type 0} → List X → List X
-backwards [] = []
-backwards (x ∷ xs) = backwards xs ++ x ∷ []
-
 -- the equations on a stack, the top first
 abbrev pub on_stack : List TermPair → List Equation
-on_stack pending = backwards (map equation pending)
+on_stack pending = reverse (map equation pending)
 
 -- what was found for a variable is its image, and a variable for which nothing was found is its own
 abbrev pub IsImage : spec.Replacement → ℕ → Option (Bor Term) → Type 0
@@ -35,10 +30,6 @@ work_of Identical = spec.Work.identical
 work_of (Parts first rest) = spec.Work.parts (equation first) (equation rest)
 work_of (Substitute var by) = spec.Work.substitute var (tree by)
 work_of Clash = spec.Work.clash
-
--- an equation under a replacement
-abbrev pub apply_sides : spec.Replacement → Equation → Equation
-apply_sides s e = record { left = spec.apply s e.left; right = spec.apply s e.right }
 
 -- an answer, with the replacements that were made before it put in front
 abbrev pub put_all_first : spec.Replacement → Option spec.Replacement → Option spec.Replacement

@@ -11,8 +11,8 @@ ghost use Rattle.kan_model.specs.Stores.Prims.{prim as primitive};
 ghost use Rattle.kan_plain.specs.Solving.{replaced_by, on_stack};
 ghost use Rattle.kan_model.specs.Stores.Prims.{equation};
 
-use kan_model::{Kind, Prim as Asserted, Store, copied};
 use crate::solving::{Replaced, copied_answer, found, solve};
+use kan_model::{Kind, Prim as Asserted, Store, copied};
 use kan_terms::{ListOf, Memory, PairLists, Tags, Term, TermPair};
 use std::alloc::Global;
 

@@ -6,7 +6,8 @@ ghost use Rattle.kan_terms.specs.Terms.{tree};
 ghost use Rattle.kan_terms.specs.Tree.{Tree};
 ghost use Rattle.kan_model.specs.Terms.Letters.{spelling, splice};
 ghost use Rattle.kan_model.specs.Stores.Solve as spec;
-ghost use Rattle.kan_plain.specs.Solving.{replaced_by, IsImage, work_of, apply_sides, put_all_first, on_stack, StepTo};
+ghost use Rattle.kan_plain.specs.Solving.{replaced_by, IsImage, work_of, put_all_first, on_stack, StepTo};
+ghost use Rattle.kan_model.specs.Stores.Composition.{apply_sides};
 ghost use Rattle.kan_model.specs.Stores.Prims.{equation};
 
 use kan_model::{Letter, build, occurs_in, same_terms, spell};
@@ -90,10 +91,7 @@ pub fn apply(alloc: Global, replacement: &[Replaced], term: &Term) -> Result<Ter
 {
     let letters = spell(alloc, term)?;
     let made = splice_all(alloc, replacement, &letters)?;
-    match build(alloc, made)? {
-        Some(term) => Ok(term),
-        None => Err(Memory),
-    }
+    build(alloc, made)
 }
 
 // What is to be done with an equation.

@@ -1,6 +1,7 @@
 -- The definitions, computed on examples.
 use Rattle.std.specs.Prelude.{◌≡◌, true, false, [], ◌∷◌, Some, codes, refl}
-use Rattle.kan_terms.specs.Tree.{Tree, Tm, Gd, leaves, has_leaf, has_symbol, ground_eq, occurs, size}
+use Rattle.kan_terms.specs.Tree.{Tree, Tm, Gd, leaves, has_symbol, ground_eq, occurs, size}
+use Rattle.kan_terms.specs.Greatest.{greatest_in}
 use Rattle.kan_terms.specs.Valuations.{value}
 use Rattle.kan_terms.specs.Bound.{bound_to}
 use Rattle.kan_terms.specs.Table.{number_of, interned, no_names, with_symbol, with_string, is_string_text}
@@ -63,5 +64,5 @@ example-allowed = refl
 example-refused : is_string_text (0 ∷ []) ≡ false
 example-refused = refl
 
-example-has_leaf : has_leaf two ≡ true
-example-has_leaf = refl
+example-greatest : greatest_in two ≡ Some 1
+example-greatest = refl

@@ -1,4 +1,5 @@
 pub mod Bound
+pub mod Greatest
 pub mod Lists
 pub mod Memory
 pub mod PartsFall

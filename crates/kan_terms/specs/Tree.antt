@@ -1,5 +1,5 @@
 -- Trees: what terms, templates and ground terms have in common. The leaves that stand for something else are of any type.
-use Rattle.std.specs.Prelude.{ℕ, ◌+◌, ℤ, Bool, true, false, ◌&&◌, ◌||◌, eqb, List, [], ◌∷◌, ◌++◌}
+use Rattle.std.specs.Prelude.{ℕ, ◌+◌, ◌-◌, ◌^◌, min, ℤ, Bool, true, false, ◌&&◌, ◌||◌, eqb, List, [], ◌∷◌, ◌++◌}
 use Rattle.std.specs.Ordering.{int_eq}
 
 -- a tree with leaves of the type V beside the six kinds of constants
@@ -39,16 +39,6 @@ leaves (Tree.num n) = []
 leaves (Tree.truth b) = []
 leaves Tree.nil = []
 leaves (Tree.pair a b) = leaves a ++ leaves b
-
--- some leaf stands in a tree
-abbrev pub has_leaf : {V : Type 0} → Tree V → Bool
-has_leaf (Tree.leaf v) = true
-has_leaf (Tree.sym s) = false
-has_leaf (Tree.str s) = false
-has_leaf (Tree.num n) = false
-has_leaf (Tree.truth b) = false
-has_leaf Tree.nil = false
-has_leaf (Tree.pair a b) = has_leaf a || has_leaf b
 
 -- a variable stands in a term
 abbrev pub occurs : ℕ → Tm → Bool
@@ -105,6 +95,10 @@ size (Tree.num n) = 1
 size (Tree.truth b) = 1
 size Tree.nil = 1
 size (Tree.pair a b) = 1 + size a + size b
+
+-- the same, as far as the greatest number of 64 bits
+abbrev pub noted_size : {V : Type 0} → Tree V → ℕ
+noted_size t = min (size t) (2 ^ 64 - 1)
 
 -- the first two trees, joined
 abbrev pub join_two : {V : Type 0} → List (Tree V) → List (Tree V)

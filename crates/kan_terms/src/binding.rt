@@ -3,14 +3,15 @@
 ghost use Rattle.std.specs.Prelude.{◌≡◌, ℕ, List, [], ◌∷◌, None, IfOk};
 ghost use Rattle.std.specs.Option.{option_map};
 ghost use Rattle.kan_terms.specs.Bound.{bound_to};
+ghost use Rattle.kan_terms.specs.Greatest.{greatest_bound};
 ghost use Rattle.kan_terms.specs.Terms.{tree};
 ghost use Rattle.kan_terms.specs.Tree.{Tm};
 
 use crate::terms::{Memory, Term};
 use std::alloc::Global;
 
-/// Terms that variables are bound to. A binding is never changed or taken back: `bind` makes new bindings beside the old
-/// ones, which stay as they were.
+/// Terms that variables are bound to. A binding is never changed or taken back: `bind` makes new
+/// bindings beside the old ones, which stay as they were.
 pub trait Bindings: Sized + Drop {
     // The pairs of a variable and the term that it is bound to, the newest first.
     ghost pairs: { Self → List (ℕ × Tm) };
@@ -32,6 +33,10 @@ pub trait Bindings: Sized + Drop {
     fn bind_owned(self, var: u64, term: &Term) -> Result<Self, Memory>
         requires { bound_to var (pairs self) ≡ None }
         ensures { IfOk result (λ made. pairs made ≡ (var, tree term.now) ∷ pairs self) };
+
+    /// The greatest variable that stands in the bindings, on either side. It takes no memory.
+    fn greatest_variable(&self) -> Option<u64>
+        ensures { result ≡ greatest_bound (pairs self.now) };
 
     /// The same bindings once more.
     fn again(&self) -> Result<Self, Memory>

@@ -13,4 +13,4 @@ pub use list::ListOf;
 pub use lists::{Grounds, PairLists, Tags, TermPairs};
 pub use marks::{Ground, Mark};
 pub use names::Names;
-pub use terms::{Memory, PairParts, Term, TermPair};
+pub use terms::{Memory, PairParts, Term, TermPair, greater_of};

@@ -44,8 +44,8 @@ impl Model for Ground {
 }
 
 impl Ground {
-    /// The ground term that marks spell, or the marks where they don't spell one whole term and nothing after it. It takes no
-    /// memory.
+    /// The ground term that marks spell, or the marks where they don't spell one whole term and
+    /// nothing after it. It takes no memory.
     pub fn of_marks(marks: Vec<Mark>) -> Result<Ground, Vec<Mark>>
         ensures whole { IsOk result ↔ SpellsTree marks.items }
         ensures spelled { IfOk result (λ term. spelling term ≡ marks.items) }

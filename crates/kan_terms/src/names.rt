@@ -1,9 +1,11 @@
 //! The table of names: the texts of symbols and strings.
 
-ghost use Rattle.std.specs.Prelude.{◌≡◌, ◌-◌, ◌^◌, ◌<◌, [], IsTrue, length, Some, IfOk, OnOk, OnErr};
+ghost use Rattle.std.specs.Prelude.{◌≡◌, ◌-◌, ◌^◌, ◌<◌, [], length, Some};
+ghost use Rattle.std.specs.Prelude.{IsTrue, IfOk, OnOk, OnErr};
 ghost use Rattle.std.specs.List.{list_all};
 ghost use Rattle.std.specs.Option.{option_copied};
-ghost use Rattle.kan_terms.specs.Table.{IsDistinct, interned, is_string_text, name_of, no_names, number_of, with_string, with_symbol};
+ghost use Rattle.kan_terms.specs.Table.{IsDistinct, interned, is_string_text, name_of, number_of};
+ghost use Rattle.kan_terms.specs.Table.{no_names, with_string, with_symbol};
 
 use crate::terms::Memory;
 use indexmap::IndexSet;

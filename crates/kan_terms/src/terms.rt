@@ -1,9 +1,10 @@
 //! Terms, whose pairs are shared behind `Arc`.
 
-ghost use Rattle.std.specs.Prelude.{◌≡◌, ◌||◌, ⊤, IfOk};
+ghost use Rattle.std.specs.Prelude.{◌≡◌, ⊤, IfOk};
+ghost use Rattle.kan_terms.specs.Greatest.{greater, greatest_in};
 ghost use Rattle.kan_terms.specs.Memory.{memory};
 ghost use Rattle.kan_terms.specs.Terms.{tree};
-ghost use Rattle.kan_terms.specs.Tree.{Tree, has_leaf};
+ghost use Rattle.kan_terms.specs.Tree.{Tree, noted_size};
 
 use std::alloc::{AllocError, AllocFailed, Global};
 use std::marker::Model;
@@ -48,7 +49,8 @@ pub enum Term {
     Pair(Arc<PairParts>),
 }
 
-// A loop along the rests, so that a long list is dropped in little stack: only first parts are dropped by recursion.
+// A loop down the heavier parts, so that a term however high is dropped in little stack: a
+// recursion is into a part of at most half the nodes.
 impl Drop for Term {
     fn drop(mut self) {
         loop {
@@ -56,11 +58,18 @@ impl Drop for Term {
                 Term::Pair(parts) => match Arc::into_inner(parts) {
                     Some(
                         PairParts {
-                            first: _,
+                            first,
                             rest,
-                            has_variable: _,
+                            greatest: _,
+                            weight: _,
                         },
-                    ) => self = rest,
+                    ) => {
+                        if first.weight() > rest.weight() {
+                            self = first;
+                        } else {
+                            self = rest;
+                        }
+                    }
                     None => return,
                 },
                 Term::Var(_) => return,
@@ -82,12 +91,15 @@ pub struct PairParts {
     pub first: Term,
     /// The rest.
     pub rest: Term,
-    has_variable: bool,
+    greatest: Option<u64>,
+    // How many nodes the pair has, as far as the greatest number.
+    weight: u64,
 }
 
 impl Model for PairParts {
-    ghost use Rattle.std.specs.Prelude.{◌+◌, ◌≡◌, ◌||◌};
-    ghost use Rattle.kan_terms.specs.Tree.{Tm, has_leaf};
+    ghost use Rattle.std.specs.Prelude.{◌+◌, ◌≡◌};
+    ghost use Rattle.kan_terms.specs.Greatest.{greater, greatest_in};
+    ghost use Rattle.kan_terms.specs.Tree.{Tree, Tm, noted_size};
     ghost use Rattle.kan_terms.specs.Tree as trees;
     ghost use Rattle.kan_terms.specs.TermCode.{sides_code};
 
@@ -99,7 +111,9 @@ impl Model for PairParts {
 
     ghost view = { λ parts. (tree parts.first, tree parts.rest) };
 
-    ghost invariant = { λ parts. parts.has_variable ≡ has_leaf (tree parts.first) || has_leaf (tree parts.rest) };
+    ghost invariant = { λ parts.
+        (parts.greatest ≡ greater (greatest_in (tree parts.first)) (greatest_in (tree parts.rest)))
+        × (parts.weight ≡ noted_size (Tree.pair (tree parts.first) (tree parts.rest))) };
 
     ghost size = { λ sides. trees.size sides.0 + trees.size sides.1 };
 
@@ -109,11 +123,18 @@ impl Model for PairParts {
 }
 
 impl PairParts {
-    /// Whether a variable stands in one of the parts. It looks at neither.
-    pub fn has_variable(&self) -> bool
-        ensures { result ≡ has_leaf self.now.0 || has_leaf self.now.1 }
+    /// The greatest variable that stands in the parts. It looks at neither.
+    pub fn greatest_variable(&self) -> Option<u64>
+        ensures { result ≡ greater (greatest_in self.now.0) (greatest_in self.now.1) }
     {
-        self.has_variable
+        self.greatest
+    }
+
+    // How many nodes the pair has, as far as the greatest number.
+    fn weight(&self) -> u64
+        ensures { result ≡ noted_size (Tree.pair self.now.0 self.now.1) }
+    {
+        self.weight
     }
 }
 
@@ -126,15 +147,37 @@ pub struct TermPair {
     pub rest: Term,
 }
 
+/// The greater of two variables, where there are any.
+pub fn greater_of(one: Option<u64>, other: Option<u64>) -> Option<u64>
+    ensures { result ≡ greater one other }
+{
+    match (one, other) {
+        (None, _) => other,
+        (Some(_), None) => one,
+        (Some(first), Some(second)) => Some(first.max(second)),
+    }
+}
+
 impl Term {
-    /// Whether a variable stands in the term. It looks into no pair.
-    pub fn has_variable(&self) -> bool
-        ensures { result ≡ has_leaf (tree self.now) }
+    /// The greatest variable that stands in the term. It looks into no pair.
+    pub fn greatest_variable(&self) -> Option<u64>
+        ensures { result ≡ greatest_in (tree self.now) }
     {
         match self {
-            Term::Var(_) => true,
-            Term::Sym(_) | Term::Str(_) | Term::Num(_) | Term::Truth(_) | Term::Nil => false,
-            Term::Pair(parts) => parts.has_variable(),
+            Term::Var(var) => Some(*var),
+            Term::Sym(_) | Term::Str(_) | Term::Num(_) | Term::Truth(_) | Term::Nil => None,
+            Term::Pair(parts) => parts.greatest_variable(),
+        }
+    }
+
+    // How many nodes the term has, as far as the greatest number. It looks into no pair.
+    fn weight(&self) -> u64
+        ensures { result ≡ noted_size (tree self.now) }
+    {
+        match self {
+            Term::Var(_) => 1,
+            Term::Sym(_) | Term::Str(_) | Term::Num(_) | Term::Truth(_) | Term::Nil => 1,
+            Term::Pair(parts) => parts.weight(),
         }
     }
 
@@ -142,17 +185,23 @@ impl Term {
     pub fn pair(alloc: Global, first: Term, rest: Term) -> Result<Term, Memory>
         ensures { IfOk result (λ made. tree made ≡ Tree.pair (tree first) (tree rest)) }
     {
-        let has_variable = first.has_variable() || rest.has_variable();
+        let greatest = greater_of(first.greatest_variable(), rest.greatest_variable());
+        let weight = first
+            .weight()
+            .saturating_add(rest.weight())
+            .saturating_add(1);
         let parts = PairParts {
             first,
             rest,
-            has_variable,
+            greatest,
+            weight,
         };
         let parts = Arc::new(alloc, parts)?;
         Ok(Term::Pair(parts))
     }
 
-    /// The term once more. A pair is shared and not copied, so this takes the same time for every term.
+    /// The term once more. A pair is shared and not copied, so this takes the same time for every
+    /// term.
     pub fn again(&self) -> Result<Term, Memory>
         ensures { IfOk result (λ copy. tree copy ≡ tree self.now) }
     {

@@ -11,7 +11,7 @@ use Rattle.kan_terms.specs.declared.terms.Term.{Term}
 use Rattle.kan_terms.specs.declared.terms.Term.TheVariants.{Var}
 use Rattle.kan_model.specs.Programs.Goals.{Template}
 use Rattle.kan_model.specs.Streams.Running.{slot, instance, variables}
-use Rattle.kan_model.specs.Terms.Letters.{letter_of, spelling, only_one, built_from}
+use Rattle.kan_model.specs.Terms.Letters.{letter_of, spelling}
 use Rattle.kan_model.specs.Terms.Flat.{is_flat, letters_waiting}
 use Rattle.kan_model.specs.Programs.Tables.{TermEntry, template_of}
 use Rattle.kan_model.specs.declared.letters.Letter.{Letter}
@@ -19,7 +19,6 @@ use Rattle.kan_model.specs.declared.letters.Letter.TheVariants.{Nil as NilLetter
 use Rattle.kan_model.specs.declared.nodes.TermNode.{TermNode}
 use Rattle.kan_model.specs.declared.nodes.TermNode.TheVariants.{Slot, Sym, Str, Num, Truth, Nil, Pair}
 use Rattle.kan_model.specs.Programs.Nodes.{term_entry}
-use Rattle.kan_model.proofs.LettersLaws.{built_from-spelling}
 
 -- the letter of what may be a term
 abbrev pub letter_found : Option Term → Letter
@@ -114,12 +113,7 @@ fewer-wait f old rest new i split parts =
     let same : length (letter_of (f i) ∷ letters_waiting (map f new)) ≡ length (letters_waiting (map f old)) = ap length (parts ∙ sym (stack-push f rest i) ∙ ap (λ w. letters_waiting (map f w)) (sym split)) in
     omega (arith, same)
 
--- what is built from a term's letters is the term
-pub built-is : (t : Tm) (letters : List Letter) (r : Option Tm) (u : Tm) → letters ≡ spelling t → r ≡ only_one (built_from letters []) → r ≡ Some u → u ≡ t
-built-is t letters r u spelled built some =
-    let same : Some u ≡ Some t = sym some ∙ built ∙ ap (λ w. only_one (built_from w [])) spelled ∙ ap only_one (built_from-spelling t []) in cc
-
--- the same of a node that isn't a pair
+-- a node that isn't a pair
 pub node-flat : (node : TermNode) → ((a b : ℕ) → node ≡ Pair a b → ⊥) → is_flat_entry (term_entry node) ≡ true
 node-flat (Slot i) other = refl
 node-flat (Sym s) other = refl

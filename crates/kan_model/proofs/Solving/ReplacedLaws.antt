@@ -33,7 +33,7 @@ clean_more es fs more (Some s) (from, theirs, gone) =
     (λ v y h. elim (from v y h) [ inl same ↦ inl same | inr there ↦ inr (more y there) ], λ x h. more x (theirs x h), gone)
 
 -- a variable in a term under an answer is one of the term, or of the equations
-in_applied : (es : List Equation) (s : Replacement) → FromEquations es s → (t : Tm) (y : ℕ) → occurs y (apply s t) ≡ true → (occurs y t ≡ true) ⊎ (stands y es ≡ true)
+pub in_applied : (es : List Equation) (s : Replacement) → FromEquations es s → (t : Tm) (y : ℕ) → occurs y (apply s t) ≡ true → (occurs y t ≡ true) ⊎ (stands y es ≡ true)
 in_applied es s from t y h = by (occurs-fill y (image s) t h)
   where
     by : (z : ℕ) × (occurs z t ≡ true) × (occurs y (image s z) ≡ true) → (occurs y t ≡ true) ⊎ (stands y es ≡ true)

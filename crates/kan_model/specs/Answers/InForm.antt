@@ -1,5 +1,5 @@
 -- Answers in form: those that are written in just one way.
-use Rattle.std.specs.Prelude.{◌≡◌, ℕ, suc, ◌<◌, Bool, true, false, ◌&&◌, not, eqb, nat_lt, List, [], ◌∷◌, ◌++◌, length, map, Some}
+use Rattle.std.specs.Prelude.{◌≡◌, ℕ, suc, ◌<◌, ◌^◌, pos, negsuc, Bool, true, false, ◌&&◌, not, eqb, nat_lt, List, [], ◌∷◌, ◌++◌, length, map, Some}
 use Rattle.std.specs.List.{list_all, list_any}
 use Rattle.kan_terms.specs.Tree.{Tree, Tm, occurs, term_eq}
 use Rattle.kan_model.specs.Stores.Store.{Store, Equation}
@@ -85,6 +85,17 @@ in_form table a =
     && names_in_form (name_count a) a.numbers && names_in_form (name_count a) a.symbols && names_in_form (name_count a) a.strings
     && apart a.numbers a.symbols && apart a.strings a.symbols && apart a.numbers a.strings
     && list_all (absence_in_form (name_count a) (a.numbers ++ a.strings)) a.absences && ascends (tag_before table) a.absences
+
+-- the numbers in a tree fit in 128 bits
+abbrev pub numbers_fit : {V : Type 0} → Tree V → Bool
+numbers_fit (Tree.num (pos n)) = nat_lt n (2 ^ 127)
+numbers_fit (Tree.num (negsuc n)) = nat_lt n (2 ^ 127)
+numbers_fit (Tree.pair a b) = numbers_fit a && numbers_fit b
+numbers_fit _ = true
+
+-- an answer in form that a line can be read back as: all its numbers fit
+abbrev pub is_readable : Table → Answer → Bool
+is_readable table a = in_form table a && numbers_fit a.term && list_all (list_all (λ p. numbers_fit p.by)) a.disequalities
 
 -- the pairs of a disequality as equations, and as a replacement
 abbrev pub pair_equations : List NamedPair → List Equation

@@ -59,20 +59,19 @@ abbrev pub built_from : List Letter → List Tm → Option (List Tm)
 built_from [] ts = Some ts
 built_from (x ∷ xs) ts = put_letter_on x (built_from xs ts)
 
--- the one term of a list
+-- the only term of a list
 abbrev pub only_one : Option (List Tm) → Option Tm
 only_one (Some (t ∷ [])) = Some t
 only_one _ = None
+
+-- the one term that letters spell
+abbrev pub term_of : List Letter → Option Tm
+term_of letters = only_one (built_from letters [])
 
 -- the terms on a stack, the top first
 abbrev pub stack_terms : List Term → List Tm
 stack_terms [] = []
 stack_terms (t ∷ ts) = stack_terms ts ++ tree t ∷ []
-
--- terms that are there, where a test says so, and else none
-abbrev pub Gives : Option (List Tm) → Bool → List Tm → Type 0
-Gives terms true found = terms ≡ Some found
-Gives terms false found = terms ≡ None
 
 -- a letter's term, and none for a pair
 abbrev pub IsAtomOf : Letter → Option Tm → Type 0

@@ -1,5 +1,6 @@
 use Rattle.std.proofs.Common.{◌≡◌, map, take}
-use Rattle.kan_plain.specs.Solving.{replaced_by, apply_sides}
+use Rattle.kan_plain.specs.Solving.{replaced_by}
+use Rattle.kan_model.specs.Stores.Composition.{apply_sides}
 use Rattle.kan_model.specs.Stores.Prims.{equation}
 use Rattle.kan_plain.proofs.solving.replace_in_all.Given as goal
 
