@@ -22,7 +22,8 @@ pub struct Batch<St> {
     pub ended: Option<Ended>,
 }
 
-// What comes where no store may be given before a pull: the end of the run, or the pull of a suspension.
+// What comes where no store may be given before a pull: the end of the run, or the pull of a
+// suspension.
 #[derive(Clone, Copy)]
 pub(crate) enum Next {
     Ends(Ended),

@@ -40,9 +40,11 @@ pub(crate) fn start<'a, St: Store>(
 ) -> Result<Pulled<St>, Memory>
     requires closed { are_closed (programs.tables (program_of nodes.old)) (goal ∷ []) ≡ true }
     requires table { IsTableOf (program_of nodes.old) (plain_table St.meaning nodes.old) }
-    ensures made { IfOk result (λ made. pulled_stream (tree_of St.meaning nodes.new) St.meaning made.heads.items made.tail ≡ running.start (programs.goal (program_of nodes.old) goal)) }
+    ensures made { IfOk result (λ made. pulled_stream (tree_of St.meaning nodes.new) St.meaning
+        made.heads.items made.tail ≡ running.start (programs.goal (program_of nodes.old) goal)) }
     ensures belong { IfOk result (λ made. IfSome made.tail (IsOf St.meaning nodes.new)) }
-    ensures room { IfOk result (λ made. IfSome made.tail (λ next. LeavesRoom 0 (tree_of St.meaning nodes.new next))) }
+    ensures room { IfOk result (λ made. IfSome made.tail
+        (λ next. LeavesRoom 0 (tree_of St.meaning nodes.new next))) }
     ensures grows { Grows (plain_table St.meaning nodes.old) (plain_table St.meaning nodes.new) }
 {
     let program = nodes.program();
@@ -63,10 +65,13 @@ pub(crate) fn pull<'a, St: Store>(
     requires table { IsTableOf (program_of nodes.old) (plain_table St.meaning nodes.old) }
     requires belongs { IsOf St.meaning nodes.old id.now }
     requires room { top (tree_of St.meaning nodes.old id.now) ≤ 2 ^ 62 }
-    ensures made { IfOk result (λ made. pulled_stream (tree_of St.meaning nodes.new) St.meaning made.heads.items made.tail
-        ≡ running.force (programs.meaning (program_of nodes.old)) (tree_of St.meaning nodes.old id.now)) }
+    ensures made { IfOk result (λ made. pulled_stream (tree_of St.meaning nodes.new) St.meaning
+        made.heads.items made.tail
+        ≡ running.force (programs.meaning (program_of nodes.old))
+        (tree_of St.meaning nodes.old id.now)) }
     ensures belong { IfOk result (λ made. IfSome made.tail (IsOf St.meaning nodes.new)) }
-    ensures room { IfOk result (λ made. IfSome made.tail (λ next. top (tree_of St.meaning nodes.new next)
+    ensures room { IfOk result (λ made. IfSome made.tail
+        (λ next. top (tree_of St.meaning nodes.new next)
         ≤ top (tree_of St.meaning nodes.old id.now) + 2 ^ 21)) }
     ensures grows { Grows (plain_table St.meaning nodes.old) (plain_table St.meaning nodes.new) }
 {

@@ -20,7 +20,8 @@ use stream_core::{PlainId, PlainNodes, Stores};
 // How many answers a batch has at most.
 const GREATEST_BATCH: usize = 1024;
 
-/// What is left of a run: the answers that may still be given, the pulls that may still be made, and the stream.
+/// What is left of a run: the answers that may still be given, the pulls that may still be made,
+/// and the stream.
 #[derive(Drop)]
 pub struct Search<'a, St: Store> {
     // How many answers may still be given, where that is limited.
@@ -46,14 +47,17 @@ pub struct Search<'a, St: Store> {
 }
 
 impl<'a, St: Store> Search<'a, St> {
-    ghost use Rattle.std.specs.Prelude.{ℕ, false, Some, [], ◌∷◌, ◌<◌, length, map, IfOk, IfNone, OnOk, OnErr, IsErr};
+    ghost use Rattle.std.specs.Prelude.{ℕ, false, Some, [], ◌∷◌, ◌<◌, length, map, IfOk, IfNone};
+    ghost use Rattle.std.specs.Prelude.{OnOk, OnErr, IsErr};
     ghost use Rattle.kan_model.specs.Programs.Tables.{are_closed};
     ghost use Rattle.kan_model.specs.Streams.Taking.{take_query, with_answer, with_pull};
     ghost use Rattle.kan_search.specs.Batches.{Advances, GaveAll, joined, greatest_batch};
-    ghost use Rattle.kan_search.specs.Searches.{left, stream_left, pulls_made, round_of, is_spent, ComesNext};
+    ghost use Rattle.kan_search.specs.Searches.{left, stream_left, pulls_made, round_of, is_spent};
+    ghost use Rattle.kan_search.specs.Searches.{ComesNext};
     ghost use Rattle.kan_search.specs.Waiting.{GivesNone, WantsPull};
 
-    /// The search of a run at a fuel from 1 to 1,000,000. A batch makes at most so many pulls as a round has, from 1 to 65,536.
+    /// The search of a run at a fuel from 1 to 1,000,000. A batch makes at most so many pulls as a
+    /// round has, from 1 to 65,536.
     pub fn open(
         alloc: Global,
         program: &'a Program,
@@ -67,7 +71,8 @@ impl<'a, St: Store> Search<'a, St> {
         requires built { list_all is_built (programs.tables program.now).goals ≡ true }
         requires fuel { 1 ≤ fuel × (fuel ≤ 1000000) }
         requires round { 1 ≤ round × (round ≤ 65536) }
-        ensures left { IfOk result (λ search. left St.meaning search ≡ take_query (programs.meaning program.now) fuel (programs.query_of program.now query.now)) }
+        ensures left { IfOk result (λ search. left St.meaning search ≡ take_query
+            (programs.meaning program.now) fuel (programs.query_of program.now query.now)) }
         ensures pulls { IfOk result (λ search. pulls_made search ≡ 0) }
         ensures round { IfOk result (λ search. round_of search ≡ round) }
         ensures whole { IfOk result (λ search. is_spent search ≡ false) }
@@ -96,12 +101,15 @@ impl<'a, St: Store> Search<'a, St> {
 
     // The next store of the stream, where it has one before a pull and more answers are wanted.
     fn next_head(&mut self) -> Option<St>
-        ensures some { IfSome result (λ store. left St.meaning self.old ≡ with_answer (St.meaning store) (left St.meaning self.new)) }
-        ensures none { IfNone result (GivesNone self.new.limit self.new.heads.items × (left St.meaning self.new ≡ left St.meaning self.old)) }
-        ensures fewer { IfSome result (λ _. length self.new.heads.items < length self.old.heads.items) }
-        ensures pulls { (pulls_made self.new) ≡ (pulls_made self.old) }
-        ensures round { (round_of self.new) ≡ (round_of self.old) }
-        ensures spent { (is_spent self.new) ≡ (is_spent self.old) }
+        ensures some { IfSome result (λ store. left St.meaning self.old ≡ with_answer
+            (St.meaning store) (left St.meaning self.new)) }
+        ensures none { IfNone result (GivesNone self.new.limit self.new.heads.items ×
+            (left St.meaning self.new ≡ left St.meaning self.old)) }
+        ensures fewer { IfSome result (λ _. length self.new.heads.items < length
+            self.old.heads.items) }
+        ensures pulls { pulls_made self.new ≡ pulls_made self.old }
+        ensures round { round_of self.new ≡ round_of self.old }
+        ensures spent { is_spent self.new ≡ is_spent self.old }
     {
         if is_reached(self.limit) {
             return None;
@@ -114,12 +122,15 @@ impl<'a, St: Store> Search<'a, St> {
     // Gives stores until a batch has its answers or only a pull gives more.
     fn give_heads(&mut self, answers: &mut Stores<St>) -> Result<(), Memory>
         requires { length answers.old ≤ greatest_batch }
-        ensures joined { OnOk result ((pulls : ℕ) → joined (map St.meaning answers.old) pulls (left St.meaning self.old) ≡ joined (map St.meaning answers.new) pulls (left St.meaning self.new)) }
+        ensures joined { OnOk result ((pulls : ℕ) → joined (map St.meaning answers.old) pulls
+            (left St.meaning self.old) ≡ joined (map St.meaning answers.new) pulls
+            (left St.meaning self.new)) }
         ensures few { OnOk result (length answers.new ≤ greatest_batch) }
-        ensures none { OnOk result (length answers.new < greatest_batch → GivesNone self.new.limit self.new.heads.items) }
-        ensures pulls { (pulls_made self.new) ≡ (pulls_made self.old) }
-        ensures round { (round_of self.new) ≡ (round_of self.old) }
-        ensures spent { (is_spent self.new) ≡ (is_spent self.old) }
+        ensures none { OnOk result (length answers.new < greatest_batch → GivesNone self.new.limit
+            self.new.heads.items) }
+        ensures pulls { pulls_made self.new ≡ pulls_made self.old }
+        ensures round { round_of self.new ≡ round_of self.old }
+        ensures spent { is_spent self.new ≡ is_spent self.old }
     {
         while answers.len() < GREATEST_BATCH {
             match self.next_head() {
@@ -148,11 +159,13 @@ impl<'a, St: Store> Search<'a, St> {
     // Makes a pull.
     fn make_pull(&mut self, alloc: Global, id: PlainId) -> Result<(), Memory>
         requires tail { self.old.tail ≡ Some id }
-        requires wanted { WantsPull self.old.limit self.old.heads.items self.old.tail self.old.fuel }
-        ensures pulled { OnOk result (left St.meaning self.old ≡ with_pull (left St.meaning self.new)) }
-        ensures pulls { OnOk result ((pulls_made self.new) ≡ (pulls_made self.old) + 1) }
-        ensures round { (round_of self.new) ≡ (round_of self.old) }
-        ensures spent { (is_spent self.new) ≡ (is_spent self.old) }
+        requires wanted { WantsPull self.old.limit self.old.heads.items self.old.tail
+            self.old.fuel }
+        ensures pulled { OnOk result (left St.meaning self.old ≡ with_pull
+            (left St.meaning self.new)) }
+        ensures pulls { OnOk result (pulls_made self.new ≡ pulls_made self.old + 1) }
+        ensures round { round_of self.new ≡ round_of self.old }
+        ensures spent { is_spent self.new ≡ is_spent self.old }
     {
         match pull(alloc, &id, &mut self.nodes) {
             Ok(pulled) => {
@@ -169,10 +182,13 @@ impl<'a, St: Store> Search<'a, St> {
 
     // The next answers, where no memory was wanting before.
     fn next_batch(&mut self, alloc: Global) -> Result<Batch<St>, Memory>
-        ensures batch { IfOk result (λ batch. Advances (round_of self.old) (left St.meaning self.old) (pulls_made self.old) (map St.meaning batch.answers) batch.ended (left St.meaning self.new) (pulls_made self.new)) }
-        ensures gave_all { IfOk result (λ batch. GaveAll (length batch.answers) batch.ended (stream_left St.meaning self.new)) }
-        ensures round { (round_of self.new) ≡ (round_of self.old) }
-        ensures spent { (is_spent self.new) ≡ (is_spent self.old) }
+        ensures batch { IfOk result (λ batch. Advances (round_of self.old)
+            (left St.meaning self.old) (pulls_made self.old) (map St.meaning batch.answers)
+            batch.ended (left St.meaning self.new) (pulls_made self.new)) }
+        ensures gave_all { IfOk result (λ batch. GaveAll (length batch.answers) batch.ended
+            (stream_left St.meaning self.new)) }
+        ensures round { round_of self.new ≡ round_of self.old }
+        ensures spent { is_spent self.new ≡ is_spent self.old }
     {
         let mut answers = ListOf::new(alloc);
         let mut made = 0;
@@ -205,12 +221,16 @@ impl<'a, St: Store> Search<'a, St> {
         }
     }
 
-    /// The next answers: at most 1,024, found by at most a round of pulls. A search that has ended gives no more answers
-    /// and ends again as it did. After want of memory nothing is known of what is left, and memory is wanted again.
+    /// The next answers: at most 1,024, found by at most a round of pulls. A search that has ended
+    /// gives no more answers and ends again as it did. After want of memory nothing is known of
+    /// what is left, and memory is wanted again.
     pub fn advance_alone(&mut self, alloc: Global) -> Result<Batch<St>, Memory>
-        ensures batch { IfOk result (λ batch. Advances (round_of self.old) (left St.meaning self.old) (pulls_made self.old) (map St.meaning batch.answers) batch.ended (left St.meaning self.new) (pulls_made self.new)) }
-        ensures gave_all { IfOk result (λ batch. GaveAll (length batch.answers) batch.ended (stream_left St.meaning self.new)) }
-        ensures round { (round_of self.new) ≡ (round_of self.old) }
+        ensures batch { IfOk result (λ batch. Advances (round_of self.old)
+            (left St.meaning self.old) (pulls_made self.old) (map St.meaning batch.answers)
+            batch.ended (left St.meaning self.new) (pulls_made self.new)) }
+        ensures gave_all { IfOk result (λ batch. GaveAll (length batch.answers) batch.ended
+            (stream_left St.meaning self.new)) }
+        ensures round { round_of self.new ≡ round_of self.old }
         ensures whole { OnOk result ((is_spent self.new) ≡ false) }
         ensures spent { OnErr result ((is_spent self.new) ≡ true) }
         ensures again { (is_spent self.old) ≡ true → IsErr result }

@@ -8,7 +8,7 @@ use Rattle.kan_model.specs.Programs.Nodes.{goal_place}
 use Rattle.kan_model.specs.Programs.Scope.{is_closed, is_low, calls_there, body_in_scope, in_scope}
 use Rattle.kan_model.specs.Programs.Tables.{Tables, GoalEntry, nothing_open, templates_of, program_of, goal_at, goals_of}
 use Rattle.kan_model.specs.declared.nodes.Query as declared
-use Rattle.stream_core.specs.CodeTasks.{is_built}
+use Rattle.stream_core.specs.BuiltGoals.{is_built}
 
 -- the entries from a place on, and those from the next one on
 built_from : (es : List GoalEntry) (i : ℕ) (e : GoalEntry) → Some e ≡ slice_get es i → list_all is_built (drop i es) ≡ (is_built e && list_all is_built (drop (suc i) es))

@@ -6,7 +6,7 @@ ghost use Rattle.kan_model.specs.Programs.Nodes.{goal_entry, goal_place};
 ghost use Rattle.kan_model.specs.Programs.Closed as programs;
 ghost use Rattle.kan_model.specs.Programs.Scope.{is_small};
 ghost use Rattle.kan_model.specs.Programs.Tables.{nothing_open};
-ghost use Rattle.stream_core.specs.CodeTasks.{is_built};
+ghost use Rattle.stream_core.specs.BuiltGoals.{is_built};
 
 use goal_syntax::{Compiled, SyntaxError, compile};
 use kan_model::{GoalNode, Program, Query};

@@ -7,7 +7,7 @@ ghost use Rattle.kan_model.specs.Programs.Closed as programs;
 ghost use Rattle.kan_model.specs.Programs.Scope.{is_small};
 ghost use Rattle.kan_model.specs.Programs.Tables.{nothing_open};
 ghost use Rattle.stream_core.specs.Suspensions as standing;
-ghost use Rattle.stream_core.specs.CodeTasks.{is_built};
+ghost use Rattle.stream_core.specs.BuiltGoals.{is_built};
 ghost use Rattle.kan_search.specs.Suspensions.{tree_of, IsOf, LeavesRoom};
 
 use crate::asking::{ALWAYSO, NEVERO, joined};

@@ -94,6 +94,9 @@ module _ {I : Type 0} where
   kept-whole belonged whole was is = both-like (KeptUpTo belonged whole []) (KeepsWay belonged whole)
       (λ (a b : Told I) h. record { here = ap b.kept (sym h.leads) ∙ h.kept; inside = h.inside }) was is
 
+  pub kept-none : (belonged : I → Type 0) (whole : I) (ids : List I) (was is : Option (Told I)) → ids ≡ [] → BothTold (KeptUpTo belonged whole (stack (λ (i : I). i) ids)) was is → BothTold (KeepsWay belonged whole) was is
+  kept-none belonged whole ids was is none h = kept-whole belonged whole was is (subst (λ xs. BothTold (KeptUpTo belonged whole (stack (λ (i : I). i) xs)) was is) none h)
+
   -- one step up
   one-up : (belonged : I → Type 0) (whole at : I) (rest : List I) (was is now : Told I) → KeptUpTo belonged whole (at ∷ rest) was is → KeepsMore at is now → KeptUpTo belonged whole rest was now
   one-up belonged whole at rest was is now h more = record {

@@ -52,6 +52,10 @@ module _ {I : Type 0} where
   leads-begins whole copy ids None none same = tt
   leads-begins whole copy ids (Some told) none same = rw none same
 
+  -- nothing is left of it
+  pub force-end : {St : Type 0} (t : Table I) (means : St → facts.Store) (whole : Thunk) (ids : List I) (made : Stream I St) → ids ≡ [] → IsForce t means (next whole (stack t.tree ids)) made → IsForce t means whole made
+  force-end t means whole ids made none forced = subst (λ xs. IsForce t means (next whole (stack t.tree xs)) made) none forced
+
   -- the last id of a way
   pub last-around : (t : Table I) (whole : Thunk) (ids rest : List I) (at : I) → IsWayFrom t whole ids → ids ≡ rest ++ at ∷ [] → MayForceAround t at
   last-around t whole ids rest at way split = (Each-front (MayForceAround t) ids rest at split way.each).1
@@ -65,12 +69,14 @@ module _ {I : Type 0} where
     each-stays : (ids : List I) → Each (MayForceAround t) ids → Each (MayForceAround u) ids
     each-stays [] h = tt
     each-stays (id ∷ ids) ((there, may, holds), hs) =
-        let same = sym (grew.ids id there).1 in
-        ((
-          (grew.ids id there).0,
-          subst (λ p. MayForce p (u.tree id)) (sym grew.program) (subst (MayForce t.program) same may),
-          subst (λ x. has_inner x ≡ true) same holds,
-        ), each-stays ids hs)
+        let same = sym (grew.ids id there).1 in (
+          (
+            (grew.ids id there).0,
+            subst (λ p. MayForce p (u.tree id)) (sym grew.program) (subst (MayForce t.program) same may),
+            subst (λ x. has_inner x ≡ true) same holds,
+          ),
+          each-stays ids hs,
+        )
 
     -- a way while the table grows
     pub way-stays : (whole : Thunk) (ids : List I) → IsWayFrom t whole ids → IsWayFrom u whole ids

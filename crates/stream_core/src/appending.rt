@@ -61,10 +61,13 @@ pub fn append<N: Nodes<St>, St: Store>(
     requires left { HasStream (N.table nodes.old) left }
     requires right { HasStream (N.table nodes.old) right }
     ensures made { IfOk result (λ made. stream_in (N.table nodes.new) St.meaning made
-        ≡ model.append (stream_in (N.table nodes.old) St.meaning left) (stream_in (N.table nodes.old) St.meaning right)) }
+        ≡ model.append (stream_in (N.table nodes.old) St.meaning left)
+        (stream_in (N.table nodes.old) St.meaning right)) }
     ensures belong { IfOk result (HasStream (N.table nodes.new)) }
-    ensures fits { IfOk result (λ made. FitsAsBoth (N.table nodes.old).program (stream_in (N.table nodes.old) St.meaning left)
-        (stream_in (N.table nodes.old) St.meaning right) (stream_in (N.table nodes.new) St.meaning made)) }
+    ensures fits { IfOk result (λ made. FitsAsBoth (N.table nodes.old).program
+        (stream_in (N.table nodes.old) St.meaning left)
+        (stream_in (N.table nodes.old) St.meaning right)
+        (stream_in (N.table nodes.new) St.meaning made)) }
     ensures adds { OnlyAdds (N.table nodes.old) (N.table nodes.new) }
 {
     let Stream { heads, tail } = left;

@@ -41,8 +41,10 @@ fn equated<St: Store>(
     store: St,
 ) -> Result<Stores<St>, Memory>
     requires { list_all (all_below (St.meaning store).counter) (terms_of env.now) ≡ true }
-    ensures { IfOk result (λ made. model.Stream.ends (map St.meaning made) ≡ asserted (St.meaning store)
-        (Primitive.same (instance (terms_of env.now) (programs.template program.now left)) (instance (terms_of env.now) (programs.template program.now right)))) }
+    ensures { IfOk result (λ made. model.Stream.ends (map St.meaning made) ≡ asserted
+        (St.meaning store)
+        (Primitive.same (instance (terms_of env.now) (programs.template program.now left))
+        (instance (terms_of env.now) (programs.template program.now right)))) }
 {
     let left = env.value(alloc, program, left)?;
     let right = env.value(alloc, program, right)?;
@@ -62,10 +64,12 @@ fn paused<N: Nodes<St>, St: Store>(
     nodes: &mut N,
 ) -> Result<Stream<N::Id, St>, Memory>
     requires table { IsTableOf program.now (N.table nodes.old) }
-    requires is { IsOf (programs.meaning program.now) (programs.goal program.now goal) (terms_of env) }
+    requires is { IsOf (programs.meaning program.now) (programs.goal program.now goal)
+        (terms_of env) }
     requires below { list_all (all_below (St.meaning store).counter) (terms_of env) ≡ true }
     ensures made { IfOk result (λ made. stream_in (N.table nodes.new) St.meaning made
-        ≡ model.Stream.goes_on [] (model.Thunk.pause (programs.goal program.now goal) (terms_of env) (St.meaning store))) }
+        ≡ model.Stream.goes_on [] (model.Thunk.pause (programs.goal program.now goal) (terms_of env)
+        (St.meaning store))) }
     ensures belong { IfOk result (HasStream (N.table nodes.new)) }
     ensures adds { OnlyAdds (N.table nodes.old) (N.table nodes.new) }
 {
@@ -88,11 +92,14 @@ pub(crate) fn atomic_stream<N: Nodes<St>, St: Store>(
     requires table { IsTableOf program.now (N.table nodes.old) }
     requires atomic { is_atomic (goal_entry node) ≡ true }
     requires placed { ArgumentsPlaced program.now (goal_entry node) }
-    requires is { IsOf (programs.meaning program.now) (programs.entry_goal program.now (goal_entry node)) (terms_of env) }
+    requires is { IsOf (programs.meaning program.now)
+        (programs.entry_goal program.now (goal_entry node)) (terms_of env) }
     requires below { list_all (all_below (St.meaning store).counter) (terms_of env) ≡ true }
-    requires room { (St.meaning store).counter + width (programs.entry_goal program.now (goal_entry node)) ≤ 2 ^ 63 }
+    requires room { (St.meaning store).counter + width
+        (programs.entry_goal program.now (goal_entry node)) ≤ 2 ^ 63 }
     ensures made { IfOk result (λ made. stream_in (N.table nodes.new) St.meaning made
-        ≡ run (programs.entry_goal program.now (goal_entry node)) (terms_of env) (St.meaning store)) }
+        ≡ run (programs.entry_goal program.now (goal_entry node)) (terms_of env)
+        (St.meaning store)) }
     ensures belong { IfOk result (HasStream (N.table nodes.new)) }
     ensures adds { OnlyAdds (N.table nodes.old) (N.table nodes.new) }
 {

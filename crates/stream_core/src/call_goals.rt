@@ -1,10 +1,12 @@
 //! Goals that call a relation: their arguments get names, and the call waits.
 
-ghost use Rattle.std.specs.Prelude.{◌≡◌, length, ◌+◌, ◌≤◌, ◌^◌, map, take, drop, true, slice_get, IfOk};
+ghost use Rattle.std.specs.Prelude.{◌≡◌, length, ◌+◌, ◌≤◌, ◌^◌, map, take, drop, true, slice_get};
+ghost use Rattle.std.specs.Prelude.{IfOk};
 ghost use Rattle.std.specs.List.{list_all};
 ghost use Rattle.kan_terms.specs.Tree.{Tree};
 ghost use Rattle.kan_terms.specs.Terms.{tree};
-ghost use Rattle.kan_model.specs.Streams.Running.{instances, name_pairs, named_store, suspended_call};
+ghost use Rattle.kan_model.specs.Streams.Running.{instances, name_pairs, named_store};
+ghost use Rattle.kan_model.specs.Streams.Running.{suspended_call};
 ghost use Rattle.kan_model.specs.Programs.Scope.{all_below, takes};
 ghost use Rattle.kan_model.specs.Programs.Environments.{terms_of};
 ghost use Rattle.kan_model.specs.Programs.Closed as programs;
@@ -29,7 +31,8 @@ pub(crate) struct Call {
 fn name_pair<St: Store>(alloc: Global, term: Term, store: St) -> Result<(Term, St), Memory>
     requires below { all_below (St.meaning store).counter (tree term) ≡ true }
     requires room { (St.meaning store).counter + 1 ≤ 2 ^ 63 }
-    ensures { IfOk result (λ made. (tree made.0 ≡ Tree.leaf (St.meaning store).counter) × (St.meaning made.1 ≡ named_store (St.meaning store) (tree term))) }
+    ensures { IfOk result (λ made. (tree made.0 ≡ Tree.leaf (St.meaning store).counter) ×
+        (St.meaning made.1 ≡ named_store (St.meaning store) (tree term))) }
 {
     let var = store.counter();
     let wider = store.fresh(alloc, 1)?;
@@ -43,7 +46,8 @@ fn name_pair<St: Store>(alloc: Global, term: Term, store: St) -> Result<(Term, S
 fn name_one<St: Store>(alloc: Global, term: Term, store: St) -> Result<(Term, St), Memory>
     requires below { all_below (St.meaning store).counter (tree term) ≡ true }
     requires room { (St.meaning store).counter + 1 ≤ 2 ^ 63 }
-    ensures { IfOk result (λ made. NamesOne (St.meaning store) (tree term) (tree made.0) (St.meaning made.1)) }
+    ensures { IfOk result (λ made. NamesOne (St.meaning store) (tree term) (tree made.0)
+        (St.meaning made.1)) }
 {
     match &term {
         Term::Pair(_) => name_pair(alloc, term, store),
@@ -62,7 +66,8 @@ fn name_all<St: Store>(
     requires below { list_all (all_below (St.meaning store).counter) (terms_of env.now) ≡ true }
     requires room { (St.meaning store).counter + length arguments.now ≤ 2 ^ 63 }
     ensures { IfOk result (λ made. NamesFirst (St.meaning store)
-        (instances (terms_of env.now) (map (programs.template program.now) arguments.now)) (map tree made.0.items) (St.meaning made.1)) }
+        (instances (terms_of env.now) (map (programs.template program.now) arguments.now))
+        (map tree made.0.items) (St.meaning made.1)) }
 {
     let mut values = Vec::new(alloc);
     let mut after = store;
@@ -87,10 +92,13 @@ pub(crate) fn call_stream<N: Nodes<St>, St: Store>(
     requires table { IsTableOf program.now (N.table nodes.old) }
     requires placed { IsPlaced program.now call.at call.count }
     requires below { list_all (all_below (St.meaning store).counter) (terms_of env.now) ≡ true }
-    requires room { (St.meaning store).counter + length (arguments_of program.now call.at call.count) ≤ 2 ^ 63 }
-    requires there { takes (slice_get (programs.meaning program.now).relations call.rel) (length (arguments_of program.now call.at call.count)) ≡ true }
+    requires room { (St.meaning store).counter + length
+        (arguments_of program.now call.at call.count) ≤ 2 ^ 63 }
+    requires there { takes (slice_get (programs.meaning program.now).relations call.rel)
+        (length (arguments_of program.now call.at call.count)) ≡ true }
     ensures made { IfOk result (λ made. stream_in (N.table nodes.new) St.meaning made
-        ≡ suspended_call call.rel (name_pairs (St.meaning store) (instances (terms_of env.now) (arguments_of program.now call.at call.count)))) }
+        ≡ suspended_call call.rel (name_pairs (St.meaning store)
+        (instances (terms_of env.now) (arguments_of program.now call.at call.count)))) }
     ensures belong { IfOk result (HasStream (N.table nodes.new)) }
     ensures adds { OnlyAdds (N.table nodes.old) (N.table nodes.new) }
 {

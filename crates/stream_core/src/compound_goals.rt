@@ -25,7 +25,8 @@ pub(crate) fn split_both<St: Store>(
     tasks: &mut Vec<Task<St>>,
 ) -> Result<(), Memory>
     ensures { OnOk result ((goal : ℕ → Goal) → stack (task St.meaning goal) tasks.new.items
-        ≡ pending.Task.run_at (goal first) (terms_of env) (St.meaning store) ∷ pending.Task.bind_to (goal second) (terms_of env) ∷ stack (task St.meaning goal) tasks.old.items) }
+        ≡ pending.Task.run_at (goal first) (terms_of env) (St.meaning store) ∷ pending.Task.bind_to
+        (goal second) (terms_of env) ∷ stack (task St.meaning goal) tasks.old.items) }
 {
     let copy = env.again(alloc)?;
     tasks.push(Task::Bind {
@@ -50,7 +51,9 @@ pub(crate) fn split_either<St: Store>(
     tasks: &mut Vec<Task<St>>,
 ) -> Result<(), Memory>
     ensures { OnOk result ((goal : ℕ → Goal) → stack (task St.meaning goal) tasks.new.items
-        ≡ pending.Task.run_at (goal right) (terms_of env) (St.meaning store) ∷ pending.Task.run_at (goal left) (terms_of env) (St.meaning store) ∷ pending.Task.append_two ∷ stack (task St.meaning goal) tasks.old.items) }
+        ≡ pending.Task.run_at (goal right) (terms_of env) (St.meaning store) ∷ pending.Task.run_at
+        (goal left) (terms_of env) (St.meaning store) ∷ pending.Task.append_two ∷ stack
+        (task St.meaning goal) tasks.old.items) }
 {
     let left_env = env.again(alloc)?;
     let left_store = store.again(alloc)?;
@@ -79,7 +82,9 @@ pub(crate) fn split_fresh<St: Store>(
 ) -> Result<(), Memory>
     requires { (St.meaning store.now).counter + count ≤ 2 ^ 63 }
     ensures { OnOk result ((goal : ℕ → Goal) → stack (task St.meaning goal) tasks.new.items
-        ≡ pending.Task.run_at (goal body) (terms_of env.now ++ variables (St.meaning store.now).counter count) (with_fresh (St.meaning store.now) count) ∷ stack (task St.meaning goal) tasks.old.items) }
+        ≡ pending.Task.run_at (goal body)
+        (terms_of env.now ++ variables (St.meaning store.now).counter count)
+        (with_fresh (St.meaning store.now) count) ∷ stack (task St.meaning goal) tasks.old.items) }
 {
     let env = env.extend(alloc, store.counter(), count)?;
     let store = store.fresh(alloc, count)?;
@@ -99,7 +104,8 @@ fn push_run<St: Store>(
     tasks: &mut Vec<Task<St>>,
 ) -> Result<(), Memory>
     ensures { OnOk result ((at : ℕ → Goal) → stack (task St.meaning at) tasks.new.items
-        ≡ pending.Task.run_at (at goal) (terms_of env) (St.meaning store) ∷ pending.Task.append_two ∷ stack (task St.meaning at) tasks.old.items) }
+        ≡ pending.Task.run_at (at goal) (terms_of env) (St.meaning store) ∷ pending.Task.append_two
+        ∷ stack (task St.meaning at) tasks.old.items) }
 {
     tasks.push(Task::Append)?;
     tasks.push(Task::Run { goal, env, store })?;
@@ -115,7 +121,8 @@ fn run_at_copies<St: Store>(
     tasks: &mut Vec<Task<St>>,
 ) -> Result<(), Memory>
     ensures { OnOk result ((at : ℕ → Goal) → stack (task St.meaning at) tasks.new.items
-        ≡ pending.run_each (at goal) (terms_of env.now) (map St.meaning heads) (stack (task St.meaning at) tasks.old.items)) }
+        ≡ pending.run_each (at goal) (terms_of env.now) (map St.meaning heads)
+        (stack (task St.meaning at) tasks.old.items)) }
 {
     let mut waiting = reversed(alloc, heads)?;
     while let Some(store) = waiting.pop() {
@@ -134,7 +141,8 @@ pub(crate) fn run_at_each<St: Store>(
     tasks: &mut Vec<Task<St>>,
 ) -> Result<(), Memory>
     ensures { OnOk result ((at : ℕ → Goal) → stack (task St.meaning at) tasks.new.items
-        ≡ pending.run_each (at goal) (terms_of env) (map St.meaning heads) (stack (task St.meaning at) tasks.old.items)) }
+        ≡ pending.run_each (at goal) (terms_of env) (map St.meaning heads)
+        (stack (task St.meaning at) tasks.old.items)) }
 {
     let Some(last) = heads.pop() else {
         return Ok(());

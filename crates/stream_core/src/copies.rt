@@ -28,7 +28,8 @@ fn tail_again<N: Nodes<St>, St: Store>(
 ) -> Result<Option<N::Id>, Memory>
     requires { IfSome tail.now (N.table nodes.now).belongs }
     ensures belong { IfOk result (λ copy. IfSome copy (N.table nodes.now).belongs) }
-    ensures stands { IfOk result (λ copy. option_map (N.table nodes.now).tree copy ≡ option_map (N.table nodes.now).tree tail.now) }
+    ensures stands { IfOk result (λ copy. option_map (N.table nodes.now).tree copy ≡ option_map
+        (N.table nodes.now).tree tail.now) }
 {
     match tail {
         None => Ok(None),
@@ -47,7 +48,8 @@ pub(crate) fn thunk_again<N: Nodes<St>, St: Store>(
 ) -> Result<Thunk<N::Id, St>, Memory>
     requires { (N.table nodes.now).belongs id.now }
     ensures belong { IfOk result (HasThunk (N.table nodes.now)) }
-    ensures stands { IfOk result (λ copy. thunk_in (N.table nodes.now) St.meaning copy ≡ (N.table nodes.now).tree id.now) }
+    ensures stands { IfOk result (λ copy. thunk_in (N.table nodes.now) St.meaning copy ≡
+        (N.table nodes.now).tree id.now) }
 {
     match nodes.thunk(id) {
         Thunk::Call { rel, args, store } => {

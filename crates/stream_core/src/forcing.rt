@@ -1,6 +1,7 @@
 //! Forcing suspensions.
 
-ghost use Rattle.std.specs.Prelude.{◌≡◌, ◌≤◌, ◌^◌, true, false, slice_get, IfOk, OnOk, OnErr, IfSome};
+ghost use Rattle.std.specs.Prelude.{◌≡◌, ◌≤◌, ◌^◌, true, false, slice_get, IfOk, OnOk, OnErr};
+ghost use Rattle.std.specs.Prelude.{IfSome};
 ghost use Rattle.kan_model.specs.Streams.Stream as model;
 ghost use Rattle.kan_model.specs.Streams.Running.{enter, force as forced};
 ghost use Rattle.kan_model.specs.Streams.Bounds.{top, floor};
@@ -8,7 +9,9 @@ ghost use Rattle.kan_model.specs.Programs.Environments.{terms_of};
 ghost use Rattle.kan_model.specs.Programs.Closed as programs;
 ghost use Rattle.stream_core.specs.CounterBounds.{TailFits};
 ghost use Rattle.stream_core.specs.InnerSuspensions.{inner_of, has_inner, MayForce, IsInside};
-ghost use Rattle.stream_core.specs.Tables.{IsTableOf, OnlyAdds, Grows, GrowsBy, KeepsMore, KeepsWay, BothTold, HasStream, HasThunk, stream_in, thunk_in, IsForce};
+ghost use Rattle.stream_core.specs.Tables.{IsTableOf, OnlyAdds, Grows, GrowsBy, KeepsMore};
+ghost use Rattle.stream_core.specs.Tables.{KeepsWay, BothTold, HasStream, HasThunk, stream_in};
+ghost use Rattle.stream_core.specs.Tables.{thunk_in, IsForce};
 ghost use Rattle.stream_core.specs.CodeTasks.{stack};
 ghost use Rattle.stream_core.specs.WaysDown.{IsWayFrom, IsNext, EndsWay, Leads};
 
@@ -31,9 +34,11 @@ fn enter_call<N: Nodes<St>, St: Store>(
     nodes: &mut N,
 ) -> Result<Stream<N::Id, St>, Memory>
     requires table { IsTableOf program.now (N.table nodes.old) }
-    requires may { MayForce (programs.meaning program.now) (model.Thunk.call rel (terms_of args) (St.meaning store)) }
+    requires may { MayForce (programs.meaning program.now)
+        (model.Thunk.call rel (terms_of args) (St.meaning store)) }
     ensures made { IfOk result (λ made. stream_in (N.table nodes.new) St.meaning made
-        ≡ enter (slice_get (programs.meaning program.now).relations rel) (terms_of args) (St.meaning store)) }
+        ≡ enter (slice_get (programs.meaning program.now).relations rel) (terms_of args)
+        (St.meaning store)) }
     ensures belong { IfOk result (HasStream (N.table nodes.new)) }
     ensures adds { OnlyAdds (N.table nodes.old) (N.table nodes.new) }
 {
@@ -57,7 +62,8 @@ fn expand<N: Nodes<St>, St: Store>(
     nodes: &mut N,
 ) -> Result<Stream<N::Id, St>, Memory>
     requires table { IsTableOf program.now (N.table nodes.old) }
-    requires may { MayForce (N.table nodes.old).program (thunk_in (N.table nodes.old) St.meaning thunk) }
+    requires may { MayForce (N.table nodes.old).program
+        (thunk_in (N.table nodes.old) St.meaning thunk) }
     requires last { has_inner (thunk_in (N.table nodes.old) St.meaning thunk) ≡ false }
     ensures made { IfOk result (λ made. stream_in (N.table nodes.new) St.meaning made
         ≡ forced (N.table nodes.old).program (thunk_in (N.table nodes.old) St.meaning thunk)) }
@@ -87,9 +93,11 @@ fn go_around<N: Nodes<St>, St: Store>(
 ) -> Result<Stream<N::Id, St>, Memory>
     requires table { IsTableOf program.now (N.table nodes.old) }
     requires belong { HasThunk (N.table nodes.old) thunk }
-    requires may { MayForce (N.table nodes.old).program (thunk_in (N.table nodes.old) St.meaning thunk) }
+    requires may { MayForce (N.table nodes.old).program
+        (thunk_in (N.table nodes.old) St.meaning thunk) }
     requires around { has_inner (thunk_in (N.table nodes.old) St.meaning thunk) ≡ true }
-    requires inside { IsForce (N.table nodes.old) St.meaning (inner_of (thunk_in (N.table nodes.old) St.meaning thunk)) inside }
+    requires inside { IsForce (N.table nodes.old) St.meaning
+        (inner_of (thunk_in (N.table nodes.old) St.meaning thunk)) inside }
     ensures made { IfOk result (λ made. stream_in (N.table nodes.new) St.meaning made
         ≡ forced (N.table nodes.old).program (thunk_in (N.table nodes.old) St.meaning thunk)) }
     ensures belong { IfOk result (HasStream (N.table nodes.new)) }
@@ -145,14 +153,15 @@ fn inner_again<N: Nodes<St>, St: Store>(nodes: &N, id: &N::Id) -> Result<Option<
             env: _,
             inner,
         } => {
-            let inner = nodes.again(inner)?;
-            Ok(Some(inner))
+            let around = nodes.again(inner)?;
+            Ok(Some(around))
         }
     }
 }
 
-// A way down from a suspension: the ids of those that have one inside, each inside the one before it,
-// then the last one, and its stream, where that was found. Where it wasn't, the last one has none inside.
+// A way down from a suspension: the ids of those that have one inside, each inside the one before
+// it, then the last one, and its stream, where that was found. Where it wasn't, the last one has
+// none inside.
 #[derive(Drop)]
 struct Way<I, St> {
     above: Vec<I>,
@@ -160,7 +169,8 @@ struct Way<I, St> {
     found: Option<Stream<I, St>>,
 }
 
-// The way down from a suspension to the first whose stream is found, or to the one that has none inside.
+// The way down from a suspension to the first whose stream is found, or to the one that has none
+// inside.
 fn way_down<N: Nodes<St>, St: Store>(
     alloc: Global,
     nodes: &N,
@@ -168,10 +178,13 @@ fn way_down<N: Nodes<St>, St: Store>(
 ) -> Result<Way<N::Id, St>, Memory>
     requires belongs { (N.table nodes.now).belongs id.now }
     requires may { MayForce (N.table nodes.now).program ((N.table nodes.now).tree id.now) }
-    ensures above { IfOk result (λ way. IsWayFrom (N.table nodes.now) ((N.table nodes.now).tree id.now) way.above.items) }
-    ensures last { IfOk result (λ way. IsNext (N.table nodes.now) ((N.table nodes.now).tree id.now) way.above.items way.last) }
+    ensures above { IfOk result (λ way. IsWayFrom (N.table nodes.now)
+        ((N.table nodes.now).tree id.now) way.above.items) }
+    ensures last { IfOk result (λ way. IsNext (N.table nodes.now) ((N.table nodes.now).tree id.now)
+        way.above.items way.last) }
     ensures end { IfOk result (λ way. EndsWay (N.table nodes.now) St.meaning way.last way.found) }
-    ensures leads { IfOk result (λ way. IfSome (N.table nodes.now).told (λ told. Leads told.inner id.now (stack (λ at. at) way.above.items) way.last)) }
+    ensures leads { IfOk result (λ way. IfSome (N.table nodes.now).told
+        (λ told. Leads told.inner id.now (stack (λ at. at) way.above.items) way.last)) }
 {
     let mut above = Vec::new(alloc);
     let mut last = nodes.again(id)?;
@@ -199,7 +212,8 @@ fn way_down<N: Nodes<St>, St: Store>(
     }
 }
 
-// The force of the last id on a way: the one that was found, or else one call or pause is expanded, and the stream kept.
+// The force of the last id on a way: the one that was found, or else one call or pause is expanded,
+// and the stream kept.
 fn force_last<N: Nodes<St>, St: Store>(
     alloc: Global,
     program: &Program,
@@ -211,8 +225,10 @@ fn force_last<N: Nodes<St>, St: Store>(
     requires belongs { (N.table nodes.old).belongs last.now }
     requires may { MayForce (N.table nodes.old).program ((N.table nodes.old).tree last.now) }
     requires end { EndsWay (N.table nodes.old) St.meaning last.now found }
-    ensures force { IfOk result (IsForce (N.table nodes.new) St.meaning ((N.table nodes.old).tree last.now)) }
-    ensures kept { OnOk result (GrowsBy (KeepsMore last.now) (N.table nodes.old) (N.table nodes.new)) }
+    ensures force { IfOk result (IsForce (N.table nodes.new) St.meaning
+        ((N.table nodes.old).tree last.now)) }
+    ensures kept { OnOk result (GrowsBy (KeepsMore last.now) (N.table nodes.old)
+        (N.table nodes.new)) }
     ensures unchanged { OnErr result (OnlyAdds (N.table nodes.old) (N.table nodes.new)) }
 {
     match found {
@@ -238,9 +254,12 @@ fn force_around<N: Nodes<St>, St: Store>(
     requires belongs { (N.table nodes.old).belongs at.now }
     requires may { MayForce (N.table nodes.old).program ((N.table nodes.old).tree at.now) }
     requires around { has_inner ((N.table nodes.old).tree at.now) ≡ true }
-    requires inside { IsForce (N.table nodes.old) St.meaning (inner_of ((N.table nodes.old).tree at.now)) inside }
-    ensures force { IfOk result (IsForce (N.table nodes.new) St.meaning ((N.table nodes.old).tree at.now)) }
-    ensures kept { OnOk result (GrowsBy (KeepsMore at.now) (N.table nodes.old) (N.table nodes.new)) }
+    requires inside { IsForce (N.table nodes.old) St.meaning
+        (inner_of ((N.table nodes.old).tree at.now)) inside }
+    ensures force { IfOk result (IsForce (N.table nodes.new) St.meaning
+        ((N.table nodes.old).tree at.now)) }
+    ensures kept { OnOk result (GrowsBy (KeepsMore at.now) (N.table nodes.old)
+        (N.table nodes.new)) }
     ensures unchanged { OnErr result (OnlyAdds (N.table nodes.old) (N.table nodes.new)) }
 {
     let thunk = thunk_again(alloc, nodes, at)?;
@@ -249,8 +268,8 @@ fn force_around<N: Nodes<St>, St: Store>(
     Ok(kept)
 }
 
-/// The force of a suspension: one call or pause is expanded. What is found on the way down to it is used, and
-/// each stream that is made on the way up is kept for its id.
+/// The force of a suspension: one call or pause is expanded. What is found on the way down to it is
+/// used, and each stream that is made on the way up is kept for its id.
 pub fn force<N: Nodes<St>, St: Store>(
     alloc: Global,
     program: &Program,
@@ -260,10 +279,13 @@ pub fn force<N: Nodes<St>, St: Store>(
     requires table { IsTableOf program.now (N.table nodes.old) }
     requires belongs { (N.table nodes.old).belongs id.now }
     requires room { top ((N.table nodes.old).tree id.now) ≤ 2 ^ 62 }
-    ensures force { IfOk result (IsForce (N.table nodes.new) St.meaning ((N.table nodes.old).tree id.now)) }
-    ensures fits { IfOk result (λ made. TailFits (programs.meaning program.now) (floor ((N.table nodes.old).tree id.now))
+    ensures force { IfOk result (IsForce (N.table nodes.new) St.meaning
+        ((N.table nodes.old).tree id.now)) }
+    ensures fits { IfOk result (λ made. TailFits (programs.meaning program.now)
+        (floor ((N.table nodes.old).tree id.now))
         (top ((N.table nodes.old).tree id.now)) (stream_in (N.table nodes.new) St.meaning made)) }
-    ensures kept { OnOk result (BothTold (KeepsWay (N.table nodes.old).belongs id.now) (N.table nodes.old).told (N.table nodes.new).told) }
+    ensures kept { OnOk result (BothTold (KeepsWay (N.table nodes.old).belongs id.now)
+        (N.table nodes.old).told (N.table nodes.new).told) }
     ensures grows { Grows (N.table nodes.old) (N.table nodes.new) }
 {
     let way = way_down(alloc, nodes, id)?;

@@ -1,4 +1,5 @@
-//! Streams whose suspensions are kept in a table: the stream of a goal, and what forcing a suspension gives.
+//! Streams whose suspensions are kept in a table: the stream of a goal, and what forcing a
+//! suspension gives.
 #![tactic(auto)]
 
 mod appending;

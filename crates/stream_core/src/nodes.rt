@@ -1,20 +1,22 @@
 //! Tables of suspensions.
 
-ghost use Rattle.std.specs.Prelude.{◌≡◌, true, false, suc, None, Some, option_map, is_some, IfOk, OnOk, OnErr, IfSome};
+ghost use Rattle.std.specs.Prelude.{◌≡◌, true, false, suc, None, Some, option_map, is_some, IfOk};
+ghost use Rattle.std.specs.Prelude.{OnOk, OnErr, IfSome};
 ghost use Rattle.kan_model.specs.Streams.Bounds.{Fits};
 ghost use Rattle.stream_core.specs.Suspensions.{inner_id};
-ghost use Rattle.stream_core.specs.Tables.{Table, GrowsBy, KeepsMore, OnlyAdds, StandsFor, IsKept, IsInner, HasThunk, thunk_in, IsForce};
+ghost use Rattle.stream_core.specs.Tables.{Table, GrowsBy, KeepsMore, OnlyAdds, StandsFor, IsKept};
+ghost use Rattle.stream_core.specs.Tables.{IsInner, HasThunk, thunk_in, IsForce};
 
 use crate::streams::{Stream, Thunk};
 use kan_model::Store;
 use kan_terms::Memory;
 use std::alloc::Global;
 
-/// A table of suspensions. It is used with one program alone, and an id with the table that gave it.
-/// Whatever a call answers, what older ids stand for is unchanged.
+/// A table of suspensions. It is used with one program alone, and an id with the table that gave
+/// it. Whatever a call answers, what older ids stand for is unchanged.
 ///
-/// A table may tell for which ids a stream is kept, and how many suspensions it has. One that others
-/// use at the same time tells neither.
+/// A table may tell for which ids a stream is kept, and how many suspensions it has. One that
+/// others use at the same time tells neither.
 pub trait Nodes<St: Store> {
     /// Names a suspension for good.
     type Id: Drop;
@@ -26,17 +28,20 @@ pub trait Nodes<St: Store> {
     fn suspend(&mut self, thunk: Thunk<Self::Id, St>) -> Result<Self::Id, Memory>
         requires belong { HasThunk (table self.old) thunk }
         requires fits { Fits (table self.old).program (thunk_in (table self.old) St.meaning thunk) }
-        ensures stands { IfOk result (StandsFor (table self.new) (thunk_in (table self.old) St.meaning thunk)) }
+        ensures stands { IfOk result (StandsFor (table self.new)
+            (thunk_in (table self.old) St.meaning thunk)) }
         ensures nothing_kept { IfOk result (IsKept (table self.new) false) }
         ensures adds { OnlyAdds (table self.old) (table self.new) }
-        ensures larger { OnOk result ((table self.new).size ≡ option_map suc (table self.old).size) }
+        ensures larger { OnOk result ((table self.new).size ≡ option_map suc
+            (table self.old).size) }
         ensures refused { OnErr result ((table self.new).size ≡ (table self.old).size) };
 
     /// The suspension that an id names. It takes no memory.
     fn thunk<'a>(&'a self, id: &'a Self::Id) -> &'a Thunk<Self::Id, St>
         requires { (table self.now).belongs id.now }
         ensures belong { HasThunk (table self.now) result.now }
-        ensures stands { thunk_in (table self.now) St.meaning result.now ≡ (table self.now).tree id.now }
+        ensures stands { thunk_in (table self.now) St.meaning result.now ≡ (table self.now).tree
+            id.now }
         ensures inner { IsInner (table self.now) (inner_id result.now) id.now };
 
     /// An id of the same suspension; the same id, where the table tells what is kept.
@@ -49,7 +54,8 @@ pub trait Nodes<St: Store> {
     /// doesn't tell what is kept, it may miss one.
     fn found(&self, alloc: Global, id: &Self::Id) -> Result<Option<Stream<Self::Id, St>>, Memory>
         requires { (table self.now).belongs id.now }
-        ensures force { IfOk result (λ found. IfSome found (IsForce (table self.now) St.meaning ((table self.now).tree id.now))) }
+        ensures force { IfOk result (λ found. IfSome found
+            (IsForce (table self.now) St.meaning ((table self.now).tree id.now))) }
         ensures told { IfOk result (λ found. IsKept (table self.now) (is_some found) id.now) };
 
     /// Keeps the force of an id's suspension for it, and gives a stream that is that force.
@@ -61,11 +67,13 @@ pub trait Nodes<St: Store> {
     ) -> Result<Stream<Self::Id, St>, Memory>
         requires belongs { (table self.old).belongs id.now }
         requires force { IsForce (table self.old) St.meaning ((table self.old).tree id.now) stream }
-        ensures force { IfOk result (IsForce (table self.new) St.meaning ((table self.old).tree id.now)) }
+        ensures force { IfOk result (IsForce (table self.new) St.meaning
+            ((table self.old).tree id.now)) }
         ensures kept { OnOk result (GrowsBy (KeepsMore id.now) (table self.old) (table self.new)) }
         ensures unchanged { OnErr result (OnlyAdds (table self.old) (table self.new)) }
         ensures size { (table self.new).size ≡ (table self.old).size };
 
     // Each suspension fits the program.
-    ghost fits: { (nodes : Self) → (id : Self.Id) → (table nodes).belongs id → Fits (table nodes).program ((table nodes).tree id) };
+    ghost fits: { (nodes : Self) → (id : Self.Id) → (table nodes).belongs id → Fits
+        (table nodes).program ((table nodes).tree id) };
 }

@@ -38,7 +38,8 @@ fn stream_again<St: Store>(
     stream: &Stream<PlainId, St>,
 ) -> Result<Stream<PlainId, St>, Memory>
     ensures tail { IfOk result (λ copy. copy.tail ≡ stream.now.tail) }
-    ensures heads { IfOk result (λ copy. map St.meaning copy.heads ≡ map St.meaning stream.now.heads) }
+    ensures heads { IfOk result (λ copy. map St.meaning copy.heads ≡ map St.meaning
+        stream.now.heads) }
 {
     let heads = stores_again(alloc, stream.heads.items())?;
     let tail = stream.tail;
@@ -78,25 +79,32 @@ impl<'a, St: Store> PlainNodes<'a, St> {
 impl<'a, St: Store> Nodes<St> for PlainNodes<'a, St> {
     ghost use Rattle.std.specs.Prelude.{false, suc, option_map, OnOk, OnErr};
     ghost use Rattle.kan_model.specs.Streams.Bounds.{Fits};
-    ghost use Rattle.stream_core.specs.Tables.{GrowsBy, KeepsMore, OnlyAdds, StandsFor, IsKept, HasThunk, thunk_in, IsForce};
+    ghost use Rattle.stream_core.specs.Tables.{GrowsBy, KeepsMore, OnlyAdds, StandsFor, IsKept};
+    ghost use Rattle.stream_core.specs.Tables.{HasThunk, thunk_in, IsForce};
     ghost use Rattle.stream_core.specs.PlainTables.{plain_table};
     ghost use Rattle.stream_core.specs.declared.plain_nodes.PlainId.{PlainId};
 
     type Id = PlainId;
 
-    // An id belongs where all that is reached from it is sound: each suspension fits, and what is kept for it is its force.
+    // An id belongs where all that is reached from it is sound: each suspension fits, and what is
+    // kept for it is its force.
     ghost table = { λ nodes. plain_table St.meaning nodes };
 
     ghost fits = { λ nodes id belongs. (belongs 0).1 };
 
     fn suspend(&mut self, thunk: Thunk<PlainId, St>) -> Result<PlainId, Memory>
         requires belong { HasThunk (plain_table St.meaning self.old) thunk }
-        requires fits { Fits (plain_table St.meaning self.old).program (thunk_in (plain_table St.meaning self.old) St.meaning thunk) }
-        ensures stands { IfOk result (StandsFor (plain_table St.meaning self.new) (thunk_in (plain_table St.meaning self.old) St.meaning thunk)) }
+        requires fits { Fits (plain_table St.meaning self.old).program
+            (thunk_in (plain_table St.meaning self.old) St.meaning thunk) }
+        ensures stands { IfOk result (StandsFor (plain_table St.meaning self.new)
+            (thunk_in (plain_table St.meaning self.old) St.meaning thunk)) }
         ensures nothing_kept { IfOk result (IsKept (plain_table St.meaning self.new) false) }
-        ensures adds { OnlyAdds (plain_table St.meaning self.old) (plain_table St.meaning self.new) }
-        ensures larger { OnOk result ((plain_table St.meaning self.new).size ≡ option_map suc (plain_table St.meaning self.old).size) }
-        ensures refused { OnErr result ((plain_table St.meaning self.new).size ≡ (plain_table St.meaning self.old).size) }
+        ensures adds { OnlyAdds (plain_table St.meaning self.old)
+            (plain_table St.meaning self.new) }
+        ensures larger { OnOk result ((plain_table St.meaning self.new).size ≡ option_map suc
+            (plain_table St.meaning self.old).size) }
+        ensures refused { OnErr result ((plain_table St.meaning self.new).size ≡
+            (plain_table St.meaning self.old).size) }
     {
         let at = self.rows.len();
         self.rows.push(Row { thunk, kept: None })?;
@@ -129,11 +137,16 @@ impl<'a, St: Store> Nodes<St> for PlainNodes<'a, St> {
         stream: Stream<PlainId, St>,
     ) -> Result<Stream<PlainId, St>, Memory>
         requires belongs { (plain_table St.meaning self.old).belongs id.now }
-        requires force { IsForce (plain_table St.meaning self.old) St.meaning ((plain_table St.meaning self.old).tree id.now) stream }
-        ensures force { IfOk result (IsForce (plain_table St.meaning self.new) St.meaning ((plain_table St.meaning self.old).tree id.now)) }
-        ensures kept { OnOk result (GrowsBy (KeepsMore id.now) (plain_table St.meaning self.old) (plain_table St.meaning self.new)) }
-        ensures unchanged { OnErr result (OnlyAdds (plain_table St.meaning self.old) (plain_table St.meaning self.new)) }
-        ensures size { (plain_table St.meaning self.new).size ≡ (plain_table St.meaning self.old).size }
+        requires force { IsForce (plain_table St.meaning self.old) St.meaning
+            ((plain_table St.meaning self.old).tree id.now) stream }
+        ensures force { IfOk result (IsForce (plain_table St.meaning self.new) St.meaning
+            ((plain_table St.meaning self.old).tree id.now)) }
+        ensures kept { OnOk result (GrowsBy (KeepsMore id.now) (plain_table St.meaning self.old)
+            (plain_table St.meaning self.new)) }
+        ensures unchanged { OnErr result
+            (OnlyAdds (plain_table St.meaning self.old) (plain_table St.meaning self.new)) }
+        ensures size { (plain_table St.meaning self.new).size ≡
+            (plain_table St.meaning self.old).size }
     {
         let copy = stream_again(alloc, &stream)?;
         self.rows[id.at].kept = Some(copy);

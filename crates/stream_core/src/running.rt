@@ -1,6 +1,7 @@
 //! The stream of a goal, by tasks on a stack.
 
-ghost use Rattle.std.specs.Prelude.{◌≡◌, ◌+◌, ◌≤◌, ◌<◌, ◌^◌, length, List, [], ◌∷◌, map, true, option_map, IfSome, IfOk, OnOk};
+ghost use Rattle.std.specs.Prelude.{◌≡◌, ◌+◌, ◌≤◌, ◌<◌, ◌^◌, length, List, [], ◌∷◌, map, true};
+ghost use Rattle.std.specs.Prelude.{option_map, IfSome, IfOk, OnOk};
 ghost use Rattle.std.specs.List.{list_all};
 ghost use Rattle.kan_model.specs.Programs.Goals as goals;
 ghost use Rattle.kan_model.specs.Streams.Stream as model;
@@ -15,7 +16,8 @@ ghost use Rattle.stream_core.specs.CounterBounds.{TailFits, FitsAsBound};
 ghost use Rattle.stream_core.specs.Suspensions.{going_on};
 ghost use Rattle.stream_core.specs.Tables.{IsTableOf, OnlyAdds, HasStream, stream_in};
 ghost use Rattle.stream_core.specs.Tasks as pending;
-ghost use Rattle.stream_core.specs.Tasks.{Each, IsOf, MayRun, AreBelow, AreBelowRest, Becomes, AreReady, bound_last, done};
+ghost use Rattle.stream_core.specs.Tasks.{Each, IsOf, MayRun, AreBelow, AreBelowRest, Becomes};
+ghost use Rattle.stream_core.specs.Tasks.{AreReady, bound_last, done};
 ghost use Rattle.stream_core.specs.CodeTasks.{task, tasks_of, streams_of};
 
 use crate::appending::append;
@@ -31,7 +33,8 @@ use std::alloc::Global;
 // The node of a goal, and the one that fails past the end of the table.
 fn node_at(program: &Program, goal: u32) -> GoalNode
     requires { list_all is_built (programs.tables program.now).goals ≡ true }
-    ensures is { programs.goal program.now goal ≡ programs.entry_goal program.now (goal_entry result) }
+    ensures is { programs.goal program.now goal ≡ programs.entry_goal program.now
+        (goal_entry result) }
     ensures built { is_built (goal_entry result) ≡ true }
     ensures placed { ArgumentsPlaced program.now (goal_entry result) }
 {
@@ -41,7 +44,8 @@ fn node_at(program: &Program, goal: u32) -> GoalNode
     }
 }
 
-// Runs a goal: its stream comes on the stack of streams, or the tasks that make it on the stack of tasks.
+// Runs a goal: its stream comes on the stack of streams, or the tasks that make it on the stack of
+// tasks.
 fn run_node<N: Nodes<St>, St: Store>(
     alloc: Global,
     program: &Program,
@@ -53,12 +57,15 @@ fn run_node<N: Nodes<St>, St: Store>(
     values: &mut Vec<Stream<N::Id, St>>,
 ) -> Result<(), Memory>
     requires table { IsTableOf program.now (N.table nodes.old) }
-    requires may { MayRun (programs.meaning program.now) (programs.goal program.now goal) (terms_of env) (St.meaning store) }
+    requires may { MayRun (programs.meaning program.now) (programs.goal program.now goal)
+        (terms_of env) (St.meaning store) }
     requires belong { Each (HasStream (N.table nodes.old)) values.old.items }
     ensures becomes { OnOk result (Becomes (programs.meaning program.now)
-        (pending.Task.run_at (programs.goal program.now goal) (terms_of env) (St.meaning store) ∷ tasks_of program.now St.meaning tasks.old.items)
+        (pending.Task.run_at (programs.goal program.now goal) (terms_of env) (St.meaning store) ∷
+        tasks_of program.now St.meaning tasks.old.items)
         (streams_of (N.table nodes.old) St.meaning values.old.items)
-        (tasks_of program.now St.meaning tasks.new.items) (streams_of (N.table nodes.new) St.meaning values.new.items)) }
+        (tasks_of program.now St.meaning tasks.new.items)
+        (streams_of (N.table nodes.new) St.meaning values.new.items)) }
     ensures belong { OnOk result (Each (HasStream (N.table nodes.new)) values.new.items) }
     ensures adds { OnlyAdds (N.table nodes.old) (N.table nodes.new) }
 {
@@ -83,8 +90,10 @@ fn append_top<N: Nodes<St>, St: Store>(
 ) -> Result<(), Memory>
     requires two { 2 ≤ length values.old.items }
     requires belong { Each (HasStream (N.table nodes.old)) values.old.items }
-    ensures becomes { OnOk result ((p : goals.Program) (ts : List pending.Task) → Becomes p (pending.Task.append_two ∷ ts)
-        (streams_of (N.table nodes.old) St.meaning values.old.items) ts (streams_of (N.table nodes.new) St.meaning values.new.items)) }
+    ensures becomes { OnOk result ((p : goals.Program) (ts : List pending.Task) → Becomes p
+        (pending.Task.append_two ∷ ts)
+        (streams_of (N.table nodes.old) St.meaning values.old.items) ts
+        (streams_of (N.table nodes.new) St.meaning values.new.items)) }
     ensures belong { OnOk result (Each (HasStream (N.table nodes.new)) values.new.items) }
     ensures adds { OnlyAdds (N.table nodes.old) (N.table nodes.new) }
 {
@@ -109,11 +118,14 @@ fn bound_tail<N: Nodes<St>, St: Store>(
     nodes: &mut N,
 ) -> Result<Stream<N::Id, St>, Memory>
     requires table { IsTableOf program.now (N.table nodes.old) }
-    requires is { IsOf (programs.meaning program.now) (programs.goal program.now goal) (terms_of env.now) }
-    requires below { AreBelowRest (terms_of env.now) (going_on [] (option_map (N.table nodes.old).tree tail)) }
+    requires is { IsOf (programs.meaning program.now) (programs.goal program.now goal)
+        (terms_of env.now) }
+    requires below { AreBelowRest (terms_of env.now)
+        (going_on [] (option_map (N.table nodes.old).tree tail)) }
     requires belong { IfSome tail (N.table nodes.old).belongs }
     ensures made { IfOk result (λ made. stream_in (N.table nodes.new) St.meaning made
-        ≡ bound_last (programs.goal program.now goal) (terms_of env.now) (going_on [] (option_map (N.table nodes.old).tree tail))) }
+        ≡ bound_last (programs.goal program.now goal) (terms_of env.now)
+        (going_on [] (option_map (N.table nodes.old).tree tail))) }
     ensures belong { IfOk result (HasStream (N.table nodes.new)) }
     ensures adds { OnlyAdds (N.table nodes.old) (N.table nodes.new) }
 {
@@ -144,13 +156,17 @@ fn bind_top<N: Nodes<St>, St: Store>(
     values: &mut Vec<Stream<N::Id, St>>,
 ) -> Result<(), Memory>
     requires table { IsTableOf program.now (N.table nodes.old) }
-    requires ready { AreReady (programs.meaning program.now) (pending.Task.bind_to (programs.goal program.now goal) (terms_of env) ∷ tasks_of program.now St.meaning tasks.old.items)
+    requires ready { AreReady (programs.meaning program.now)
+        (pending.Task.bind_to (programs.goal program.now goal) (terms_of env) ∷ tasks_of program.now
+        St.meaning tasks.old.items)
         (streams_of (N.table nodes.old) St.meaning values.old.items) }
     requires belong { Each (HasStream (N.table nodes.old)) values.old.items }
     ensures becomes { OnOk result (Becomes (programs.meaning program.now)
-        (pending.Task.bind_to (programs.goal program.now goal) (terms_of env) ∷ tasks_of program.now St.meaning tasks.old.items)
+        (pending.Task.bind_to (programs.goal program.now goal) (terms_of env) ∷ tasks_of program.now
+        St.meaning tasks.old.items)
         (streams_of (N.table nodes.old) St.meaning values.old.items)
-        (tasks_of program.now St.meaning tasks.new.items) (streams_of (N.table nodes.new) St.meaning values.new.items)) }
+        (tasks_of program.now St.meaning tasks.new.items)
+        (streams_of (N.table nodes.new) St.meaning values.new.items)) }
     ensures belong { OnOk result (Each (HasStream (N.table nodes.new)) values.new.items) }
     ensures adds { OnlyAdds (N.table nodes.old) (N.table nodes.new) }
 {
@@ -174,13 +190,17 @@ fn take_task<N: Nodes<St>, St: Store>(
     values: &mut Vec<Stream<N::Id, St>>,
 ) -> Result<(), Memory>
     requires table { IsTableOf program.now (N.table nodes.old) }
-    requires ready { AreReady (programs.meaning program.now) (task St.meaning (programs.goal program.now) next ∷ tasks_of program.now St.meaning tasks.old.items)
+    requires ready { AreReady (programs.meaning program.now)
+        (task St.meaning (programs.goal program.now) next ∷ tasks_of program.now St.meaning
+        tasks.old.items)
         (streams_of (N.table nodes.old) St.meaning values.old.items) }
     requires belong { Each (HasStream (N.table nodes.old)) values.old.items }
     ensures becomes { OnOk result (Becomes (programs.meaning program.now)
-        (task St.meaning (programs.goal program.now) next ∷ tasks_of program.now St.meaning tasks.old.items)
+        (task St.meaning (programs.goal program.now) next ∷ tasks_of program.now St.meaning
+        tasks.old.items)
         (streams_of (N.table nodes.old) St.meaning values.old.items)
-        (tasks_of program.now St.meaning tasks.new.items) (streams_of (N.table nodes.new) St.meaning values.new.items)) }
+        (tasks_of program.now St.meaning tasks.new.items)
+        (streams_of (N.table nodes.new) St.meaning values.new.items)) }
     ensures belong { OnOk result (Each (HasStream (N.table nodes.new)) values.new.items) }
     ensures adds { OnlyAdds (N.table nodes.old) (N.table nodes.new) }
 {
@@ -202,10 +222,14 @@ fn finish<N: Nodes<St>, St: Store>(
     mut values: Vec<Stream<N::Id, St>>,
 ) -> Result<Stream<N::Id, St>, Memory>
     requires table { IsTableOf program.now (N.table nodes.old) }
-    requires ready { AreReady (programs.meaning program.now) (tasks_of program.now St.meaning tasks.items) (streams_of (N.table nodes.old) St.meaning values.items) }
-    requires one { length (done (tasks_of program.now St.meaning tasks.items) (streams_of (N.table nodes.old) St.meaning values.items)) ≡ 1 }
+    requires ready { AreReady (programs.meaning program.now)
+        (tasks_of program.now St.meaning tasks.items)
+        (streams_of (N.table nodes.old) St.meaning values.items) }
+    requires one { length (done (tasks_of program.now St.meaning tasks.items)
+        (streams_of (N.table nodes.old) St.meaning values.items)) ≡ 1 }
     requires belong { Each (HasStream (N.table nodes.old)) values.items }
-    ensures made { IfOk result (λ made. done (tasks_of program.now St.meaning tasks.items) (streams_of (N.table nodes.old) St.meaning values.items)
+    ensures made { IfOk result (λ made. done (tasks_of program.now St.meaning tasks.items)
+        (streams_of (N.table nodes.old) St.meaning values.items)
         ≡ stream_in (N.table nodes.new) St.meaning made ∷ []) }
     ensures belong { IfOk result (HasStream (N.table nodes.new)) }
     ensures adds { OnlyAdds (N.table nodes.old) (N.table nodes.new) }
@@ -229,10 +253,12 @@ pub(crate) fn run_with<N: Nodes<St>, St: Store>(
     nodes: &mut N,
 ) -> Result<Stream<N::Id, St>, Memory>
     requires table { IsTableOf program.now (N.table nodes.old) }
-    requires is { IsOf (programs.meaning program.now) (programs.goal program.now goal) (terms_of env) }
+    requires is { IsOf (programs.meaning program.now) (programs.goal program.now goal)
+        (terms_of env) }
     requires below { list_all (all_below (St.meaning store).counter) (terms_of env) ≡ true }
     requires room { (St.meaning store).counter ≤ 2 ^ 62 }
-    ensures made { IfOk result (λ made. stream_in (N.table nodes.new) St.meaning made ≡ run (programs.goal program.now goal) (terms_of env) (St.meaning store)) }
+    ensures made { IfOk result (λ made. stream_in (N.table nodes.new) St.meaning made ≡ run
+        (programs.goal program.now goal) (terms_of env) (St.meaning store)) }
     ensures belong { IfOk result (HasStream (N.table nodes.new)) }
     ensures adds { OnlyAdds (N.table nodes.old) (N.table nodes.new) }
 {
@@ -257,10 +283,13 @@ pub fn run_goal<N: Nodes<St>, St: Store>(
     requires slots { in_scope (length (terms_of env.now)) (programs.goal program.now goal) ≡ true }
     requires below { list_all (all_below (St.meaning store).counter) (terms_of env.now) ≡ true }
     requires room { (St.meaning store).counter ≤ 2 ^ 62 }
-    ensures made { IfOk result (λ made. stream_in (N.table nodes.new) St.meaning made ≡ run (programs.goal program.now goal) (terms_of env.now) (St.meaning store)) }
+    ensures made { IfOk result (λ made. stream_in (N.table nodes.new) St.meaning made ≡ run
+        (programs.goal program.now goal) (terms_of env.now) (St.meaning store)) }
     ensures belong { IfOk result (HasStream (N.table nodes.new)) }
-    ensures fits { IfOk result (λ made. TailFits (programs.meaning program.now) (St.meaning store).counter
-        ((St.meaning store).counter + width (programs.goal program.now goal)) (stream_in (N.table nodes.new) St.meaning made)) }
+    ensures fits { IfOk result (λ made. TailFits (programs.meaning program.now)
+        (St.meaning store).counter
+        ((St.meaning store).counter + width (programs.goal program.now goal))
+        (stream_in (N.table nodes.new) St.meaning made)) }
     ensures adds { OnlyAdds (N.table nodes.old) (N.table nodes.new) }
 {
     let env = env.again(alloc)?;
@@ -278,12 +307,15 @@ pub(crate) fn bind_with<N: Nodes<St>, St: Store>(
     nodes: &mut N,
 ) -> Result<Stream<N::Id, St>, Memory>
     requires table { IsTableOf program.now (N.table nodes.old) }
-    requires is { IsOf (programs.meaning program.now) (programs.goal program.now goal) (terms_of env) }
+    requires is { IsOf (programs.meaning program.now) (programs.goal program.now goal)
+        (terms_of env) }
     requires room { Each (AreBelow (terms_of env)) (map St.meaning stream.heads) }
     requires below { AreBelowRest (terms_of env) (stream_in (N.table nodes.old) St.meaning stream) }
     requires belong { HasStream (N.table nodes.old) stream }
     ensures made { IfOk result (λ made. stream_in (N.table nodes.new) St.meaning made
-        ≡ model.bind_all (run (programs.goal program.now goal) (terms_of env)) (programs.goal program.now goal) (terms_of env) (stream_in (N.table nodes.old) St.meaning stream)) }
+        ≡ model.bind_all (run (programs.goal program.now goal) (terms_of env))
+        (programs.goal program.now goal) (terms_of env)
+        (stream_in (N.table nodes.old) St.meaning stream)) }
     ensures belong { IfOk result (HasStream (N.table nodes.new)) }
     ensures adds { OnlyAdds (N.table nodes.old) (N.table nodes.new) }
 {
@@ -295,7 +327,8 @@ pub(crate) fn bind_with<N: Nodes<St>, St: Store>(
     Ok(made)
 }
 
-/// The streams of a goal at each store of a stream, appended; the goal waits for the stores that come later.
+/// The streams of a goal at each store of a stream, appended; the goal waits for the stores that
+/// come later.
 pub fn bind_all<N: Nodes<St>, St: Store>(
     alloc: Global,
     program: &Program,
@@ -305,15 +338,21 @@ pub fn bind_all<N: Nodes<St>, St: Store>(
     nodes: &mut N,
 ) -> Result<Stream<N::Id, St>, Memory>
     requires table { IsTableOf program.now (N.table nodes.old) }
-    requires is { IsOf (programs.meaning program.now) (programs.goal program.now goal) (terms_of env.now) }
+    requires is { IsOf (programs.meaning program.now) (programs.goal program.now goal)
+        (terms_of env.now) }
     requires room { Each (AreBelow (terms_of env.now)) (map St.meaning stream.heads) }
-    requires below { AreBelowRest (terms_of env.now) (stream_in (N.table nodes.old) St.meaning stream) }
+    requires below { AreBelowRest (terms_of env.now)
+        (stream_in (N.table nodes.old) St.meaning stream) }
     requires belong { HasStream (N.table nodes.old) stream }
     ensures made { IfOk result (λ made. stream_in (N.table nodes.new) St.meaning made
-        ≡ model.bind_all (run (programs.goal program.now goal) (terms_of env.now)) (programs.goal program.now goal) (terms_of env.now) (stream_in (N.table nodes.old) St.meaning stream)) }
+        ≡ model.bind_all (run (programs.goal program.now goal) (terms_of env.now))
+        (programs.goal program.now goal) (terms_of env.now)
+        (stream_in (N.table nodes.old) St.meaning stream)) }
     ensures belong { IfOk result (HasStream (N.table nodes.new)) }
-    ensures fits { IfOk result (λ made. FitsAsBound (programs.meaning program.now) (programs.goal program.now goal) (terms_of env.now)
-        (stream_in (N.table nodes.old) St.meaning stream) (stream_in (N.table nodes.new) St.meaning made)) }
+    ensures fits { IfOk result (λ made. FitsAsBound (programs.meaning program.now)
+        (programs.goal program.now goal) (terms_of env.now)
+        (stream_in (N.table nodes.old) St.meaning stream)
+        (stream_in (N.table nodes.new) St.meaning made)) }
     ensures adds { OnlyAdds (N.table nodes.old) (N.table nodes.new) }
 {
     let env = env.again(alloc)?;

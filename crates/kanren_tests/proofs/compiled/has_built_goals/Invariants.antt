@@ -1,7 +1,7 @@
 use Rattle.std.proofs.Common.{◌≡◌, ◌≤◌, ◌-◌, length, drop}
 use Rattle.std.specs.List.{list_all}
 use Rattle.kan_model.specs.Programs.Closed as programs
-use Rattle.stream_core.specs.CodeTasks.{is_built}
+use Rattle.stream_core.specs.BuiltGoals.{is_built}
 use Rattle.kanren_tests.proofs.compiled.has_built_goals.Given as goal
 
 -- the goals that are left are built exactly where all are

@@ -12,8 +12,7 @@ use Rattle.stream_core.proofs.forcing.enter_call.Goals as goal
 pub run_with-requires-clause-is : goal.run_with-requires-clause-is
 run_with-requires-clause-is g c =
     let p = c.args.program.now in
-    let found = ap (λ r. option_map relation_entry (option_copied r)) (sym c.in-Some.is) ∙ c.relation.ensures in
-    (
+    let found = ap (λ r. option_map relation_entry (option_copied r)) (sym c.in-Some.is) ∙ c.relation.ensures in (
       goal-there (programs.goals p) _ (body-placed (programs.tables p) c.args.rel (relation_entry c.in-Some.relation.now) p.draft.grown found),
       body-slots (programs.meaning p) c.args.rel (terms_of c.args.args) (g.St.Store.meaning c.args.store) _ (program-closed p c.requires.table.small) c.requires.may.0
           (relation-found (programs.tables p) c.args.rel (relation_entry c.in-Some.relation.now) found),
