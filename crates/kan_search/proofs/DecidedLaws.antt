@@ -9,7 +9,7 @@ use Rattle.kan_model.specs.Streams.Stream.{Stream, Thunk}
 
 -- which constructor is spelled
 data Tag : Type 0 where
-  first second third fourth fifth sixth seventh : Tag
+  first second third fourth fifth sixth seventh eighth : Tag
   deriving Discrete as Tag-discrete
 
 data Word : Type 0 where
@@ -21,6 +21,7 @@ data Word : Type 0 where
 abbrev of_term : Tm → Word
 of_term (Tree.leaf v) = node first (number v) nothing
 of_term (Tree.sym s) = node second (number s) nothing
+of_term (Tree.str s) = node eighth (number s) nothing
 of_term (Tree.num (pos n)) = node third (number n) nothing
 of_term (Tree.num (negsuc n)) = node fourth (number n) nothing
 of_term (Tree.truth true) = node fifth nothing nothing
@@ -31,6 +32,7 @@ of_term (Tree.pair a b) = node seventh (of_term a) (of_term b)
 abbrev to_term : Word → Tm
 to_term (node first (number v) w) = Tree.leaf v
 to_term (node second (number s) w) = Tree.sym s
+to_term (node eighth (number s) w) = Tree.str s
 to_term (node third (number n) w) = Tree.num (pos n)
 to_term (node fourth (number n) w) = Tree.num (negsuc n)
 to_term (node fifth v w) = Tree.truth true
@@ -41,6 +43,7 @@ to_term _ = Tree.nil
 term-back : (t : Tm) → to_term (of_term t) ≡ t
 term-back (Tree.leaf v) = refl
 term-back (Tree.sym s) = refl
+term-back (Tree.str s) = refl
 term-back (Tree.num (pos n)) = refl
 term-back (Tree.num (negsuc n)) = refl
 term-back (Tree.truth true) = refl
@@ -65,12 +68,14 @@ of_primitive (Primitive.same a b) = node first (of_term a) (of_term b)
 of_primitive (Primitive.differ a b) = node second (of_term a) (of_term b)
 of_primitive (Primitive.symbol a) = node third (of_term a) nothing
 of_primitive (Primitive.number a) = node fourth (of_term a) nothing
+of_primitive (Primitive.text a) = node sixth (of_term a) nothing
 of_primitive (Primitive.absent tag a) = node fifth (number tag) (of_term a)
 
 abbrev to_primitive : Word → Primitive Tm
 to_primitive (node second v w) = Primitive.differ (to_term v) (to_term w)
 to_primitive (node third v w) = Primitive.symbol (to_term v)
 to_primitive (node fourth v w) = Primitive.number (to_term v)
+to_primitive (node sixth v w) = Primitive.text (to_term v)
 to_primitive (node fifth (number tag) w) = Primitive.absent tag (to_term w)
 to_primitive (node first v w) = Primitive.same (to_term v) (to_term w)
 to_primitive _ = Primitive.symbol Tree.nil
@@ -80,6 +85,7 @@ primitive-back (Primitive.same a b) = ap₂ Primitive.same (term-back a) (term-b
 primitive-back (Primitive.differ a b) = ap₂ Primitive.differ (term-back a) (term-back b)
 primitive-back (Primitive.symbol a) = ap Primitive.symbol (term-back a)
 primitive-back (Primitive.number a) = ap Primitive.number (term-back a)
+primitive-back (Primitive.text a) = ap Primitive.text (term-back a)
 primitive-back (Primitive.absent tag a) = ap (Primitive.absent tag) (term-back a)
 
 abbrev of_primitives : List (Primitive Tm) → Word
@@ -101,6 +107,7 @@ of_goal Goal.fail = nothing
 of_goal (Goal.both g h) = node third (of_goal g) (of_goal h)
 of_goal (Goal.either g h) = node fourth (of_goal g) (of_goal h)
 of_goal (Goal.fresh k g) = node fifth (number k) (of_goal g)
+of_goal (Goal.later g) = node seventh (of_goal g) nothing
 of_goal (Goal.call r args) = node sixth (number r) (of_terms args)
 
 abbrev to_goal : Word → Goal
@@ -109,6 +116,7 @@ to_goal (node second v w) = Goal.succeed
 to_goal (node third v w) = Goal.both (to_goal v) (to_goal w)
 to_goal (node fourth v w) = Goal.either (to_goal v) (to_goal w)
 to_goal (node fifth (number k) w) = Goal.fresh k (to_goal w)
+to_goal (node seventh v w) = Goal.later (to_goal v)
 to_goal (node sixth (number r) w) = Goal.call r (to_terms w)
 to_goal _ = Goal.fail
 
@@ -119,6 +127,7 @@ goal-back Goal.fail = refl
 goal-back (Goal.both g h) = ap₂ Goal.both (goal-back g) (goal-back h)
 goal-back (Goal.either g h) = ap₂ Goal.either (goal-back g) (goal-back h)
 goal-back (Goal.fresh k g) = ap (Goal.fresh k) (goal-back g)
+goal-back (Goal.later g) = ap Goal.later (goal-back g)
 goal-back (Goal.call r args) = ap (Goal.call r) (terms-back args)
 
 abbrev of_store : Store → Word
@@ -150,6 +159,7 @@ abbrev mutual
 
   of_thunk : Thunk → Word
   of_thunk (Thunk.call r args st) = node first (number r) (node first (of_terms args) (of_store st))
+  of_thunk (Thunk.pause g env st) = node fourth (of_goal g) (node first (of_terms env) (of_store st))
   of_thunk (Thunk.swap t i) = node second (of_stream t) (of_thunk i)
   of_thunk (Thunk.bind g env i) = node third (node first (of_goal g) (of_terms env)) (of_thunk i)
 
@@ -161,6 +171,7 @@ abbrev mutual
 
   to_thunk : Word → Thunk
   to_thunk (node first (number r) (node first v w)) = Thunk.call r (to_terms v) (to_store w)
+  to_thunk (node fourth u (node first v w)) = Thunk.pause (to_goal u) (to_terms v) (to_store w)
   to_thunk (node second v w) = Thunk.swap (to_stream v) (to_thunk w)
   to_thunk (node third (node first u v) w) = Thunk.bind (to_goal u) (to_terms v) (to_thunk w)
   to_thunk _ = Thunk.call 0 [] (record { prims = []; counter = 0 })
@@ -172,6 +183,8 @@ mutual
 
   thunk-back : (t : Thunk) → to_thunk (of_thunk t) ≡ t
   thunk-back (Thunk.call r args st) = ap₂ (Thunk.call r) (terms-back args) (store-back st)
+  thunk-back (Thunk.pause g env st) =
+      ap₂ (λ (h : Goal) (e : List Tm). Thunk.pause h e (to_store (of_store st))) (goal-back g) (terms-back env) ∙ ap (Thunk.pause g env) (store-back st)
   thunk-back (Thunk.swap t i) = ap₂ Thunk.swap (stream-back t) (thunk-back i)
   thunk-back (Thunk.bind g env i) =
       ap₂ (λ (h : Goal) (e : List Tm). Thunk.bind h e (to_thunk (of_thunk i))) (goal-back g) (terms-back env) ∙ ap (Thunk.bind g env) (thunk-back i)

@@ -34,21 +34,14 @@ longer-few xs more x most grown few =
 
 -- a batch that stops without an end, having its answers or its pulls
 pub advances-on : {St : Type 0} (means : St → Store) (round pulls made : ℕ) (before after : Taken) (answers : List St) (pulls_after : ℕ) → before ≡ joined (map means answers) made after → pulls_after ≡ pulls + made →
-    length answers ≤ greatest_batch → (length answers ≡ greatest_batch) ⊎ (made ≡ round) → Advances round before pulls (map means answers) None after pulls_after
-advances-on means round pulls made before after answers pulls_after joins counted few ends =
+    length answers ≤ greatest_batch → made ≤ round → (length answers ≡ greatest_batch) ⊎ (made ≡ round) → Advances round before pulls (map means answers) None after pulls_after
+advances-on means round pulls made before after answers pulls_after joins counted few within ends =
     let long : length (map means answers) ≡ length answers = length-map answers means in
-    record { made = made; counted = counted; joins = joins; few = omega (arith, long, few); ends = ⊎_elim (λ e. inl (long ∙ e)) (λ e. inr e) ends }
+    record { made = made; counted = counted; within = within; joins = joins; few = omega (arith, long, few); ends = ⊎_elim (λ e. inl (long ∙ e)) (λ e. inr e) ends }
 
 -- a batch in which the run ended
 pub advances-end : {St : Type 0} (means : St → Store) (round pulls made : ℕ) (before after : Taken) (answers : List St) (pulls_after : ℕ) (ended : Ended) → before ≡ joined (map means answers) made after → pulls_after ≡ pulls + made →
-    length answers ≤ greatest_batch → after ≡ nothing_more (ending_of ended) → Advances round before pulls (map means answers) (Some ended) after pulls_after
-advances-end means round pulls made before after answers pulls_after ended joins counted few ends =
+    length answers ≤ greatest_batch → made ≤ round → after ≡ nothing_more (ending_of ended) → Advances round before pulls (map means answers) (Some ended) after pulls_after
+advances-end means round pulls made before after answers pulls_after ended joins counted few within ends =
     let long : length (map means answers) ≡ length answers = length-map answers means in
-    record { made = made; counted = counted; joins = joins; few = omega (arith, long, few); ends = ends }
-
--- a batch in which all pulls were made, or the run ended
-pub advances-so : {St : Type 0} (means : St → Store) (round pulls made : ℕ) (before after : Taken) (answers : List St) (pulls_after : ℕ) (ended : Option Ended) → before ≡ joined (map means answers) made after → pulls_after ≡ pulls + made →
-    length answers ≤ greatest_batch → (is_some ended ≡ true) ⊎ (made ≡ round) → IfSome ended (λ e. after ≡ nothing_more (ending_of e)) → Advances round before pulls (map means answers) ended after pulls_after
-advances-so means round pulls made before after answers pulls_after None joins counted few (inl some) ends = cc
-advances-so means round pulls made before after answers pulls_after None joins counted few (inr all) ends = advances-on means round pulls made before after answers pulls_after joins counted few (inr all)
-advances-so means round pulls made before after answers pulls_after (Some e) joins counted few why ends = advances-end means round pulls made before after answers pulls_after e joins counted few ends
+    record { made = made; counted = counted; within = within; joins = joins; few = omega (arith, long, few); ends = ends }

@@ -9,14 +9,14 @@ use Rattle.kan_model.specs.Streams.Bounds.{Fits, StreamFits}
 use Rattle.kan_model.specs.Stores.Store as facts
 use Rattle.kan_model.specs.Streams.Running.{force}
 use Rattle.kan_model.specs.Programs.Closed as programs
-use Rattle.stream_core.specs.Standing.{Grows, ThunkBelongs, IsForce, stream}
-use Rattle.stream_core.specs.Keeping.{row_tree, RowIsSound, IsSound}
+use Rattle.stream_core.specs.Suspensions.{Stays, ThunkBelongs, ForceOf, stream}
+use Rattle.stream_core.specs.PlainRows.{row_tree, RowIsSound, IsSound}
 use Rattle.stream_core.specs.declared.streams.Thunk.{Thunk}
-use Rattle.stream_core.specs.declared.streams.Thunk.TheVariants.{Call, Swap, Bind}
+use Rattle.stream_core.specs.declared.streams.Thunk.TheVariants.{Call, Pause, Swap, Bind}
 use Rattle.stream_core.specs.declared.streams.Stream.{Stream as Kept}
-use Rattle.stream_core.specs.declared.plain.PlainId.{PlainId}
-use Rattle.stream_core.specs.declared.plain.PlainNodes.{PlainNodes}
-use Rattle.stream_core.specs.declared.plain.Row.{Row}
+use Rattle.stream_core.specs.declared.plain_nodes.PlainId.{PlainId}
+use Rattle.stream_core.specs.declared.plain_nodes.PlainNodes.{PlainNodes}
+use Rattle.stream_core.specs.declared.plain_nodes.Row.{Row}
 use Rattle.kan_search.specs.Suspensions.{tree_of, IsOf, LeavesRoom}
 use Rattle.kan_search.proofs.DecidedLaws.{goals-decided, streams-decided}
 
@@ -45,6 +45,7 @@ contains-known (g ∷ gs) h there =
 mutual
   fits-known : (program : Program) (t : model.Thunk) → ∥ Fits program t ∥₁ → Fits program t
   fits-known program (model.Thunk.call r args st) h = (test-known _ _ (∥∥₁_map h (λ x. x.0)), test-known _ _ (∥∥₁_map h (λ x. x.1)))
+  fits-known program (model.Thunk.pause g env st) h = (contains-known program.goals g (∥∥₁_map h (λ x. x.0)), test-known _ _ (∥∥₁_map h (λ x. x.1)), test-known _ _ (∥∥₁_map h (λ x. x.2)))
   fits-known program (model.Thunk.swap t i) h = (stream-fits-known program t (∥∥₁_map h (λ x. x.0)), fits-known program i (∥∥₁_map h (λ x. x.1)))
   fits-known program (model.Thunk.bind g env i) h = (
     contains-known program.goals g (∥∥₁_map h (λ x. x.0)),
@@ -63,12 +64,13 @@ some-known P (Some x) known h = known x h
 
 suspension-known : {St : Type 0} (belongs : PlainId → Type 0) (t : Thunk PlainId St) → ((id : PlainId) → ∥ belongs id ∥₁ → belongs id) → ∥ ThunkBelongs belongs t ∥₁ → ThunkBelongs belongs t
 suspension-known belongs (Call rel args store) known h = tt
+suspension-known belongs (Pause g env store) known h = tt
 suspension-known belongs (Swap heads tail inner) known h = (some-known belongs tail known (∥∥₁_map h (λ x. x.0)), known inner (∥∥₁_map h (λ x. x.1)))
 suspension-known belongs (Bind g env inner) known h = known inner h
 
 module _ {St : Type 0} (means : St → facts.Store) where
   force-known : (belongs : PlainId → Type 0) (tree : PlainId → model.Thunk) (program : Program) (t : model.Thunk) (s : Kept PlainId St) → ((id : PlainId) → ∥ belongs id ∥₁ → belongs id) →
-      ∥ IsForce belongs tree means program t s ∥₁ → IsForce belongs tree means program t s
+      ∥ ForceOf belongs tree means program t s ∥₁ → ForceOf belongs tree means program t s
   force-known belongs tree program t s known h =
       (some-known belongs s.tail known (∥∥₁_map h (λ x. x.0)), decided-known (streams-decided (stream tree means s) (force program t)) (∥∥₁_map h (λ x. x.1)))
 
@@ -76,7 +78,7 @@ module _ {St : Type 0} (means : St → facts.Store) where
       ∥ RowIsSound means program belongs tree t row ∥₁ → RowIsSound means program belongs tree t row
   row-known belongs tree program t row known h = (
     suspension-known belongs row.thunk known (∥∥₁_map h (λ x. x.0)),
-    some-known (IsForce belongs tree means program t) row.kept (λ s. force-known belongs tree program t s known) (∥∥₁_map h (λ x. x.1)),
+    some-known (ForceOf belongs tree means program t) row.kept (λ s. force-known belongs tree program t s known) (∥∥₁_map h (λ x. x.1)),
   )
 
   sound-known : (program : Program) (n : ℕ) (rows : List (Row St)) (id : PlainId) → ∥ IsSound means program n rows id ∥₁ → IsSound means program n rows id
@@ -96,14 +98,14 @@ module _ {St : Type 0} (means : St → facts.Store) where
   pub tail-known : (nodes : PlainNodes St) (tail : Option PlainId) (id : PlainId) → tail ≡ Some id → ∥ IfSome tail (IsOf means nodes) ∥₁ → IsOf means nodes id
   tail-known nodes tail id is h = of-known nodes id (subst (λ o. ∥ IfSome o (IsOf means nodes) ∥₁) is h)
 
-  if-grows : (old new : PlainNodes St) (tail : Option PlainId) → Grows (IsOf means old) (tree_of means old) (IsOf means new) (tree_of means new) → IfSome tail (IsOf means old) → IfSome tail (IsOf means new)
+  if-grows : (old new : PlainNodes St) (tail : Option PlainId) → Stays (IsOf means old) (tree_of means old) (IsOf means new) (tree_of means new) → IfSome tail (IsOf means old) → IfSome tail (IsOf means new)
   if-grows old new None grows h = h
   if-grows old new (Some id) grows h = (grows id h).0
 
   -- while the table grows, a tail stays of it and stands for what it stood for
-  pub tail-stays : (old new : PlainNodes St) (tail : Option PlainId) → Grows (IsOf means old) (tree_of means old) (IsOf means new) (tree_of means new) → ∥ IfSome tail (IsOf means old) ∥₁ → ∥ IfSome tail (IsOf means new) ∥₁
+  pub tail-stays : (old new : PlainNodes St) (tail : Option PlainId) → Stays (IsOf means old) (tree_of means old) (IsOf means new) (tree_of means new) → ∥ IfSome tail (IsOf means old) ∥₁ → ∥ IfSome tail (IsOf means new) ∥₁
   tail-stays old new tail grows h = ∥∥₁_map h (if-grows old new tail grows)
 
-  pub room-stays : (old new : PlainNodes St) (tail : Option PlainId) (pulls : ℕ) → Grows (IsOf means old) (tree_of means old) (IsOf means new) (tree_of means new) → ∥ IfSome tail (IsOf means old) ∥₁ →
+  pub room-stays : (old new : PlainNodes St) (tail : Option PlainId) (pulls : ℕ) → Stays (IsOf means old) (tree_of means old) (IsOf means new) (tree_of means new) → ∥ IfSome tail (IsOf means old) ∥₁ →
       ((id : PlainId) → tail ≡ Some id → LeavesRoom pulls (tree_of means old id)) → (id : PlainId) → tail ≡ Some id → LeavesRoom pulls (tree_of means new id)
   room-stays old new tail pulls grows h room id is = subst (LeavesRoom pulls) (sym (grows id (tail-known old tail id is h)).1) (room id is)

@@ -11,8 +11,8 @@ use Rattle.kan_model.specs.Streams.Running.{force}
 use Rattle.kan_model.specs.Streams.Taking.{take, with_pull}
 use Rattle.kan_model.specs.Programs.Tables.{GoalEntry, Tables, goal_of, goals_after, templates_of, program_of}
 use Rattle.kan_model.specs.Streams.Bounds.{top}
-use Rattle.stream_core.specs.Tasks.{is_built}
-use Rattle.stream_core.specs.declared.plain.PlainId.{PlainId}
+use Rattle.stream_core.specs.CodeTasks.{is_built}
+use Rattle.stream_core.specs.declared.plain_nodes.PlainId.{PlainId}
 use Rattle.kan_search.specs.Suspensions.{LeavesRoom, pulled_stream}
 use Rattle.kan_search.specs.Waiting.{is_reached}
 
@@ -55,10 +55,12 @@ entry-is-built ts args gs (GoalEntry.same a b) = refl
 entry-is-built ts args gs (GoalEntry.differ a b) = refl
 entry-is-built ts args gs (GoalEntry.symbol a) = refl
 entry-is-built ts args gs (GoalEntry.number a) = refl
+entry-is-built ts args gs (GoalEntry.text a) = refl
 entry-is-built ts args gs (GoalEntry.absent tag a) = refl
 entry-is-built ts args gs (GoalEntry.both g h) = refl
 entry-is-built ts args gs (GoalEntry.either g h) = refl
 entry-is-built ts args gs (GoalEntry.fresh k g) = refl
+entry-is-built ts args gs (GoalEntry.later g) = refl
 entry-is-built ts args gs (GoalEntry.call r at k) = refl
 
 goals-are-built : (ts : List Template) (args : List ℕ) (gs : List Goal) (es : List GoalEntry) → list_all goal_is_built (goals_after ts args gs es) ≡ (list_all goal_is_built gs && list_all is_built es)

@@ -11,9 +11,9 @@ use Rattle.kan_model.specs.Streams.Stream as model
 use Rattle.kan_model.specs.Streams.Running.{run, start}
 use Rattle.kan_model.specs.Programs.Scope.{width, is_narrow}
 use Rattle.kan_model.specs.Programs.Tables.{goal_at}
-use Rattle.stream_core.specs.Standing.{going_on, listed}
-use Rattle.stream_core.specs.Fitting.{RestFits}
-use Rattle.stream_core.specs.declared.plain.PlainId.{PlainId}
+use Rattle.stream_core.specs.Suspensions.{going_on, listed}
+use Rattle.stream_core.specs.CounterBounds.{RestFits}
+use Rattle.stream_core.specs.declared.plain_nodes.PlainId.{PlainId}
 use Rattle.kan_search.specs.Suspensions.{LeavesRoom, pulled_stream}
 
 -- a stream whose stores are turned stands for what it stood for

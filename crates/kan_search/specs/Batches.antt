@@ -1,18 +1,10 @@
 -- What an advance of a search gives, compared with what was left before it and what is left after it.
 use Rattle.std.specs.Prelude.{◌≡◌, ℕ, ◌+◌, ◌≤◌, ◌⊎◌, List, [], ◌++◌, length, Option, Some, None}
-use Rattle.kan_model.specs.Programs.Goals as model
 use Rattle.kan_model.specs.Stores.Store.{Store}
 use Rattle.kan_model.specs.Streams.Stream.{Stream, heads}
 use Rattle.kan_model.specs.Streams.Taking.{Taken, Ending, nothing_more}
-use Rattle.kan_model.specs.Programs.Closed as programs
-use Rattle.kan_model.specs.declared.program.Program.{Program}
-use Rattle.kan_model.specs.declared.nodes.Query.{Query}
 use Rattle.kan_search.specs.declared.batch.Ended.{Ended}
 use Rattle.kan_search.specs.declared.batch.Ended.TheVariants.{End, Limit, Fuel}
-
--- the run that a query asks for of a program
-abbrev pub query_of : Program → Query → model.Query
-query_of p q = record { goal = programs.goal p q.goal; limit = q.limit }
 
 abbrev pub ending_of : Ended → Ending
 ending_of End = Ending.end
@@ -41,6 +33,7 @@ GaveAll answers None rest = (answers ≡ greatest_batch) ⊎ (heads rest ≡ [])
 pub record Advances (round : ℕ) (before : Taken) (pulls : ℕ) (answers : List Store) (ended : Option Ended) (after : Taken) (pulls_after : ℕ) : Type 0 where
   pub made : ℕ
   pub counted : pulls_after ≡ pulls + made
+  pub within : made ≤ round
   pub joins : before ≡ joined answers made after
   pub few : length answers ≤ greatest_batch
   pub ends : EndsSo round (length answers) made ended after

@@ -1,6 +1,6 @@
 //! What an advance of a search gives.
 
-use stream_core::Stores;
+use stream_core::{PlainId, Stores};
 
 /// How a run ends.
 #[derive(Clone, Copy, Debug, PartialEq, Eq)]
@@ -20,4 +20,12 @@ pub struct Batch<St> {
     pub answers: Stores<St>,
     /// How the run ended, where it has; None where more may come.
     pub ended: Option<Ended>,
+}
+
+// What comes where no store may be given before a pull: the end of the run, or the pull of a
+// suspension.
+#[derive(Clone, Copy)]
+pub(crate) enum Next {
+    Ends(Ended),
+    Pulls(PlainId),
 }

@@ -1,14 +1,12 @@
 //! The streams of a run: the one that it begins with, and the one that a pull gives.
 
 ghost use Rattle.std.specs.Prelude.{◌≡◌, ◌+◌, ◌≤◌, ◌^◌, [], ◌∷◌, reverse, true, IfOk, IfSome};
-ghost use Rattle.std.specs.List.{list_all};
 ghost use Rattle.kan_model.specs.Streams.Bounds.{top};
 ghost use Rattle.kan_model.specs.Streams.Running as running;
-ghost use Rattle.kan_model.specs.Programs.Scope.{is_small};
-ghost use Rattle.kan_model.specs.Programs.Tables.{nothing_open};
+ghost use Rattle.kan_model.specs.Programs.Tables.{are_closed};
 ghost use Rattle.kan_model.specs.Programs.Closed as programs;
-ghost use Rattle.stream_core.specs.Standing as standing;
-ghost use Rattle.stream_core.specs.Tasks.{is_built};
+ghost use Rattle.stream_core.specs.PlainTables.{plain_table, program_of};
+ghost use Rattle.stream_core.specs.Tables.{IsTableOf, Grows};
 ghost use Rattle.kan_search.specs.Suspensions.{tree_of, IsOf, LeavesRoom, pulled_stream};
 
 use crate::heads::reversed;
@@ -40,13 +38,14 @@ pub(crate) fn start<'a, St: Store>(
     goal: u32,
     nodes: &mut PlainNodes<'a, St>,
 ) -> Result<Pulled<St>, Memory>
-    requires closed { nothing_open (programs.tables nodes.old.program.now) (goal ∷ []) ≡ true }
-    requires small { is_small (programs.meaning nodes.old.program.now) ≡ true }
-    requires built { list_all is_built (programs.tables nodes.old.program.now).goals ≡ true }
-    ensures made { IfOk result (λ made. pulled_stream (tree_of St.meaning nodes.new) St.meaning made.heads.items made.tail ≡ running.start (programs.goal nodes.old.program.now goal)) }
+    requires closed { are_closed (programs.tables (program_of nodes.old)) (goal ∷ []) ≡ true }
+    requires table { IsTableOf (program_of nodes.old) (plain_table St.meaning nodes.old) }
+    ensures made { IfOk result (λ made. pulled_stream (tree_of St.meaning nodes.new) St.meaning
+        made.heads.items made.tail ≡ running.start (programs.goal (program_of nodes.old) goal)) }
     ensures belong { IfOk result (λ made. IfSome made.tail (IsOf St.meaning nodes.new)) }
-    ensures room { IfOk result (λ made. IfSome made.tail (λ next. LeavesRoom 0 (tree_of St.meaning nodes.new next))) }
-    ensures same { programs.meaning nodes.new.program.now ≡ programs.meaning nodes.old.program.now }
+    ensures room { IfOk result (λ made. IfSome made.tail
+        (λ next. LeavesRoom 0 (tree_of St.meaning nodes.new next))) }
+    ensures grows { Grows (plain_table St.meaning nodes.old) (plain_table St.meaning nodes.new) }
 {
     let program = nodes.program();
     let env = Env::start(alloc, 0)?;
@@ -63,17 +62,18 @@ pub(crate) fn pull<'a, St: Store>(
     id: &PlainId,
     nodes: &mut PlainNodes<'a, St>,
 ) -> Result<Pulled<St>, Memory>
-    requires small { is_small (programs.meaning nodes.old.program.now) ≡ true }
-    requires built { list_all is_built (programs.tables nodes.old.program.now).goals ≡ true }
+    requires table { IsTableOf (program_of nodes.old) (plain_table St.meaning nodes.old) }
     requires belongs { IsOf St.meaning nodes.old id.now }
     requires room { top (tree_of St.meaning nodes.old id.now) ≤ 2 ^ 62 }
-    ensures made { IfOk result (λ made. pulled_stream (tree_of St.meaning nodes.new) St.meaning made.heads.items made.tail
-        ≡ running.force (programs.meaning nodes.old.program.now) (tree_of St.meaning nodes.old id.now)) }
+    ensures made { IfOk result (λ made. pulled_stream (tree_of St.meaning nodes.new) St.meaning
+        made.heads.items made.tail
+        ≡ running.force (programs.meaning (program_of nodes.old))
+        (tree_of St.meaning nodes.old id.now)) }
     ensures belong { IfOk result (λ made. IfSome made.tail (IsOf St.meaning nodes.new)) }
-    ensures room { IfOk result (λ made. IfSome made.tail (λ next. top (tree_of St.meaning nodes.new next)
+    ensures room { IfOk result (λ made. IfSome made.tail
+        (λ next. top (tree_of St.meaning nodes.new next)
         ≤ top (tree_of St.meaning nodes.old id.now) + 2 ^ 21)) }
-    ensures older { standing.Grows (IsOf St.meaning nodes.old) (tree_of St.meaning nodes.old) (IsOf St.meaning nodes.new) (tree_of St.meaning nodes.new) }
-    ensures same { programs.meaning nodes.new.program.now ≡ programs.meaning nodes.old.program.now }
+    ensures grows { Grows (plain_table St.meaning nodes.old) (plain_table St.meaning nodes.new) }
 {
     let program = nodes.program();
     let stream = force(alloc, program, id, nodes)?;

@@ -5,10 +5,11 @@ ghost use Rattle.std.specs.List.{list_all};
 ghost use Rattle.std.specs.Option.{ForSome};
 ghost use Rattle.kan_model.specs.Programs.Scope.{is_small};
 ghost use Rattle.kan_model.specs.Programs.Closed as programs;
-ghost use Rattle.stream_core.specs.Tasks.{is_built};
+ghost use Rattle.stream_core.specs.BuiltGoals.{is_built};
+ghost use Rattle.stream_core.specs.PlainTables.{program_of};
 ghost use Rattle.kan_search.specs.Suspensions.{tree_of, IsOf, LeavesRoom};
 
-use crate::batch::{Batch, Ended};
+use crate::batch::{Batch, Ended, Next};
 use crate::heads::{is_reached, less_one, put_last};
 use crate::pulling::{Pulled, pull, start};
 use kan_model::{Program, Query, Store};
@@ -19,7 +20,8 @@ use stream_core::{PlainId, PlainNodes, Stores};
 // How many answers a batch has at most.
 const GREATEST_BATCH: usize = 1024;
 
-/// What is left of a run: the answers that may still be given, the pulls that may still be made, and the stream.
+/// What is left of a run: the answers that may still be given, the pulls that may still be made,
+/// and the stream.
 #[derive(Drop)]
 pub struct Search<'a, St: Store> {
     // How many answers may still be given, where that is limited.
@@ -37,22 +39,25 @@ pub struct Search<'a, St: Store> {
     tail: Option<PlainId>,
     // Whether memory was wanting, so that nothing is known of what is left.
     spent: bool,
-    ghost small: { is_small (programs.meaning nodes.program.now) ≡ true },
-    ghost built: { list_all is_built (programs.tables nodes.program.now).goals ≡ true },
+    ghost small: { is_small (programs.meaning (program_of nodes)) ≡ true },
+    ghost built: { list_all is_built (programs.tables (program_of nodes)).goals ≡ true },
     ghost belongs: { ∥ IfSome tail (IsOf St.meaning nodes) ∥₁ },
     ghost room: { ForSome tail (λ id. LeavesRoom pulls (tree_of St.meaning nodes id)) },
     ghost few: { pulls + fuel ≤ 1000000 },
 }
 
 impl<'a, St: Store> Search<'a, St> {
-    ghost use Rattle.std.specs.Prelude.{ℕ, false, [], ◌∷◌, ◌<◌, length, map, IfOk, IfNone, OnOk, OnErr, IsErr};
-    ghost use Rattle.kan_model.specs.Programs.Tables.{nothing_open};
-    ghost use Rattle.kan_model.specs.Streams.Taking.{taken, nothing_more, with_answer, with_pull};
-    ghost use Rattle.kan_search.specs.Batches.{Advances, GaveAll, query_of, ending_of, joined, greatest_batch};
-    ghost use Rattle.kan_search.specs.Searches.{left, stream_left};
+    ghost use Rattle.std.specs.Prelude.{ℕ, false, Some, [], ◌∷◌, ◌<◌, length, map, IfOk, IfNone};
+    ghost use Rattle.std.specs.Prelude.{OnOk, OnErr, IsErr};
+    ghost use Rattle.kan_model.specs.Programs.Tables.{are_closed};
+    ghost use Rattle.kan_model.specs.Streams.Taking.{take_query, with_answer, with_pull};
+    ghost use Rattle.kan_search.specs.Batches.{Advances, GaveAll, joined, greatest_batch};
+    ghost use Rattle.kan_search.specs.Searches.{left, stream_left, pulls_made, round_of, is_spent};
+    ghost use Rattle.kan_search.specs.Searches.{ComesNext};
     ghost use Rattle.kan_search.specs.Waiting.{GivesNone, WantsPull};
 
-    /// The search of a run at a fuel from 1 to 1,000,000. A batch makes at most so many pulls as a round has, from 1 to 65,536.
+    /// The search of a run at a fuel from 1 to 1,000,000. A batch makes at most so many pulls as a
+    /// round has, from 1 to 65,536.
     pub fn open(
         alloc: Global,
         program: &'a Program,
@@ -60,16 +65,17 @@ impl<'a, St: Store> Search<'a, St> {
         fuel: u64,
         round: u32,
     ) -> Result<Search<'a, St>, Memory>
-        requires closed { nothing_open (programs.tables program.now) (query.now.goal ∷ []) ≡ true }
+        requires closed { are_closed (programs.tables program.now) (query.now.goal ∷ []) ≡ true }
         requires small { is_small (programs.meaning program.now) ≡ true }
         // Until the other constraints are built.
         requires built { list_all is_built (programs.tables program.now).goals ≡ true }
         requires fuel { 1 ≤ fuel × (fuel ≤ 1000000) }
         requires round { 1 ≤ round × (round ≤ 65536) }
-        ensures left { IfOk result (λ search. left St.meaning search ≡ taken (programs.meaning program.now) fuel (query_of program.now query.now)) }
-        ensures pulls { IfOk result (λ search. search.pulls ≡ 0) }
-        ensures round { IfOk result (λ search. search.round ≡ round) }
-        ensures whole { IfOk result (λ search. search.spent ≡ false) }
+        ensures left { IfOk result (λ search. left St.meaning search ≡ take_query
+            (programs.meaning program.now) fuel (programs.query_of program.now query.now)) }
+        ensures pulls { IfOk result (λ search. pulls_made search ≡ 0) }
+        ensures round { IfOk result (λ search. round_of search ≡ round) }
+        ensures whole { IfOk result (λ search. is_spent search ≡ false) }
     {
         let mut nodes = PlainNodes::new(alloc, program);
         let pulled = start(alloc, query.goal, &mut nodes)?;
@@ -88,19 +94,22 @@ impl<'a, St: Store> Search<'a, St> {
 
     /// How many pulls were made. It takes no memory.
     pub fn pulls(&self) -> u64
-        ensures { result ≡ self.now.pulls }
+        ensures { result ≡ (pulls_made self.now) }
     {
         self.pulls
     }
 
     // The next store of the stream, where it has one before a pull and more answers are wanted.
     fn next_head(&mut self) -> Option<St>
-        ensures some { IfSome result (λ store. left St.meaning self.old ≡ with_answer (St.meaning store) (left St.meaning self.new)) }
-        ensures none { IfNone result (GivesNone self.new.limit self.new.heads.items × (left St.meaning self.new ≡ left St.meaning self.old)) }
-        ensures fewer { IfSome result (λ _. length self.new.heads.items < length self.old.heads.items) }
-        ensures pulls { self.new.pulls ≡ self.old.pulls }
-        ensures round { self.new.round ≡ self.old.round }
-        ensures spent { self.new.spent ≡ self.old.spent }
+        ensures some { IfSome result (λ store. left St.meaning self.old ≡ with_answer
+            (St.meaning store) (left St.meaning self.new)) }
+        ensures none { IfNone result (GivesNone self.new.limit self.new.heads.items ×
+            (left St.meaning self.new ≡ left St.meaning self.old)) }
+        ensures fewer { IfSome result (λ _. length self.new.heads.items < length
+            self.old.heads.items) }
+        ensures pulls { pulls_made self.new ≡ pulls_made self.old }
+        ensures round { round_of self.new ≡ round_of self.old }
+        ensures spent { is_spent self.new ≡ is_spent self.old }
     {
         if is_reached(self.limit) {
             return None;
@@ -113,12 +122,15 @@ impl<'a, St: Store> Search<'a, St> {
     // Gives stores until a batch has its answers or only a pull gives more.
     fn give_heads(&mut self, answers: &mut Stores<St>) -> Result<(), Memory>
         requires { length answers.old ≤ greatest_batch }
-        ensures joined { OnOk result ((pulls : ℕ) → joined (map St.meaning answers.old) pulls (left St.meaning self.old) ≡ joined (map St.meaning answers.new) pulls (left St.meaning self.new)) }
+        ensures joined { OnOk result ((pulls : ℕ) → joined (map St.meaning answers.old) pulls
+            (left St.meaning self.old) ≡ joined (map St.meaning answers.new) pulls
+            (left St.meaning self.new)) }
         ensures few { OnOk result (length answers.new ≤ greatest_batch) }
-        ensures none { OnOk result (length answers.new < greatest_batch → GivesNone self.new.limit self.new.heads.items) }
-        ensures pulls { self.new.pulls ≡ self.old.pulls }
-        ensures round { self.new.round ≡ self.old.round }
-        ensures spent { self.new.spent ≡ self.old.spent }
+        ensures none { OnOk result (length answers.new < greatest_batch → GivesNone self.new.limit
+            self.new.heads.items) }
+        ensures pulls { pulls_made self.new ≡ pulls_made self.old }
+        ensures round { round_of self.new ≡ round_of self.old }
+        ensures spent { is_spent self.new ≡ is_spent self.old }
     {
         while answers.len() < GREATEST_BATCH {
             match self.next_head() {
@@ -129,35 +141,32 @@ impl<'a, St: Store> Search<'a, St> {
         Ok(())
     }
 
-    // How the run ends where no store may be given before a pull, and None where a pull may be made.
-    fn ending(&self) -> Option<Ended>
+    // What comes where no store may be given before a pull.
+    fn next_step(&self) -> Next
         requires { GivesNone self.now.limit self.now.heads.items }
-        ensures some { IfSome result (λ ended. left St.meaning self.now ≡ nothing_more (ending_of ended)) }
-        ensures none { IfNone result (WantsPull self.now.limit self.now.heads.items self.now.tail self.now.fuel) }
+        ensures { ComesNext St.meaning self.now result }
     {
         if is_reached(self.limit) {
-            return Some(Ended::Limit);
+            return Next::Ends(Ended::Limit);
         }
-        if self.tail.is_none() {
-            return Some(Ended::End);
+        match self.tail {
+            None => Next::Ends(Ended::End),
+            Some(_) if self.fuel == 0 => Next::Ends(Ended::Fuel),
+            Some(id) => Next::Pulls(id),
         }
-        if self.fuel == 0 {
-            return Some(Ended::Fuel);
-        }
-        None
     }
 
     // Makes a pull.
-    fn make_pull(&mut self, alloc: Global) -> Result<(), Memory>
-        requires { WantsPull self.old.limit self.old.heads.items self.old.tail self.old.fuel }
-        ensures pulled { OnOk result (left St.meaning self.old ≡ with_pull (left St.meaning self.new)) }
-        ensures pulls { OnOk result (self.new.pulls ≡ self.old.pulls + 1) }
-        ensures round { self.new.round ≡ self.old.round }
-        ensures spent { self.new.spent ≡ self.old.spent }
+    fn make_pull(&mut self, alloc: Global, id: PlainId) -> Result<(), Memory>
+        requires tail { self.old.tail ≡ Some id }
+        requires wanted { WantsPull self.old.limit self.old.heads.items self.old.tail
+            self.old.fuel }
+        ensures pulled { OnOk result (left St.meaning self.old ≡ with_pull
+            (left St.meaning self.new)) }
+        ensures pulls { OnOk result (pulls_made self.new ≡ pulls_made self.old + 1) }
+        ensures round { round_of self.new ≡ round_of self.old }
+        ensures spent { is_spent self.new ≡ is_spent self.old }
     {
-        let Some(id) = self.tail else {
-            return Err(Memory);
-        };
         match pull(alloc, &id, &mut self.nodes) {
             Ok(pulled) => {
                 let Pulled { heads, tail } = pulled;
@@ -173,10 +182,13 @@ impl<'a, St: Store> Search<'a, St> {
 
     // The next answers, where no memory was wanting before.
     fn next_batch(&mut self, alloc: Global) -> Result<Batch<St>, Memory>
-        ensures batch { IfOk result (λ batch. Advances self.old.round (left St.meaning self.old) self.old.pulls (map St.meaning batch.answers) batch.ended (left St.meaning self.new) self.new.pulls) }
-        ensures gave_all { IfOk result (λ batch. GaveAll (length batch.answers) batch.ended (stream_left St.meaning self.new)) }
-        ensures round { self.new.round ≡ self.old.round }
-        ensures spent { self.new.spent ≡ self.old.spent }
+        ensures batch { IfOk result (λ batch. Advances (round_of self.old)
+            (left St.meaning self.old) (pulls_made self.old) (map St.meaning batch.answers)
+            batch.ended (left St.meaning self.new) (pulls_made self.new)) }
+        ensures gave_all { IfOk result (λ batch. GaveAll (length batch.answers) batch.ended
+            (stream_left St.meaning self.new)) }
+        ensures round { round_of self.new ≡ round_of self.old }
+        ensures spent { is_spent self.new ≡ is_spent self.old }
     {
         let mut answers = ListOf::new(alloc);
         let mut made = 0;
@@ -188,23 +200,40 @@ impl<'a, St: Store> Search<'a, St> {
                     ended: None,
                 });
             }
-            let ended = self.ending();
-            if ended.is_some() || made == self.round {
-                return Ok(Batch { answers, ended });
+            match self.next_step() {
+                Next::Ends(ended) => {
+                    return Ok(Batch {
+                        answers,
+                        ended: Some(ended),
+                    });
+                }
+                Next::Pulls(id) => {
+                    if made == self.round {
+                        return Ok(Batch {
+                            answers,
+                            ended: None,
+                        });
+                    }
+                    self.make_pull(alloc, id)?;
+                    made += 1;
+                }
             }
-            self.make_pull(alloc)?;
-            made += 1;
         }
     }
 
-    /// The next answers: at most 1,024, found by at most a round of pulls. A search that has ended gives no more answers
-    /// and ends again as it did. After want of memory nothing is known of what is left, and memory is wanted again.
+    /// The next answers: at most 1,024, found by at most a round of pulls. A search that has ended
+    /// gives no more answers and ends again as it did. After want of memory nothing is known of
+    /// what is left, and memory is wanted again.
     pub fn advance_alone(&mut self, alloc: Global) -> Result<Batch<St>, Memory>
-        ensures batch { IfOk result (λ batch. Advances self.old.round (left St.meaning self.old) self.old.pulls (map St.meaning batch.answers) batch.ended (left St.meaning self.new) self.new.pulls) }
-        ensures gave_all { IfOk result (λ batch. GaveAll (length batch.answers) batch.ended (stream_left St.meaning self.new)) }
-        ensures round { self.new.round ≡ self.old.round }
-        ensures spent { OnErr result (self.new.spent ≡ true) }
-        ensures again { self.old.spent ≡ true → IsErr result }
+        ensures batch { IfOk result (λ batch. Advances (round_of self.old)
+            (left St.meaning self.old) (pulls_made self.old) (map St.meaning batch.answers)
+            batch.ended (left St.meaning self.new) (pulls_made self.new)) }
+        ensures gave_all { IfOk result (λ batch. GaveAll (length batch.answers) batch.ended
+            (stream_left St.meaning self.new)) }
+        ensures round { round_of self.new ≡ round_of self.old }
+        ensures whole { OnOk result ((is_spent self.new) ≡ false) }
+        ensures spent { OnErr result ((is_spent self.new) ≡ true) }
+        ensures again { (is_spent self.old) ≡ true → IsErr result }
     {
         if self.spent {
             return Err(Memory);

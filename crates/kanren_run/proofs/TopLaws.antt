@@ -8,10 +8,10 @@ use Rattle.kan_base.specs.Writes.{PutsFront}
 use Rattle.kan_model.specs.Programs.Closed as programs
 use Rattle.kan_model.specs.Programs.Tables.{GoalEntry}
 use Rattle.kan_model.specs.Answers.Output.{runs_output}
-use Rattle.stream_core.specs.Tasks.{is_built}
+use Rattle.stream_core.specs.BuiltGoals.{is_built}
 use Rattle.goal_syntax.specs.Compiling.Compiles.{relations_meant, queries_meant}
 use Rattle.goal_syntax.specs.Building.Equations.{is_equational_entry, are_equational_entries, is_equational_body, is_equational_query}
-use Rattle.kan_search.specs.Batches.{query_of}
+use Rattle.kan_model.specs.Programs.Closed.{query_of}
 use Rattle.sexpr.specs.Seen.{Table}
 use Rattle.kanren_run.specs.Answers.{Answered, ran, output, refusal, names_of, program_of, spends}
 use Rattle.kanren_run.specs.Outcomes.{PutFront}

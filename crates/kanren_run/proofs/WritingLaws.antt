@@ -23,7 +23,8 @@ use Rattle.kan_model.specs.Stores.Store.{Store}
 use Rattle.kan_model.specs.Answers.Text.{Table}
 use Rattle.kan_model.specs.Streams.Taking.{Taken, taken}
 use Rattle.kan_model.specs.Answers.Output.{answer_line, summary_line, taken_text, runs_output}
-use Rattle.kan_search.specs.Batches.{Advances, joined, ending_of, query_of}
+use Rattle.kan_search.specs.Batches.{Advances, joined, ending_of}
+use Rattle.kan_model.specs.Programs.Closed.{query_of}
 use Rattle.kan_search.specs.declared.batch.Ended.{Ended}
 use Rattle.kanren_run.specs.Writing.{Puts, Stops, Written, WritesNext, Continues, CanRun, answer_lines, end_text, rest_text}
 use Rattle.kanren_run.specs.declared.writing.Stop.{Stop}

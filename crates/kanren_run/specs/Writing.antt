@@ -15,9 +15,10 @@ use Rattle.kan_model.specs.declared.program.Program.{Program}
 use Rattle.kan_model.specs.declared.nodes.Query.{Query}
 use Rattle.kan_model.specs.Answers.Text.{Table}
 use Rattle.kan_model.specs.Answers.Output.{answer_line, summary_line}
-use Rattle.stream_core.specs.Tasks.{is_built}
+use Rattle.stream_core.specs.BuiltGoals.{is_built}
 use Rattle.goal_syntax.specs.Building.Equations.{is_equational_body, is_equational_query}
-use Rattle.kan_search.specs.Batches.{ending_of, query_of}
+use Rattle.kan_search.specs.Batches.{ending_of}
+use Rattle.kan_model.specs.Programs.Closed.{query_of}
 use Rattle.kan_search.specs.declared.batch.Ended.{Ended}
 use Rattle.kanren_run.specs.Equations.{HasEquations, Each}
 use Rattle.kanren_run.specs.declared.writing.Stop.{Stop}

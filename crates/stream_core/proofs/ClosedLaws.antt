@@ -1,19 +1,24 @@
 -- Programs whose tables are grown, closed and small: the parts of their goals are goals of theirs, calls are there, and bodies find their slots.
-use Rattle.std.proofs.Common.{◌≡◌, ℕ, zero, suc, ◌<◌, ◌^◌, Bool, true, List, [], ◌∷◌, ◌++◌, length, map, refl, sym, ◌∙◌, ap, subst, arith}
+use Rattle.std.proofs.Common.{◌≡◌, ℕ, zero, suc, ◌+◌, ◌<◌, ◌^◌, Bool, true, List, [], ◌∷◌, ◌++◌, length, map, refl, sym, ◌∙◌, ap, subst, arith}
 use Rattle.std.specs.Prelude.{Option, Some, None, option_map, slice_get, nat_lt, Contains, ◌&&◌}
 use Rattle.std.specs.List.{list_all}
-use Rattle.std.proofs.lemmas.Bool.{and_parts, ltb-true}
+use Rattle.std.proofs.lemmas.Bool.{and_parts, ltb-true, leb-true}
 use Rattle.std.proofs.lemmas.List.{length-append}
 use Rattle.std.proofs.lemmas.List.Elements.{Contains-append_left}
 use Rattle.std.proofs.lemmas.Option.{slice_get-map}
 use Rattle.kan_model.specs.Programs.Goals.{Goal, Relation, Program, Template}
 use Rattle.kan_model.specs.Programs.Scope.{width, is_narrow, is_small, is_low, calls_there, body_in_scope, in_scope}
-use Rattle.kan_model.specs.Programs.Tables.{GoalEntry, RelationEntry, Tables, goal_at, goal_of, goals_after, goals_of, templates_of, program_of, is_grown, is_goal_grown, goals_grown, nothing_open}
+use Rattle.kan_model.specs.Programs.Tables.{GoalEntry, RelationEntry, Tables, goal_at, goal_of, goals_after, goals_of, templates_of, program_of, is_grown, is_goal_grown, goals_grown, are_closed}
 use Rattle.kan_model.specs.Programs.Closed as programs
 use Rattle.kan_model.specs.declared.program.Program as code
 use Rattle.kan_model.proofs.Programs.TableLaws.{grown-parts, goals-length}
-use Rattle.stream_core.specs.Machine.{Each}
-use Rattle.stream_core.proofs.MachineLaws.{Each-like, Each-append}
+use Rattle.kan_model.specs.Programs.Nodes.{goal_entry}
+use Rattle.kan_model.specs.declared.nodes.GoalNode.{GoalNode}
+use Rattle.kan_model.specs.declared.nodes.GoalNode.TheVariants.{Succeed, Fail, Same, Differ, Symbol, Number, Text, Absent, Both, Either, Fresh, Later, Call}
+use Rattle.stream_core.specs.BuiltGoals.{is_built, is_atomic}
+use Rattle.stream_core.specs.CallArguments.{ArgumentsPlaced}
+use Rattle.stream_core.specs.Tasks.{Each}
+use Rattle.stream_core.proofs.HeadLaws.{Each-like, Each-append}
 
 -- the parts of a goal are goals of the list
 abbrev pub PartsIn : List Goal → Goal → Type 0
@@ -23,6 +28,7 @@ PartsIn gs Goal.fail = Unit {0}
 PartsIn gs (Goal.both g h) = Contains gs g × Contains gs h
 PartsIn gs (Goal.either g h) = Contains gs g × Contains gs h
 PartsIn gs (Goal.fresh k g) = Contains gs g
+PartsIn gs (Goal.later g) = Contains gs g
 PartsIn gs (Goal.call r args) = Unit {0}
 
 parts-more : (gs hs : List Goal) (g : Goal) → PartsIn gs g → PartsIn (gs ++ hs) g
@@ -32,6 +38,7 @@ parts-more gs hs Goal.fail h = tt
 parts-more gs hs (Goal.both g k) (one, two) = (Contains-append_left gs hs g one, Contains-append_left gs hs k two)
 parts-more gs hs (Goal.either g k) (one, two) = (Contains-append_left gs hs g one, Contains-append_left gs hs k two)
 parts-more gs hs (Goal.fresh n g) h = Contains-append_left gs hs g h
+parts-more gs hs (Goal.later g) h = Contains-append_left gs hs g h
 parts-more gs hs (Goal.call r args) h = tt
 
 -- the goal at a place of a list is in it
@@ -47,12 +54,14 @@ entry-parts tables ts gs (GoalEntry.same a b) h = tt
 entry-parts tables ts gs (GoalEntry.differ a b) h = tt
 entry-parts tables ts gs (GoalEntry.symbol a) h = tt
 entry-parts tables ts gs (GoalEntry.number a) h = tt
+entry-parts tables ts gs (GoalEntry.text a) h = tt
 entry-parts tables ts gs (GoalEntry.absent tag a) h = tt
 entry-parts tables ts gs (GoalEntry.both a b) h =
     let (one, two) = and_parts (nat_lt a (length gs)) (nat_lt b (length gs)) h in (goal-there gs a (ltb-true a (length gs) one), goal-there gs b (ltb-true b (length gs) two))
 entry-parts tables ts gs (GoalEntry.either a b) h =
     let (one, two) = and_parts (nat_lt a (length gs)) (nat_lt b (length gs)) h in (goal-there gs a (ltb-true a (length gs) one), goal-there gs b (ltb-true b (length gs) two))
 entry-parts tables ts gs (GoalEntry.fresh k a) h = goal-there gs a (ltb-true a (length gs) h)
+entry-parts tables ts gs (GoalEntry.later a) h = goal-there gs a (ltb-true a (length gs) h)
 entry-parts tables ts gs (GoalEntry.call r at k) h = tt
 
 -- a table's goals have their parts in it
@@ -109,7 +118,7 @@ body-found : (gs : List Goal) (entries : List RelationEntry) (n r : ℕ) (rel : 
 body-found gs entries n r rel long grown found =
     body-there gs entries n r rel (slice_get entries r) long grown refl (sym (slice_get-map (λ e. record { params = e.params; body = goal_at gs e.body }) entries r) ∙ found)
 
-pub program-is-closed : (tables : Tables) → is_grown tables ≡ true → nothing_open tables [] ≡ true → is_small (program_of tables) ≡ true → ProgramIsClosed (program_of tables)
+pub program-is-closed : (tables : Tables) → is_grown tables ≡ true → are_closed tables [] ≡ true → is_small (program_of tables) ≡ true → ProgramIsClosed (program_of tables)
 program-is-closed tables grown closed small =
     let gs = goals_of tables in
     let rs = (program_of tables).relations in
@@ -132,3 +141,58 @@ program-is-closed tables grown closed small =
 -- the same of a program of the code
 pub program-closed : (p : code.Program) → is_small (programs.meaning p) ≡ true → ProgramIsClosed (programs.meaning p)
 program-closed p small = program-is-closed (programs.tables p) p.draft.grown p.closed small
+
+-- the arguments of a goal whose entry is grown are there
+entry-placed : (p : code.Program) (n : ℕ) (e : GoalEntry) → is_goal_grown (programs.tables p) n e ≡ true → ArgumentsPlaced p e
+entry-placed p n GoalEntry.succeed h = tt
+entry-placed p n GoalEntry.fail h = tt
+entry-placed p n (GoalEntry.same a b) h = tt
+entry-placed p n (GoalEntry.differ a b) h = tt
+entry-placed p n (GoalEntry.symbol a) h = tt
+entry-placed p n (GoalEntry.number a) h = tt
+entry-placed p n (GoalEntry.text a) h = tt
+entry-placed p n (GoalEntry.absent tag a) h = tt
+entry-placed p n (GoalEntry.both a b) h = tt
+entry-placed p n (GoalEntry.either a b) h = tt
+entry-placed p n (GoalEntry.fresh k a) h = tt
+entry-placed p n (GoalEntry.later a) h = tt
+entry-placed p n (GoalEntry.call r at k) h = leb-true (at + k) (length (programs.tables p).arguments) h
+
+pub goal-placed : (p : code.Program) (n : ℕ) (es : List GoalEntry) (i : ℕ) (e : GoalEntry) → goals_grown (programs.tables p) n es ≡ true → slice_get es i ≡ Some e → ArgumentsPlaced p e
+goal-placed p n [] i e grown is = cc
+goal-placed p n (d ∷ es) zero e grown is =
+    let same : d ≡ e = cc in
+    subst (ArgumentsPlaced p) same (entry-placed p n d (and_parts (is_goal_grown (programs.tables p) n d) (goals_grown (programs.tables p) (suc n) es) grown).0)
+goal-placed p n (d ∷ es) (suc i) e grown is = goal-placed p (suc n) es i e (and_parts (is_goal_grown (programs.tables p) n d) (goals_grown (programs.tables p) (suc n) es) grown).1 is
+
+-- a goal that is built and runs no others is atomic
+pub is-atomic : (node : GoalNode) → is_built (goal_entry node) ≡ true → ((g h : ℕ) → node ≡ Both g h → ⊥) → ((g h : ℕ) → node ≡ Either g h → ⊥) → ((k g : ℕ) → node ≡ Fresh k g → ⊥) → is_atomic (goal_entry node) ≡ true
+is-atomic Succeed built b e f = refl
+is-atomic Fail built b e f = refl
+is-atomic (Same x y) built b e f = refl
+is-atomic (Differ x y) built b e f = cc
+is-atomic (Symbol x) built b e f = cc
+is-atomic (Number x) built b e f = cc
+is-atomic (Text x) built b e f = cc
+is-atomic (Absent tag x) built b e f = cc
+is-atomic (Both g h) built b e f = absurd (b g h refl)
+is-atomic (Either g h) built b e f = absurd (e g h refl)
+is-atomic (Fresh k g) built b e f = absurd (f k g refl)
+is-atomic (Later g) built b e f = refl
+is-atomic (Call r at k) built b e f = refl
+
+-- an atomic goal is one of five kinds
+pub not-atomic : (node : GoalNode) → is_atomic (goal_entry node) ≡ true → (node ≡ Succeed → ⊥) → (node ≡ Fail → ⊥) → ((a b : ℕ) → node ≡ Same a b → ⊥) → ((g : ℕ) → node ≡ Later g → ⊥) → ((r at k : ℕ) → node ≡ Call r at k → ⊥) → ⊥
+not-atomic Succeed h s f e l c = s refl
+not-atomic Fail h s f e l c = f refl
+not-atomic (Same x y) h s f e l c = e x y refl
+not-atomic (Differ x y) h s f e l c = cc
+not-atomic (Symbol x) h s f e l c = cc
+not-atomic (Number x) h s f e l c = cc
+not-atomic (Text x) h s f e l c = cc
+not-atomic (Absent tag x) h s f e l c = cc
+not-atomic (Both g k) h s f e l c = cc
+not-atomic (Either g k) h s f e l c = cc
+not-atomic (Fresh k g) h s f e l c = cc
+not-atomic (Later g) h s f e l c = l g refl
+not-atomic (Call r at k) h s f e l c = c r at k refl

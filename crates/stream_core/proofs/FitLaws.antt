@@ -11,15 +11,15 @@ use Rattle.kan_model.specs.Stores.Store.{Store, with_prim, with_fresh}
 use Rattle.kan_model.specs.Stores.Kept.{is_kept}
 use Rattle.kan_model.specs.Terms.Flat.{is_flat}
 use Rattle.kan_model.specs.Streams.Stream.{Stream, Thunk, heads, append, append_each, bind_all, empty, one}
-use Rattle.kan_model.specs.Streams.Running.{Arguments, run, force, enter, variables, instance, instances, named, named_store}
+use Rattle.kan_model.specs.Streams.Running.{Arguments, run, force, enter, variables, instance, instances, name_pairs, named_store}
 use Rattle.kan_model.specs.Programs.Scope.{width, all_below, in_scope, takes}
 use Rattle.kan_model.specs.Streams.Bounds.{Fits, StreamFits, top, floor, stream_top, stream_floor, highest, lowest}
-use Rattle.stream_core.specs.Fitting.{Between, RestFits, TailFits}
-use Rattle.stream_core.specs.Machine.{Each}
-use Rattle.stream_core.specs.Naming.{NamesFirst}
-use Rattle.stream_core.proofs.MachineLaws.{Each-like, Each-append, below-more, env-more, variables-below}
-use Rattle.stream_core.proofs.GivingLaws.{instance-below, names-itself, names-all}
-use Rattle.stream_core.proofs.BoundLaws.{stream-floor-below, stream-top-above, stream-between, lowest-below, highest-above}
+use Rattle.stream_core.specs.CounterBounds.{Between, RestFits, TailFits}
+use Rattle.stream_core.specs.Tasks.{Each}
+use Rattle.stream_core.specs.CallArguments.{NamesFirst}
+use Rattle.stream_core.proofs.HeadLaws.{Each-like, Each-append, below-more, env-more, variables-below}
+use Rattle.stream_core.proofs.ArgumentLaws.{instance-below, names-itself, names-all}
+use Rattle.stream_core.proofs.CounterLaws.{stream-floor-below, stream-top-above, stream-between, lowest-below, highest-above}
 use Rattle.stream_core.proofs.ClosedLaws.{ProgramIsClosed}
 
 rest-wider : (program : Program) (l h low high : ℕ) (s : Stream) → low ≤ l → h ≤ high → RestFits program l h s → RestFits program low high s
@@ -97,7 +97,7 @@ record NamesFit (st : Store) (ts : List Tm) (args : Arguments) : Type 0 where
   within : args.store.counter ≤ st.counter + length ts
   below : list_all (all_below args.store.counter) args.values ≡ true
 
-flat-fits : (st : Store) (t : Tm) (ts : List Tm) → is_flat t ≡ true → all_below st.counter t ≡ true → NamesFit st ts (named st ts) → NamesFit st (t ∷ ts) (named st (t ∷ ts))
+flat-fits : (st : Store) (t : Tm) (ts : List Tm) → is_flat t ≡ true → all_below st.counter t ≡ true → NamesFit st ts (name_pairs st ts) → NamesFit st (t ∷ ts) (name_pairs st (t ∷ ts))
 flat-fits st t ts flat first more =
     let above = more.above in
     let within = more.within in
@@ -106,10 +106,10 @@ flat-fits st t ts flat first more =
       count = ap suc more.count;
       above = above;
       within = omega (arith, within);
-      below = and_from _ _ (below-more st.counter (named st ts).store.counter above t first) more.below;
+      below = and_from _ _ (below-more st.counter (name_pairs st ts).store.counter above t first) more.below;
     })
 
-names-fit : (st : Store) (ts : List Tm) → list_all (all_below st.counter) ts ≡ true → NamesFit st ts (named st ts)
+names-fit : (st : Store) (ts : List Tm) → list_all (all_below st.counter) ts ≡ true → NamesFit st ts (name_pairs st ts)
 names-fit st [] h = record { count = refl; above = omega arith; within = omega arith; below = refl }
 names-fit st (Tree.pair a b ∷ ts) h =
     let (first, rest) = and_parts (all_below st.counter (Tree.pair a b)) (list_all (all_below st.counter) ts) h in
@@ -121,10 +121,11 @@ names-fit st (Tree.pair a b ∷ ts) h =
       count = ap suc more.count;
       above = omega (arith, above);
       within = omega (arith, within);
-      below = and_from _ _ (lt-ltb st.counter (named next ts).store.counter (omega (arith, above))) more.below;
+      below = and_from _ _ (lt-ltb st.counter (name_pairs next ts).store.counter (omega (arith, above))) more.below;
     }
 names-fit st (Tree.leaf v ∷ ts) h = let (first, rest) = and_parts (all_below st.counter (Tree.leaf v)) (list_all (all_below st.counter) ts) h in flat-fits st (Tree.leaf v) ts refl first (names-fit st ts rest)
 names-fit st (Tree.sym s ∷ ts) h = flat-fits st (Tree.sym s) ts refl refl (names-fit st ts h)
+names-fit st (Tree.str s ∷ ts) h = flat-fits st (Tree.str s) ts refl refl (names-fit st ts h)
 names-fit st (Tree.num n ∷ ts) h = flat-fits st (Tree.num n) ts refl refl (names-fit st ts h)
 names-fit st (Tree.truth b ∷ ts) h = flat-fits st (Tree.truth b) ts refl refl (names-fit st ts h)
 names-fit st (Tree.nil ∷ ts) h = flat-fits st Tree.nil ts refl refl (names-fit st ts h)
@@ -172,6 +173,7 @@ run-fits program (Goal.fresh k g) env st closed there slots below =
     (run-fits program g wider (with_fresh st k) closed (closed.parts (Goal.fresh k g) there) (wider-slots env st.counter k g slots)
     (list_all-append (all_below (st.counter + k)) env (variables st.counter k)
     ∙ and_from _ _ (env-more st.counter (st.counter + k) (omega arith) env below) (variables-below st.counter k)))
+run-fits program (Goal.later g) env st closed there slots below = record { heads = tt; tail = ((closed.parts (Goal.later g) there, slots, below), omega arith, omega arith) }
 run-fits program (Goal.call r args) env st closed there slots below =
     let ts = instances env args in
     let names = names-fit st ts (instances-below st.counter env args below) in
@@ -210,6 +212,9 @@ waiting-fits program (Stream.goes_on hs i) m n fits =
 -- the force of a suspension that fits the program
 pub force-fits : (program : Program) (t : Thunk) → ProgramIsClosed program → Fits program t → TailFits program (floor t) (top t) (force program t)
 force-fits program (Thunk.call r args st) closed (takes_them, below) = enter-fits program r (slice_get program.relations r) args st closed refl takes_them below
+force-fits program (Thunk.pause g env st) closed (there, slots, below) =
+    let low = closed.narrow g there in
+    fits-wider program st.counter (st.counter + width g) st.counter (st.counter + 2 ^ 21) (run g env st) (omega arith) (omega (arith, low)) (run-fits program g env st closed there slots below)
 force-fits program (Thunk.swap t i) closed (first, inner) =
     let low = stream-floor-below t (floor i) in
     let high = stream-top-above t (top i) in

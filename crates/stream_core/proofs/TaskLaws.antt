@@ -1,5 +1,5 @@
 -- One task after the other gives what the definition gives.
-use Rattle.std.proofs.Common.{◌≡◌, ℕ, ◌+◌, ◌≤◌, ◌<◌, ◌^◌, true, List, [], ◌∷◌, ◌++◌, length, refl, ◌∙◌, arith}
+use Rattle.std.proofs.Common.{◌≡◌, ℕ, ◌+◌, ◌≤◌, ◌<◌, ◌^◌, true, List, [], ◌∷◌, ◌++◌, length, map, refl, sym, ◌∙◌, ap, arith}
 use Rattle.std.specs.Prelude.{Contains}
 use Rattle.std.specs.List.{list_all}
 use Rattle.std.proofs.lemmas.Bool.{and_from, and_parts}
@@ -11,9 +11,9 @@ use Rattle.kan_model.specs.Streams.Stream.{Stream, Thunk, heads, append, append_
 use Rattle.kan_model.specs.Streams.Running.{run, variables}
 use Rattle.kan_model.specs.Programs.Scope.{width, all_below, in_scope}
 use Rattle.kan_model.specs.Streams.Bounds.{floor}
-use Rattle.stream_core.specs.Fitting.{Between, RestFits}
-use Rattle.stream_core.specs.Machine.{Task, done, Each, HasRoom, IsOf, AreBelowRest, AreReady, for_each, count, left, Becomes, run_each, bound_last}
-use Rattle.stream_core.proofs.MachineLaws.{Each-like, run-between, env-more, variables-below}
+use Rattle.stream_core.specs.CounterBounds.{Between, RestFits}
+use Rattle.stream_core.specs.Tasks.{Task, done, Each, HasRoom, IsOf, AreBelowRest, AreReady, for_each, count, left, Becomes, run_each, bound_last}
+use Rattle.stream_core.proofs.HeadLaws.{Each-like, run-between, env-more, variables-below}
 use Rattle.stream_core.proofs.ClosedLaws.{ProgramIsClosed}
 use Rattle.stream_core.proofs.FitLaws.{run-fits, wider-slots}
 
@@ -21,6 +21,15 @@ use Rattle.stream_core.proofs.FitLaws.{run-fits, wider-slots}
 pub below-rest : (program : Program) (low high : ℕ) (env : List Tm) (s : Stream) → list_all (all_below low) env ≡ true → RestFits program low high s → AreBelowRest env s
 below-rest program low high env (Stream.ends hs) below rest = tt
 below-rest program low high env (Stream.goes_on hs i) below (fits, least, most) = env-more low (floor i) least env below
+
+-- a goal at each of some stores, and at one more
+pub each-last : {St : Type 0} (means : St → Store) (g : Goal) (env : List Tm) (stores rest : List St) (last : St) (ts : List Task) → stores ≡ rest ++ last ∷ [] →
+    Task.run_at g env (means last) ∷ Task.append_two ∷ run_each g env (map means rest) ts ≡ run_each g env (map means stores) ts
+each-last means g env stores rest last ts split = go rest ts ∙ ap (λ xs. run_each g env (map means xs) ts) (sym split)
+  where
+    go : (xs : List _) (ts : List Task) → Task.run_at g env (means last) ∷ Task.append_two ∷ run_each g env (map means xs) ts ≡ run_each g env (map means (xs ++ last ∷ [])) ts
+    go [] ts = refl
+    go (x ∷ xs) ts = go xs (Task.run_at g env (means x) ∷ Task.append_two ∷ ts)
 
 module _ (program : Program) where
   -- both goals: the second is bound to what the first gives

@@ -1,53 +1,105 @@
 -- Steps on the way down from a suspension and up again.
-use Rattle.std.proofs.Common.{◌≡◌, List, [], ◌∷◌, ◌++◌, refl, sym, ◌∙◌, ap, ap₂, subst}
-use Rattle.std.specs.Prelude.{Option, Some}
-use Rattle.kan_model.specs.Programs.Goals.{Program}
+use Rattle.std.proofs.Common.{◌≡◌, true, List, [], ◌∷◌, ◌++◌, refl, sym, ◌∙◌, ap, ap₂, subst}
+use Rattle.std.specs.Prelude.{Option, Some, None, IfSome}
 use Rattle.kan_model.specs.Stores.Store as facts
-use Rattle.kan_model.specs.Streams.Stream as model
+use Rattle.kan_model.specs.Streams.Stream.{Thunk}
 use Rattle.kan_model.specs.Streams.Running.{force}
-use Rattle.stream_core.specs.Machine.{Each}
-use Rattle.stream_core.specs.Forcing.{MayForce, next, IsWay, inner_of}
-use Rattle.stream_core.specs.Standing.{Grows, IsForce}
-use Rattle.stream_core.specs.Tasks.{stack}
-use Rattle.stream_core.specs.Ways.{IsWayDown}
+use Rattle.stream_core.specs.Tasks.{Each}
+use Rattle.stream_core.specs.InnerSuspensions.{MayForce, InnerId, has_inner, inner_of}
+use Rattle.stream_core.specs.Suspensions.{ForceOf}
+use Rattle.stream_core.specs.Tables.{Told, Table, GrowsBy, IsForce}
+use Rattle.stream_core.specs.CodeTasks.{stack}
+use Rattle.stream_core.specs.WaysDown.{next, IsWay, Leads, MayForceAround, IsWayFrom, IsNext}
 use Rattle.stream_core.specs.declared.streams.Stream.{Stream}
+use Rattle.stream_core.proofs.ForceLaws.{inner-may}
 use Rattle.stream_core.proofs.StackLaws.{stack-pop}
-use Rattle.stream_core.proofs.RunningLaws.{Each-last, Each-front}
+use Rattle.stream_core.proofs.StreamLaws.{Each-last, Each-front}
 
-module _ {I St : Type 0} (means : St → facts.Store) (program : Program) where
+module _ {I : Type 0} where
   -- the id that was reached put on the way
-  pub way-longer : (tree : I → model.Thunk) (whole : model.Thunk) (ids longer : List I) (at : I) → longer ≡ ids ++ at ∷ [] → tree at ≡ next whole (stack tree ids) → IsWay whole (stack tree ids) →
-      IsWay whole (stack tree longer)
-  way-longer tree whole ids longer at grown is way = subst (IsWay whole) (sym (stack-pop tree longer ids at grown)) (is, way)
+  pub way-longer : (t : Table I) (whole : Thunk) (ids longer : List I) (last : I) → longer ≡ ids ++ last ∷ [] → IsNext t whole ids last → has_inner (t.tree last) ≡ true → IsWayFrom t whole ids →
+      IsWayFrom t whole longer
+  way-longer t whole ids longer last grown comes holds way = record {
+    way = subst (IsWay whole) (sym (stack-pop t.tree longer ids last grown)) (comes.is, way.way);
+    each = subst (Each (MayForceAround t)) (sym grown) (Each-last (MayForceAround t) ids last way.each (comes.belongs, comes.may, holds));
+  }
 
   -- what comes next is what is inside it
-  pub next-inside : (tree : I → model.Thunk) (whole : model.Thunk) (ids longer : List I) (at : I) → longer ≡ ids ++ at ∷ [] → next whole (stack tree longer) ≡ inner_of (tree at)
-  next-inside tree whole ids longer at grown = ap (next whole) (stack-pop tree longer ids at grown)
+  pub next-inside : (t : Table I) (whole : Thunk) (ids longer : List I) (last : I) → longer ≡ ids ++ last ∷ [] → next whole (stack t.tree longer) ≡ inner_of (t.tree last)
+  next-inside t whole ids longer last grown = ap (next whole) (stack-pop t.tree longer ids last grown)
 
-  pub each-longer : (P : I → Type 0) (ids longer : List I) (at : I) → longer ≡ ids ++ at ∷ [] → Each P ids → P at → Each P longer
-  each-longer P ids longer at grown all one = subst (Each P) (sym grown) (Each-last P ids at all one)
+  pub next-longer : (t : Table I) (whole : Thunk) (ids longer : List I) (last inside : I) → longer ≡ ids ++ last ∷ [] → InnerId t last inside → IsNext t whole ids last → IsNext t whole longer inside
+  next-longer t whole ids longer last inside grown inner comes = record {
+    belongs = inner.belongs;
+    may = subst (MayForce t.program) (sym inner.is) (inner-may t.program (t.tree last) comes.may);
+    is = inner.is ∙ sym (next-inside t whole ids longer last grown);
+  }
+
+  pub leads-longer : (whole last inside : I) (ids longer : List I) (o : Option (Told I)) → longer ≡ ids ++ last ∷ [] → IfSome o (λ told. told.inner last ≡ Some inside) →
+      IfSome o (λ told. Leads told.inner whole (stack (λ (i : I). i) ids) last) → IfSome o (λ told. Leads told.inner whole (stack (λ (i : I). i) longer) inside)
+  leads-longer whole last inside ids longer None grown inner leads = tt
+  leads-longer whole last inside ids longer (Some told) grown inner leads =
+      subst (λ xs. Leads told.inner whole xs inside) (sym (stack-pop (λ (i : I). i) longer ids last grown)) (inner, leads)
+
+  -- where a way begins
+  pub way-begins : (t : Table I) (whole : Thunk) (ids : List I) → ids ≡ [] → IsWayFrom t whole ids
+  way-begins t whole ids none = rw none (record { way = tt; each = tt })
+
+  pub next-begins : (t : Table I) (id last : I) (ids : List I) → ids ≡ [] → MayForce t.program (t.tree id) → t.belongs last × (t.tree last ≡ t.tree id) → IsNext t (t.tree id) ids last
+  next-begins t id last ids none may (there, same) = rw none (record { belongs = there; may = subst (MayForce t.program) (sym same) may; is = same })
+
+  pub leads-begins : (whole copy : I) (ids : List I) (o : Option (Told I)) → ids ≡ [] → IfSome o (λ told. copy ≡ whole) → IfSome o (λ told. Leads told.inner whole (stack (λ (i : I). i) ids) copy)
+  leads-begins whole copy ids None none same = tt
+  leads-begins whole copy ids (Some told) none same = rw none same
+
+  -- nothing is left of it
+  pub force-end : {St : Type 0} (t : Table I) (means : St → facts.Store) (whole : Thunk) (ids : List I) (made : Stream I St) → ids ≡ [] → IsForce t means (next whole (stack t.tree ids)) made → IsForce t means whole made
+  force-end t means whole ids made none forced = subst (λ xs. IsForce t means (next whole (stack t.tree xs)) made) none forced
+
+  -- the last id of a way
+  pub last-around : (t : Table I) (whole : Thunk) (ids rest : List I) (at : I) → IsWayFrom t whole ids → ids ≡ rest ++ at ∷ [] → MayForceAround t at
+  last-around t whole ids rest at way split = (Each-front (MayForceAround t) ids rest at split way.each).1
 
   -- ids stand for what they stood for
-  ids-same : (belonged belongs : I → Type 0) (was is : I → model.Thunk) → Grows belonged was belongs is → (ids : List I) → Each (λ id. belonged id × MayForce program (was id)) ids → stack is ids ≡ stack was ids
-  ids-same belonged belongs was is grows [] h = refl
-  ids-same belonged belongs was is grows (id ∷ ids) ((there, may), hs) = ap₂ (λ t ts. ts ++ t ∷ []) (grows id there).1 (ids-same belonged belongs was is grows ids hs)
+  module _ (R : Told I → Told I → Type 0) (t u : Table I) (grew : GrowsBy R t u) where
+    trees-stay : (ids : List I) → Each (MayForceAround t) ids → stack u.tree ids ≡ stack t.tree ids
+    trees-stay [] h = refl
+    trees-stay (id ∷ ids) ((there, may, holds), hs) = ap₂ (λ x xs. xs ++ x ∷ []) (grew.ids id there).1 (trees-stay ids hs)
 
-  ids-each : (belonged belongs : I → Type 0) (was is : I → model.Thunk) → Grows belonged was belongs is → (ids : List I) → Each (λ id. belonged id × MayForce program (was id)) ids → Each (λ id. belongs id × MayForce program (is id)) ids
-  ids-each belonged belongs was is grows [] h = tt
-  ids-each belonged belongs was is grows (id ∷ ids) ((there, may), hs) =
-      (((grows id there).0, subst (MayForce program) (sym (grows id there).1) may), ids-each belonged belongs was is grows ids hs)
+    each-stays : (ids : List I) → Each (MayForceAround t) ids → Each (MayForceAround u) ids
+    each-stays [] h = tt
+    each-stays (id ∷ ids) ((there, may, holds), hs) =
+        let same = sym (grew.ids id there).1 in (
+          (
+            (grew.ids id there).0,
+            subst (λ p. MayForce p (u.tree id)) (sym grew.program) (subst (MayForce t.program) same may),
+            subst (λ x. has_inner x ≡ true) same holds,
+          ),
+          each-stays ids hs,
+        )
 
-  -- one step up: the last id's stream is made
-  pub up-step : (belonged belongs : I → Type 0) (was is : I → model.Thunk) (whole : model.Thunk) (ids rest : List I) (at : I) (found : Option (Stream I St)) (made : Stream I St) →
-      IsWayDown belonged was means program whole ids found → ids ≡ rest ++ at ∷ [] → Grows belonged was belongs is → IsForce belongs is means program (is at) made →
-      IsWayDown belongs is means program whole rest (Some made)
-  up-step belonged belongs was is whole ids rest at found made down split grows forced =
-      let (all, last) = Each-front (λ id. belonged id × MayForce program (was id)) ids rest at split down.each in
-      let same = ids-same belonged belongs was is grows rest all in
-      let way : IsWay whole (was at ∷ stack was rest) = subst (IsWay whole) (stack-pop was ids rest at split) down.way in
-      let there : is at ≡ next whole (stack is rest) = (grows at last.0).1 ∙ way.0 ∙ ap (next whole) (sym same) in
-      record {
-        way = subst (IsWay whole) (sym same) way.1;
-        each = ids-each belonged belongs was is grows rest all;
-        inside = (forced.0, forced.1 ∙ ap (force program) there);
-      }
+    -- a way while the table grows
+    pub way-stays : (whole : Thunk) (ids : List I) → IsWayFrom t whole ids → IsWayFrom u whole ids
+    way-stays whole ids way = record {
+      way = subst (IsWay whole) (sym (trees-stay ids way.each)) way.way;
+      each = each-stays ids way.each;
+    }
+
+    -- one step up
+    pub way-up : (whole : Thunk) (ids rest : List I) (at : I) → ids ≡ rest ++ at ∷ [] → IsWayFrom t whole ids → IsWayFrom u whole rest
+    way-up whole ids rest at split way =
+        let (all, last) = Each-front (MayForceAround t) ids rest at split way.each in
+        way-stays whole rest (record { way = (subst (IsWay whole) (stack-pop t.tree ids rest at split) way.way).1; each = all })
+
+    -- the force of what came next is that of what comes next
+    pub force-next : {St : Type 0} (means : St → facts.Store) (whole : Thunk) (ids : List I) (last : I) (made : Stream I St) → IsWayFrom t whole ids → t.tree last ≡ next whole (stack t.tree ids) →
+        IsForce u means (t.tree last) made → IsForce u means (next whole (stack u.tree ids)) made
+    force-next means whole ids last made way is forced =
+        subst (λ x. IsForce u means x made) (is ∙ ap (next whole) (sym (trees-stay ids way.each))) forced
+
+    pub force-up : {St : Type 0} (means : St → facts.Store) (whole : Thunk) (ids rest : List I) (at : I) (made : Stream I St) → ids ≡ rest ++ at ∷ [] → IsWayFrom t whole ids →
+        IsForce u means (t.tree at) made → IsForce u means (next whole (stack u.tree rest)) made
+    force-up means whole ids rest at made split way forced =
+        let (all, last) = Each-front (MayForceAround t) ids rest at split way.each in
+        let down = subst (IsWay whole) (stack-pop t.tree ids rest at split) way.way in
+        subst (λ x. IsForce u means x made) (down.0 ∙ ap (next whole) (sym (trees-stay rest all))) forced

@@ -1,9 +1,9 @@
 //! Appending streams.
 
-ghost use Rattle.std.specs.Prelude.{◌≡◌, ℕ, ◌++◌, ◌∷◌, [], map, reverse, IfOk, OnOk};
+ghost use Rattle.std.specs.Prelude.{◌≡◌, ◌++◌, ◌∷◌, [], map, reverse, IfOk, OnOk};
 ghost use Rattle.kan_model.specs.Streams.Stream as model;
-ghost use Rattle.stream_core.specs.Fitting.{TailFits};
-ghost use Rattle.stream_core.specs.Standing as standing;
+ghost use Rattle.stream_core.specs.CounterBounds.{FitsAsBoth};
+ghost use Rattle.stream_core.specs.Tables.{OnlyAdds, HasStream, stream_in};
 
 use crate::nodes::Nodes;
 use crate::streams::{Stores, Stream, Thunk};
@@ -50,22 +50,25 @@ fn joined<St: Drop>(
     Ok(left)
 }
 
-/// The stream of the left one's stores, which goes on as the right one, or with a suspension before which the right one
-/// waits.
+/// The stream of the left one's stores, which goes on as the right one, or with a suspension before
+/// which the right one waits.
 pub fn append<N: Nodes<St>, St: Store>(
     alloc: Global,
     left: Stream<N::Id, St>,
     right: Stream<N::Id, St>,
     nodes: &mut N,
 ) -> Result<Stream<N::Id, St>, Memory>
-    requires left { standing.StreamBelongs (N.belongs nodes.old) left }
-    requires right { standing.StreamBelongs (N.belongs nodes.old) right }
-    ensures made { IfOk result (λ made. standing.stream (N.tree nodes.new) St.meaning made ≡ model.append (standing.stream (N.tree nodes.old) St.meaning left) (standing.stream (N.tree nodes.old) St.meaning right)) }
-    ensures belong { IfOk result (λ made. standing.StreamBelongs (N.belongs nodes.new) made) }
-    ensures fits { IfOk result (λ made. (low high : ℕ) → TailFits (N.serves nodes.old) low high (standing.stream (N.tree nodes.old) St.meaning left) → TailFits (N.serves nodes.old) low high (standing.stream (N.tree nodes.old) St.meaning right) →
-        TailFits (N.serves nodes.new) low high (standing.stream (N.tree nodes.new) St.meaning made)) }
-    ensures older { standing.Grows (N.belongs nodes.old) (N.tree nodes.old) (N.belongs nodes.new) (N.tree nodes.new) }
-    ensures same { N.serves nodes.new ≡ N.serves nodes.old }
+    requires left { HasStream (N.table nodes.old) left }
+    requires right { HasStream (N.table nodes.old) right }
+    ensures made { IfOk result (λ made. stream_in (N.table nodes.new) St.meaning made
+        ≡ model.append (stream_in (N.table nodes.old) St.meaning left)
+        (stream_in (N.table nodes.old) St.meaning right)) }
+    ensures belong { IfOk result (HasStream (N.table nodes.new)) }
+    ensures fits { IfOk result (λ made. FitsAsBoth (N.table nodes.old).program
+        (stream_in (N.table nodes.old) St.meaning left)
+        (stream_in (N.table nodes.old) St.meaning right)
+        (stream_in (N.table nodes.new) St.meaning made)) }
+    ensures adds { OnlyAdds (N.table nodes.old) (N.table nodes.new) }
 {
     let Stream { heads, tail } = left;
     match tail {

@@ -1,23 +1,24 @@
 //! Forcing suspensions.
 
-ghost use Rattle.std.specs.Prelude.{◌≡◌, ◌≤◌, ◌^◌, true, slice_get, IfOk, IfSome};
-ghost use Rattle.std.specs.List.{list_all};
+ghost use Rattle.std.specs.Prelude.{◌≡◌, ◌≤◌, ◌^◌, true, false, slice_get, IfOk, OnOk, OnErr};
+ghost use Rattle.std.specs.Prelude.{IfSome};
 ghost use Rattle.kan_model.specs.Streams.Stream as model;
-ghost use Rattle.kan_model.specs.Streams.Running as running;
-ghost use Rattle.kan_model.specs.Programs.Scope.{is_small};
+ghost use Rattle.kan_model.specs.Streams.Running.{enter, force as forced};
 ghost use Rattle.kan_model.specs.Streams.Bounds.{top, floor};
 ghost use Rattle.kan_model.specs.Programs.Environments.{terms_of};
 ghost use Rattle.kan_model.specs.Programs.Closed as programs;
-ghost use Rattle.stream_core.specs.Fitting.{TailFits};
-ghost use Rattle.stream_core.specs.Forcing.{inner_of, MayForce, IsInside};
-ghost use Rattle.stream_core.specs.Standing as standing;
-ghost use Rattle.stream_core.specs.Tasks.{is_built};
-ghost use Rattle.stream_core.specs.Ways.{IsWayDown};
+ghost use Rattle.stream_core.specs.CounterBounds.{TailFits};
+ghost use Rattle.stream_core.specs.InnerSuspensions.{inner_of, has_inner, MayForce, IsInside};
+ghost use Rattle.stream_core.specs.Tables.{IsTableOf, OnlyAdds, Grows, GrowsBy, KeepsMore};
+ghost use Rattle.stream_core.specs.Tables.{KeepsWay, BothTold, HasStream, HasThunk, stream_in};
+ghost use Rattle.stream_core.specs.Tables.{thunk_in, IsForce};
+ghost use Rattle.stream_core.specs.CodeTasks.{stack};
+ghost use Rattle.stream_core.specs.WaysDown.{IsWayFrom, IsNext, EndsWay, Leads};
 
-use crate::again::thunk_again;
 use crate::appending::append;
+use crate::copies::thunk_again;
 use crate::nodes::Nodes;
-use crate::running::{bind_all, run_goal};
+use crate::running::{bind_with, run_with};
 use crate::streams::{Stream, Thunk};
 use kan_model::{Env, Program, Store};
 use kan_terms::{ListOf, Memory};
@@ -28,22 +29,22 @@ fn enter_call<N: Nodes<St>, St: Store>(
     alloc: Global,
     program: &Program,
     rel: u32,
-    args: &Env,
+    args: Env,
     store: St,
     nodes: &mut N,
 ) -> Result<Stream<N::Id, St>, Memory>
-    requires goals { N.serves nodes.old ≡ programs.meaning program.now }
-    requires small { is_small (programs.meaning program.now) ≡ true }
-    requires built { list_all is_built (programs.tables program.now).goals ≡ true }
-    requires may { MayForce (programs.meaning program.now) (model.Thunk.call rel (terms_of args.now) (St.meaning store)) }
-    ensures made { IfOk result (λ made. standing.stream (N.tree nodes.new) St.meaning made ≡ running.enter (slice_get (programs.meaning program.now).relations rel) (terms_of args.now) (St.meaning store)) }
-    ensures belong { IfOk result (λ made. standing.StreamBelongs (N.belongs nodes.new) made) }
-    ensures older { standing.Grows (N.belongs nodes.old) (N.tree nodes.old) (N.belongs nodes.new) (N.tree nodes.new) }
-    ensures same { N.serves nodes.new ≡ N.serves nodes.old }
+    requires table { IsTableOf program.now (N.table nodes.old) }
+    requires may { MayForce (programs.meaning program.now)
+        (model.Thunk.call rel (terms_of args) (St.meaning store)) }
+    ensures made { IfOk result (λ made. stream_in (N.table nodes.new) St.meaning made
+        ≡ enter (slice_get (programs.meaning program.now).relations rel) (terms_of args)
+        (St.meaning store)) }
+    ensures belong { IfOk result (HasStream (N.table nodes.new)) }
+    ensures adds { OnlyAdds (N.table nodes.old) (N.table nodes.new) }
 {
     match program.relation(rel) {
         Some(relation) => {
-            let made = run_goal(alloc, program, relation.body, args, store, nodes)?;
+            let made = run_with(alloc, program, relation.body, args, store, nodes)?;
             Ok(made)
         }
         None => Ok(Stream {
@@ -53,59 +54,90 @@ fn enter_call<N: Nodes<St>, St: Store>(
     }
 }
 
-// What a suspension gives, where what is inside it gave a stream. A call needs none.
-fn climb<N: Nodes<St>, St: Store>(
+// The force of a suspension that has none inside.
+fn expand<N: Nodes<St>, St: Store>(
     alloc: Global,
     program: &Program,
     thunk: Thunk<N::Id, St>,
-    inside: Option<Stream<N::Id, St>>,
     nodes: &mut N,
 ) -> Result<Stream<N::Id, St>, Memory>
-    requires goals { N.serves nodes.old ≡ programs.meaning program.now }
-    requires small { is_small (programs.meaning program.now) ≡ true }
-    requires built { list_all is_built (programs.tables program.now).goals ≡ true }
-    requires belong { standing.ThunkBelongs (N.belongs nodes.old) thunk }
-    requires may { MayForce (programs.meaning program.now) (standing.thunk (N.tree nodes.old) St.meaning (programs.goal program.now) thunk) }
-    requires inside { IfSome inside (standing.IsForce (N.belongs nodes.old) (N.tree nodes.old) St.meaning (programs.meaning program.now) (inner_of (standing.thunk (N.tree nodes.old) St.meaning (programs.goal program.now) thunk))) }
-    ensures made { IfOk result (λ made. standing.stream (N.tree nodes.new) St.meaning made ≡ running.force (programs.meaning program.now) (standing.thunk (N.tree nodes.old) St.meaning (programs.goal program.now) thunk)) }
-    ensures belong { IfOk result (λ made. standing.StreamBelongs (N.belongs nodes.new) made) }
-    ensures older { standing.Grows (N.belongs nodes.old) (N.tree nodes.old) (N.belongs nodes.new) (N.tree nodes.new) }
-    ensures same { N.serves nodes.new ≡ N.serves nodes.old }
+    requires table { IsTableOf program.now (N.table nodes.old) }
+    requires may { MayForce (N.table nodes.old).program
+        (thunk_in (N.table nodes.old) St.meaning thunk) }
+    requires last { has_inner (thunk_in (N.table nodes.old) St.meaning thunk) ≡ false }
+    ensures made { IfOk result (λ made. stream_in (N.table nodes.new) St.meaning made
+        ≡ forced (N.table nodes.old).program (thunk_in (N.table nodes.old) St.meaning thunk)) }
+    ensures belong { IfOk result (HasStream (N.table nodes.new)) }
+    ensures adds { OnlyAdds (N.table nodes.old) (N.table nodes.new) }
 {
     match thunk {
-        Thunk::Call { rel, args, store } => { enter_call(alloc, program, rel, &args, store, nodes) }
+        Thunk::Call { rel, args, store } => {
+            let made = enter_call(alloc, program, rel, args, store, nodes)?;
+            Ok(made)
+        }
+        Thunk::Pause { goal, env, store } => {
+            let made = run_with(alloc, program, goal, env, store, nodes)?;
+            Ok(made)
+        }
+        _ => unreachable!(),
+    }
+}
+
+// The force of a suspension, where that of the one inside is there.
+fn go_around<N: Nodes<St>, St: Store>(
+    alloc: Global,
+    program: &Program,
+    thunk: Thunk<N::Id, St>,
+    inside: Stream<N::Id, St>,
+    nodes: &mut N,
+) -> Result<Stream<N::Id, St>, Memory>
+    requires table { IsTableOf program.now (N.table nodes.old) }
+    requires belong { HasThunk (N.table nodes.old) thunk }
+    requires may { MayForce (N.table nodes.old).program
+        (thunk_in (N.table nodes.old) St.meaning thunk) }
+    requires around { has_inner (thunk_in (N.table nodes.old) St.meaning thunk) ≡ true }
+    requires inside { IsForce (N.table nodes.old) St.meaning
+        (inner_of (thunk_in (N.table nodes.old) St.meaning thunk)) inside }
+    ensures made { IfOk result (λ made. stream_in (N.table nodes.new) St.meaning made
+        ≡ forced (N.table nodes.old).program (thunk_in (N.table nodes.old) St.meaning thunk)) }
+    ensures belong { IfOk result (HasStream (N.table nodes.new)) }
+    ensures adds { OnlyAdds (N.table nodes.old) (N.table nodes.new) }
+{
+    match thunk {
         Thunk::Swap {
             heads,
             tail,
             inner: _,
         } => {
-            let Some(stream) = inside else {
-                return Err(Memory);
-            };
-            append(alloc, Stream { heads, tail }, stream, nodes)
+            let made = append(alloc, Stream { heads, tail }, inside, nodes)?;
+            Ok(made)
         }
         Thunk::Bind {
             goal,
             env,
             inner: _,
         } => {
-            let Some(stream) = inside else {
-                return Err(Memory);
-            };
-            bind_all(alloc, program, goal, &env, stream, nodes)
+            let made = bind_with(alloc, program, goal, env, inside, nodes)?;
+            Ok(made)
         }
+        _ => unreachable!(),
     }
 }
 
-// The id of what is inside a suspension, and None for a call.
+// The id of what is inside a suspension, and None exactly where it has none inside.
 fn inner_again<N: Nodes<St>, St: Store>(nodes: &N, id: &N::Id) -> Result<Option<N::Id>, Memory>
-    requires { N.belongs nodes.now id.now }
-    ensures { IfOk result (IsInside (N.belongs nodes.now) (N.tree nodes.now) (N.tree nodes.now id.now)) }
+    requires { (N.table nodes.now).belongs id.now }
+    ensures { IfOk result (IsInside (N.table nodes.now) id.now) }
 {
     match nodes.thunk(id) {
         Thunk::Call {
             rel: _,
             args: _,
+            store: _,
+        } => Ok(None),
+        Thunk::Pause {
+            goal: _,
+            env: _,
             store: _,
         } => Ok(None),
         Thunk::Swap {
@@ -121,100 +153,150 @@ fn inner_again<N: Nodes<St>, St: Store>(nodes: &N, id: &N::Id) -> Result<Option<
             env: _,
             inner,
         } => {
-            let inner = nodes.again(inner)?;
-            Ok(Some(inner))
+            let around = nodes.again(inner)?;
+            Ok(Some(around))
         }
     }
 }
 
-// The ids on the way down from a suspension, the last one at the end, and the stream of what is inside the last one,
-// where that was found. Where it wasn't, the last one is a call.
+// A way down from a suspension: the ids of those that have one inside, each inside the one before
+// it, then the last one, and its stream, where that was found. Where it wasn't, the last one has
+// none inside.
 #[derive(Drop)]
 struct Way<I, St> {
-    ids: Vec<I>,
+    above: Vec<I>,
+    last: I,
     found: Option<Stream<I, St>>,
 }
 
-// The way down from a suspension, to the first one whose stream is found, or to the call.
+// The way down from a suspension to the first whose stream is found, or to the one that has none
+// inside.
 fn way_down<N: Nodes<St>, St: Store>(
     alloc: Global,
     nodes: &N,
     id: &N::Id,
 ) -> Result<Way<N::Id, St>, Memory>
-    requires belongs { N.belongs nodes.now id.now }
-    requires may { MayForce (N.serves nodes.now) (N.tree nodes.now id.now) }
-    ensures { IfOk result (λ way. IsWayDown (N.belongs nodes.now) (N.tree nodes.now) St.meaning (N.serves nodes.now) (N.tree nodes.now id.now) way.ids.items way.found) }
+    requires belongs { (N.table nodes.now).belongs id.now }
+    requires may { MayForce (N.table nodes.now).program ((N.table nodes.now).tree id.now) }
+    ensures above { IfOk result (λ way. IsWayFrom (N.table nodes.now)
+        ((N.table nodes.now).tree id.now) way.above.items) }
+    ensures last { IfOk result (λ way. IsNext (N.table nodes.now) ((N.table nodes.now).tree id.now)
+        way.above.items way.last) }
+    ensures end { IfOk result (λ way. EndsWay (N.table nodes.now) St.meaning way.last way.found) }
+    ensures leads { IfOk result (λ way. IfSome (N.table nodes.now).told
+        (λ told. Leads told.inner id.now (stack (λ at. at) way.above.items) way.last)) }
 {
-    let mut ids = Vec::new(alloc);
-    let mut at = nodes.again(id)?;
+    let mut above = Vec::new(alloc);
+    let mut last = nodes.again(id)?;
     'down: loop {
-        if let Some(stream) = nodes.found(alloc, &at)? {
+        if let Some(stream) = nodes.found(alloc, &last)? {
             return Ok(Way {
-                ids,
+                above,
+                last,
                 found: Some(stream),
             });
         }
-        let inner = inner_again(nodes, &at)?;
-        ids.push(at)?;
-        match inner {
-            Some(inside) => at = inside,
-            None => return Ok(Way { ids, found: None }),
+        match inner_again(nodes, &last)? {
+            Some(inside) => {
+                above.push(last)?;
+                last = inside;
+            }
+            None => {
+                return Ok(Way {
+                    above,
+                    last,
+                    found: None,
+                });
+            }
         }
     }
 }
 
-// The force of the last id on a way, kept for it.
+// The force of the last id on a way: the one that was found, or else one call or pause is expanded,
+// and the stream kept.
 fn force_last<N: Nodes<St>, St: Store>(
     alloc: Global,
     program: &Program,
-    at: &N::Id,
-    inside: Option<Stream<N::Id, St>>,
+    last: &N::Id,
+    found: Option<Stream<N::Id, St>>,
     nodes: &mut N,
 ) -> Result<Stream<N::Id, St>, Memory>
-    requires goals { N.serves nodes.old ≡ programs.meaning program.now }
-    requires small { is_small (programs.meaning program.now) ≡ true }
-    requires built { list_all is_built (programs.tables program.now).goals ≡ true }
-    requires belongs { N.belongs nodes.old at.now }
-    requires may { MayForce (programs.meaning program.now) (N.tree nodes.old at.now) }
-    requires inside { IfSome inside (standing.IsForce (N.belongs nodes.old) (N.tree nodes.old) St.meaning (programs.meaning program.now) (inner_of (N.tree nodes.old at.now))) }
-    ensures force { IfOk result (standing.IsForce (N.belongs nodes.new) (N.tree nodes.new) St.meaning (programs.meaning program.now) (N.tree nodes.new at.now)) }
-    ensures older { standing.Grows (N.belongs nodes.old) (N.tree nodes.old) (N.belongs nodes.new) (N.tree nodes.new) }
-    ensures same { N.serves nodes.new ≡ N.serves nodes.old }
+    requires table { IsTableOf program.now (N.table nodes.old) }
+    requires belongs { (N.table nodes.old).belongs last.now }
+    requires may { MayForce (N.table nodes.old).program ((N.table nodes.old).tree last.now) }
+    requires end { EndsWay (N.table nodes.old) St.meaning last.now found }
+    ensures force { IfOk result (IsForce (N.table nodes.new) St.meaning
+        ((N.table nodes.old).tree last.now)) }
+    ensures kept { OnOk result (GrowsBy (KeepsMore last.now) (N.table nodes.old)
+        (N.table nodes.new)) }
+    ensures unchanged { OnErr result (OnlyAdds (N.table nodes.old) (N.table nodes.new)) }
+{
+    match found {
+        Some(stream) => Ok(stream),
+        None => {
+            let thunk = thunk_again(alloc, nodes, last)?;
+            let made = expand(alloc, program, thunk, nodes)?;
+            let kept = nodes.keep(alloc, last, made)?;
+            Ok(kept)
+        }
+    }
+}
+
+// The force of an id on a way, where that of the one inside is there. It is kept.
+fn force_around<N: Nodes<St>, St: Store>(
+    alloc: Global,
+    program: &Program,
+    at: &N::Id,
+    inside: Stream<N::Id, St>,
+    nodes: &mut N,
+) -> Result<Stream<N::Id, St>, Memory>
+    requires table { IsTableOf program.now (N.table nodes.old) }
+    requires belongs { (N.table nodes.old).belongs at.now }
+    requires may { MayForce (N.table nodes.old).program ((N.table nodes.old).tree at.now) }
+    requires around { has_inner ((N.table nodes.old).tree at.now) ≡ true }
+    requires inside { IsForce (N.table nodes.old) St.meaning
+        (inner_of ((N.table nodes.old).tree at.now)) inside }
+    ensures force { IfOk result (IsForce (N.table nodes.new) St.meaning
+        ((N.table nodes.old).tree at.now)) }
+    ensures kept { OnOk result (GrowsBy (KeepsMore at.now) (N.table nodes.old)
+        (N.table nodes.new)) }
+    ensures unchanged { OnErr result (OnlyAdds (N.table nodes.old) (N.table nodes.new)) }
 {
     let thunk = thunk_again(alloc, nodes, at)?;
-    let made = climb(alloc, program, thunk, inside, nodes)?;
+    let made = go_around(alloc, program, thunk, inside, nodes)?;
     let kept = nodes.keep(alloc, at, made)?;
     Ok(kept)
 }
 
-/// The force of a suspension: one call is expanded. What is found on the way down to it is used, and each stream that is
-/// made on the way up is kept for its id.
+/// The force of a suspension: one call or pause is expanded. What is found on the way down to it is
+/// used, and each stream that is made on the way up is kept for its id.
 pub fn force<N: Nodes<St>, St: Store>(
     alloc: Global,
     program: &Program,
     id: &N::Id,
     nodes: &mut N,
 ) -> Result<Stream<N::Id, St>, Memory>
-    requires goals { N.serves nodes.old ≡ programs.meaning program.now }
-    requires small { is_small (programs.meaning program.now) ≡ true }
-    // Until the other constraints are built.
-    requires built { list_all is_built (programs.tables program.now).goals ≡ true }
-    requires belongs { N.belongs nodes.old id.now }
-    requires room { top (N.tree nodes.old id.now) ≤ 2 ^ 62 }
-    ensures force { IfOk result (standing.IsForce (N.belongs nodes.new) (N.tree nodes.new) St.meaning (programs.meaning program.now) (N.tree nodes.old id.now)) }
-    ensures fits { IfOk result (λ made. TailFits (programs.meaning program.now) (floor (N.tree nodes.old id.now)) (top (N.tree nodes.old id.now)) (standing.stream (N.tree nodes.new) St.meaning made)) }
-    ensures older { standing.Grows (N.belongs nodes.old) (N.tree nodes.old) (N.belongs nodes.new) (N.tree nodes.new) }
-    ensures same { N.serves nodes.new ≡ N.serves nodes.old }
+    requires table { IsTableOf program.now (N.table nodes.old) }
+    requires belongs { (N.table nodes.old).belongs id.now }
+    requires room { top ((N.table nodes.old).tree id.now) ≤ 2 ^ 62 }
+    ensures force { IfOk result (IsForce (N.table nodes.new) St.meaning
+        ((N.table nodes.old).tree id.now)) }
+    ensures fits { IfOk result (λ made. TailFits (programs.meaning program.now)
+        (floor ((N.table nodes.old).tree id.now))
+        (top ((N.table nodes.old).tree id.now)) (stream_in (N.table nodes.new) St.meaning made)) }
+    ensures kept { OnOk result (BothTold (KeepsWay (N.table nodes.old).belongs id.now)
+        (N.table nodes.old).told (N.table nodes.new).told) }
+    ensures grows { Grows (N.table nodes.old) (N.table nodes.new) }
 {
     let way = way_down(alloc, nodes, id)?;
-    let Way { mut ids, found } = way;
-    let mut inside = found;
-    while let Some(at) = ids.pop() {
-        let made = force_last(alloc, program, &at, inside, nodes)?;
-        inside = Some(made);
+    let Way {
+        mut above,
+        last,
+        found,
+    } = way;
+    let mut stream = force_last(alloc, program, &last, found, nodes)?;
+    while let Some(at) = above.pop() {
+        stream = force_around(alloc, program, &at, stream, nodes)?;
     }
-    match inside {
-        Some(stream) => Ok(stream),
-        None => Err(Memory),
-    }
+    Ok(stream)
 }

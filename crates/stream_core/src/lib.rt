@@ -1,20 +1,22 @@
-//! Streams whose suspensions are kept in a table: the stream of a goal, and what forcing a suspension gives.
+//! Streams whose suspensions are kept in a table: the stream of a goal, and what forcing a
+//! suspension gives.
 #![tactic(auto)]
 
-mod again;
 mod appending;
+mod atomic_goals;
+mod call_goals;
+mod compound_goals;
+mod copies;
 mod forcing;
-mod giving;
 mod nodes;
-mod plain;
+mod plain_nodes;
 mod running;
-mod splitting;
 mod streams;
 mod tasks;
 
 pub use appending::append;
 pub use forcing::force;
 pub use nodes::Nodes;
-pub use plain::{PlainId, PlainNodes};
+pub use plain_nodes::{PlainId, PlainNodes};
 pub use running::{bind_all, run_goal};
 pub use streams::{Stores, Stream, Thunk};

@@ -1,59 +1,62 @@
 //! Tables of suspensions.
 
-ghost use Rattle.std.specs.Prelude.{◌≡◌, ◌≢◌, Bool, true, Option, Some, option_map, IfOk, OnErr, IfSome, is_some};
-ghost use Rattle.kan_model.specs.Programs.Goals as goals;
-ghost use Rattle.kan_model.specs.Streams.Stream as model;
+ghost use Rattle.std.specs.Prelude.{◌≡◌, true, false, suc, None, Some, option_map, is_some, IfOk};
+ghost use Rattle.std.specs.Prelude.{OnOk, OnErr, IfSome};
 ghost use Rattle.kan_model.specs.Streams.Bounds.{Fits};
-ghost use Rattle.stream_core.specs.Standing as standing;
+ghost use Rattle.stream_core.specs.Suspensions.{inner_id};
+ghost use Rattle.stream_core.specs.Tables.{Table, GrowsBy, KeepsMore, OnlyAdds, StandsFor, IsKept};
+ghost use Rattle.stream_core.specs.Tables.{IsInner, HasThunk, thunk_in, IsForce};
 
 use crate::streams::{Stream, Thunk};
 use kan_model::Store;
 use kan_terms::Memory;
 use std::alloc::Global;
 
-/// A table of suspensions. It is used with one program alone, and an id with the table that gave it. Whatever a call
-/// answers, what older ids stand for is unchanged.
+/// A table of suspensions. It is used with one program alone, and an id with the table that gave
+/// it. Whatever a call answers, what older ids stand for is unchanged.
+///
+/// A table may tell for which ids a stream is kept, and how many suspensions it has. One that
+/// others use at the same time tells neither.
 pub trait Nodes<St: Store> {
     /// Names a suspension for good.
     type Id: Drop;
 
-    // The program that the suspensions are of.
-    ghost serves: { Self → goals.Program };
+    // What the table stands for.
+    ghost table: { Self → Table Self.Id };
 
-    // Which ids are of this table.
-    ghost belongs: { Self → Self.Id → Type 0 };
-
-    // The suspension that an id stands for.
-    ghost tree: { Self → Self.Id → model.Thunk };
-
-    // Whether a stream is kept for an id, where that is told.
-    ghost kept: { Self → Self.Id → Option Bool };
-
-    /// Adds a suspension.
+    /// Adds a suspension, for which no stream is kept.
     fn suspend(&mut self, thunk: Thunk<Self::Id, St>) -> Result<Self::Id, Memory>
-        requires belong { standing.ThunkBelongs (belongs self.old) thunk }
-        requires fits { Fits (serves self.old) (standing.thunk (tree self.old) St.meaning (standing.goal_in (serves self.old)) thunk) }
-        ensures made { IfOk result (λ id. belongs self.new id × (tree self.new id ≡ standing.thunk (tree self.old) St.meaning (standing.goal_in (serves self.old)) thunk)) }
-        ensures older { standing.Grows (belongs self.old) (tree self.old) (belongs self.new) (tree self.new) }
-        ensures same { serves self.new ≡ serves self.old }
-        ensures kept { (id : Self.Id) → belongs self.old id → kept self.new id ≡ kept self.old id };
+        requires belong { HasThunk (table self.old) thunk }
+        requires fits { Fits (table self.old).program (thunk_in (table self.old) St.meaning thunk) }
+        ensures stands { IfOk result (StandsFor (table self.new)
+            (thunk_in (table self.old) St.meaning thunk)) }
+        ensures nothing_kept { IfOk result (IsKept (table self.new) false) }
+        ensures adds { OnlyAdds (table self.old) (table self.new) }
+        ensures larger { OnOk result ((table self.new).size ≡ option_map suc
+            (table self.old).size) }
+        ensures refused { OnErr result ((table self.new).size ≡ (table self.old).size) };
 
     /// The suspension that an id names. It takes no memory.
     fn thunk<'a>(&'a self, id: &'a Self::Id) -> &'a Thunk<Self::Id, St>
-        requires { belongs self.now id.now }
-        ensures belong { standing.ThunkBelongs (belongs self.now) result.now }
-        ensures is { standing.thunk (tree self.now) St.meaning (standing.goal_in (serves self.now)) result.now ≡ tree self.now id.now };
+        requires { (table self.now).belongs id.now }
+        ensures belong { HasThunk (table self.now) result.now }
+        ensures stands { thunk_in (table self.now) St.meaning result.now ≡ (table self.now).tree
+            id.now }
+        ensures inner { IsInner (table self.now) (inner_id result.now) id.now };
 
-    /// An id of the same suspension.
+    /// An id of the same suspension; the same id, where the table tells what is kept.
     fn again(&self, id: &Self::Id) -> Result<Self::Id, Memory>
-        requires { belongs self.now id.now }
-        ensures { IfOk result (λ copy. belongs self.now copy × (tree self.now copy ≡ tree self.now id.now) × (kept self.now copy ≡ kept self.now id.now)) };
+        requires { (table self.now).belongs id.now }
+        ensures stands { IfOk result (StandsFor (table self.now) ((table self.now).tree id.now)) }
+        ensures same { IfOk result (λ copy. IfSome (table self.now).told (λ _. copy ≡ id.now)) };
 
-    /// The stream that was kept for an id, which is the force of its suspension.
+    /// The stream that was kept for an id, which is the force of its suspension. Where the table
+    /// doesn't tell what is kept, it may miss one.
     fn found(&self, alloc: Global, id: &Self::Id) -> Result<Option<Stream<Self::Id, St>>, Memory>
-        requires { belongs self.now id.now }
-        ensures force { IfOk result (λ found. IfSome found (standing.IsForce (belongs self.now) (tree self.now) St.meaning (serves self.now) (tree self.now id.now))) }
-        ensures told { IfOk result (λ found. IfSome (kept self.now id.now) (λ is_kept. is_some found ≡ is_kept)) };
+        requires { (table self.now).belongs id.now }
+        ensures force { IfOk result (λ found. IfSome found
+            (IsForce (table self.now) St.meaning ((table self.now).tree id.now))) }
+        ensures told { IfOk result (λ found. IsKept (table self.now) (is_some found) id.now) };
 
     /// Keeps the force of an id's suspension for it, and gives a stream that is that force.
     fn keep(
@@ -62,15 +65,15 @@ pub trait Nodes<St: Store> {
         id: &Self::Id,
         stream: Stream<Self::Id, St>,
     ) -> Result<Stream<Self::Id, St>, Memory>
-        requires belongs { belongs self.old id.now }
-        requires force { standing.IsForce (belongs self.old) (tree self.old) St.meaning (serves self.old) (tree self.old id.now) stream }
-        ensures force { IfOk result (standing.IsForce (belongs self.new) (tree self.new) St.meaning (serves self.new) (tree self.new id.now)) }
-        ensures older { standing.Grows (belongs self.old) (tree self.old) (belongs self.new) (tree self.new) }
-        ensures same { serves self.new ≡ serves self.old }
-        ensures added { IfOk result (λ _. kept self.new id.now ≡ option_map (λ _. true) (kept self.old id.now)) }
-        ensures others { (other : Self.Id) → belongs self.old other → other ≢ id.now → kept self.new other ≡ kept self.old other }
-        ensures unchanged { OnErr result ((other : Self.Id) → belongs self.old other → kept self.new other ≡ kept self.old other) };
+        requires belongs { (table self.old).belongs id.now }
+        requires force { IsForce (table self.old) St.meaning ((table self.old).tree id.now) stream }
+        ensures force { IfOk result (IsForce (table self.new) St.meaning
+            ((table self.old).tree id.now)) }
+        ensures kept { OnOk result (GrowsBy (KeepsMore id.now) (table self.old) (table self.new)) }
+        ensures unchanged { OnErr result (OnlyAdds (table self.old) (table self.new)) }
+        ensures size { (table self.new).size ≡ (table self.old).size };
 
     // Each suspension fits the program.
-    ghost fits: { (nodes : Self) → (id : Self.Id) → belongs nodes id → Fits (serves nodes) (tree nodes id) };
+    ghost fits: { (nodes : Self) → (id : Self.Id) → (table nodes).belongs id → Fits
+        (table nodes).program ((table nodes).tree id) };
 }

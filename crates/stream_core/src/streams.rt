@@ -18,6 +18,15 @@ pub enum Thunk<I, St> {
         /// Where its body is run.
         store: St,
     },
+    /// A goal waits, with its slots standing for terms.
+    Pause {
+        /// The goal.
+        goal: u32,
+        /// What its slots stand for.
+        env: Env,
+        /// Where it is run.
+        store: St,
+    },
     /// A stream waits behind a suspension, whose stream goes after it.
     Swap {
         /// The stream's stores.

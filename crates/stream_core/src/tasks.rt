@@ -2,7 +2,8 @@
 
 use kan_model::Env;
 
-/// What is left to be done while a goal is run. Streams that tasks make stand on a stack of their own.
+/// What is left to be done while a goal is run. Streams that tasks make stand on a stack of their
+/// own.
 #[derive(Drop)]
 pub(crate) enum Task<St> {
     /// Run a goal at a store.

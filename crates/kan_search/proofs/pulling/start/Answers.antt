@@ -1,7 +1,9 @@
-use Rattle.std.proofs.Common.{◌∙◌, ap, map}
+use Rattle.std.proofs.Common.{◌∙◌, ap, map, sym, subst}
 use Rattle.kan_model.specs.Programs.Environments.{terms_of}
 use Rattle.kan_model.specs.Programs.Closed as programs
 use Rattle.kan_model.specs.Programs.Scope.{is_small}
+use Rattle.stream_core.specs.PlainTables.{plain_table}
+use Rattle.stream_core.specs.Tables.{IsTableOf}
 use Rattle.kan_search.specs.Suspensions.{tree_of}
 use Rattle.kan_search.proofs.StartLaws.{turned-is, started, start-room}
 use Rattle.kan_search.proofs.pulling.start.Goals as goal
@@ -23,4 +25,7 @@ returns-clause-room g c =
     let stream = c.in_ok-stream.stream in
     let pulled = c.in_ok-pulled.pulled in
     start-room (programs.meaning program) (programs.goals program) c.args.goal (means c.in_ok-none.none) (means c.in_ok-store.store) (map means stream.heads) (tree_of means c.run_goal.new.nodes) stream.tail pulled.tail
-    (ap (λ p. is_small (programs.meaning p)) c.program-program.ensures ∙ c.requires.small) c.in_ok-none.ensures c.in_ok-store.ensures c.in_ok-stream.ensures.fits.tail c.in_ok-pulled.ensures.tail
+    (ap (λ p. is_small (programs.meaning p)) c.program-program.ensures ∙ c.requires.table.small) c.in_ok-none.ensures c.in_ok-store.ensures c.in_ok-stream.ensures.fits.tail c.in_ok-pulled.ensures.tail
+
+pub run_goal-requires-clause-table : goal.run_goal-requires-clause-table
+run_goal-requires-clause-table g c = subst (λ p. IsTableOf p (plain_table g.St.Store.meaning c.args.nodes.now)) (sym c.program-program.ensures) c.requires.table

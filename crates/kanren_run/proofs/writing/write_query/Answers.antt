@@ -2,7 +2,7 @@ use Rattle.std.proofs.Common.{sym, subst, ◌≡◌}
 use Rattle.std.specs.Io.KnownBytes.{Appends}
 use Rattle.std.proofs.lemmas.Bool.{and_parts}
 use Rattle.kan_model.specs.Programs.Closed as programs
-use Rattle.kan_search.specs.Batches.{query_of}
+use Rattle.kan_model.specs.Programs.Closed.{query_of}
 use Rattle.kanren_run.specs.Equations.{HasEquations, Each}
 use Rattle.kanren_run.specs.Writing.{Stops}
 use Rattle.kanren_run.specs.declared.writing.Stop.TheVariants.{Memory}

@@ -1,6 +1,6 @@
 use Rattle.std.proofs.Common.{ap, ◌∙◌}
 use Rattle.kan_model.specs.Programs.Closed as programs
-use Rattle.kan_search.specs.Batches.{query_of}
+use Rattle.kan_model.specs.Programs.Closed.{query_of}
 use Rattle.kanren_run.specs.Answers.{is_fuel}
 use Rattle.kanren_run.proofs.WritingLaws.{can-at, err_puts, runs-written, runs-stopped, spends-at}
 use Rattle.kanren_run.proofs.writing.write_runs.Goals as goal

@@ -2,7 +2,7 @@ use Rattle.std.proofs.Common.{◌≡◌, map, drop}
 use Rattle.std.specs.Prelude.{◌||◌}
 use Rattle.kan_model.specs.Programs.Closed as programs
 use Rattle.kan_model.specs.Answers.Output.{runs_output}
-use Rattle.kan_search.specs.Batches.{query_of}
+use Rattle.kan_model.specs.Programs.Closed.{query_of}
 use Rattle.kanren_run.specs.Answers.{spends}
 use Rattle.kanren_run.specs.Writing.{Written}
 use Rattle.kanren_run.proofs.writing.write_runs.Given as goal

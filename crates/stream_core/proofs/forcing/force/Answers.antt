@@ -1,42 +1,82 @@
-use Rattle.std.proofs.Common.{◌∙◌, refl, subst, rules}
-use Rattle.std.specs.Prelude.{IfSome}
+use Rattle.std.proofs.Common.{◌∙◌, refl, sym, subst, ap}
+use Rattle.kan_model.specs.Streams.Running.{force}
 use Rattle.kan_model.specs.Streams.Bounds.{Fits}
 use Rattle.kan_model.specs.Programs.Closed as programs
-use Rattle.stream_core.specs.Standing as standing
+use Rattle.stream_core.specs.CodeTasks.{stack}
+use Rattle.stream_core.specs.Tables.{IsForce}
 use Rattle.stream_core.proofs.ClosedLaws.{program-closed}
 use Rattle.stream_core.proofs.FitLaws.{force-fits, fits-moved}
-use Rattle.stream_core.proofs.RunningLaws.{grows-twice}
-use Rattle.stream_core.proofs.WayLaws.{next-inside, up-step}
+use Rattle.stream_core.proofs.TableLaws.{adds_grow, more_grow, grow_twice, table_stays, kept-last, kept-up, kept-none}
+use Rattle.stream_core.proofs.WayLaws.{last-around, way-stays, way-up, force-next, force-up, force-end, next-inside}
+use Rattle.stream_core.proofs.StackLaws.{none-left}
 use Rattle.stream_core.proofs.forcing.force.Goals as goal
 
-pub force_last-requires-clause-inside : goal.force_last-requires-clause-inside
-force_last-requires-clause-inside g c =
-    let tree = g.N.Nodes.tree c.loop-at.nodes in
-    let program = programs.meaning c.args.program.now in
-    let means = g.St.Store.meaning in
-    subst (λ t. IfSome c.loop-at.inside (standing.IsForce (g.N.Nodes.belongs c.loop-at.nodes) tree means program t))
-    (next-inside means program tree (g.N.Nodes.tree c.args.nodes.now c.args.id.now) c.pop.new.self.items c.loop-at.ids.items c.in-Some.at c.in-Some.ensures.items) c.loop-at.invariant.down.inside
+pub way_down-requires-clause-may : goal.way_down-requires-clause-may
+way_down-requires-clause-may g c = (g.met.N.Nodes.fits c.args.nodes.now c.args.id.now c.requires.belongs, c.requires.room)
+
+pub loop-at-init : goal.loop-at-init
+loop-at-init g c =
+    let t = g.N.Nodes.table c.args.nodes.now in
+    let u = g.N.Nodes.table c.force_last.new.nodes in
+    let whole = t.tree c.args.id.now in
+    let way = c.in_ok-way.ensures in
+    let made = c.in_ok-stream.ensures in
+    record {
+      table = table_stays _ c.args.program.now t u made.kept c.requires.table;
+      way = way-stays _ t u made.kept whole c.in_ok-way.way.above.items way.above;
+      force = force-next _ t u made.kept g.St.Store.meaning whole c.in_ok-way.way.above.items c.in_ok-way.way.last c.in_ok-stream.stream way.above way.last.is made.force;
+      grows = more_grow c.in_ok-way.way.last t u made.kept;
+      kept = kept-last g.St.Store.meaning c.args.id.now c.in_ok-way.way.last c.in_ok-way.way.above.items t u c.in_ok-way.way.found way.end way.leads made.kept;
+    }
+
+pub force_around-requires-clause-belongs : goal.force_around-requires-clause-belongs
+force_around-requires-clause-belongs g c =
+    (last-around (g.N.Nodes.table c.loop-at.nodes) _ c.loop-at.above.items _ c.in-Some.at c.loop-at.invariant.way c.in-Some.ensures.items).0
+
+pub force_around-requires-clause-may : goal.force_around-requires-clause-may
+force_around-requires-clause-may g c =
+    (last-around (g.N.Nodes.table c.loop-at.nodes) _ c.loop-at.above.items _ c.in-Some.at c.loop-at.invariant.way c.in-Some.ensures.items).1
+
+pub force_around-requires-clause-around : goal.force_around-requires-clause-around
+force_around-requires-clause-around g c =
+    (last-around (g.N.Nodes.table c.loop-at.nodes) _ c.loop-at.above.items _ c.in-Some.at c.loop-at.invariant.way c.in-Some.ensures.items).2
+
+pub force_around-requires-clause-inside : goal.force_around-requires-clause-inside
+force_around-requires-clause-inside g c =
+    let t = g.N.Nodes.table c.loop-at.nodes in
+    subst (λ x. IsForce t g.St.Store.meaning x c.loop-at.stream) (next-inside t _ _ c.loop-at.above.items c.in-Some.at c.in-Some.ensures.items) c.loop-at.invariant.force
 
 pub loop-at-preserved : goal.loop-at-preserved
 loop-at-preserved g c =
-    let program = programs.meaning c.args.program.now in
-    let means = g.St.Store.meaning in
+    let t = g.N.Nodes.table c.loop-at.nodes in
+    let u = g.N.Nodes.table c.force_around.new.nodes in
+    let whole = (g.N.Nodes.table c.args.nodes.now).tree c.args.id.now in
     let inv = c.loop-at.invariant in
-    let step = c.in_ok-made.ensures in
+    let made = c.in_ok-force_around.ensures in
     record {
-      down = up-step means program (g.N.Nodes.belongs c.loop-at.nodes) (g.N.Nodes.belongs c.force_last.new.nodes) (g.N.Nodes.tree c.loop-at.nodes) (g.N.Nodes.tree c.force_last.new.nodes)
-          (g.N.Nodes.tree c.args.nodes.now c.args.id.now) c.loop-at.ids.items c.pop.new.self.items c.in-Some.at c.loop-at.inside c.in_ok-made.made inv.down c.in-Some.ensures.items step.older step.force;
-      older = grows-twice (g.N.Nodes.belongs c.args.nodes.now) (g.N.Nodes.belongs c.loop-at.nodes) (g.N.Nodes.belongs c.force_last.new.nodes)
-          (g.N.Nodes.tree c.args.nodes.now) (g.N.Nodes.tree c.loop-at.nodes) (g.N.Nodes.tree c.force_last.new.nodes) inv.older step.older;
-      same = step.same ∙ inv.same;
+      table = table_stays _ c.args.program.now t u made.kept inv.table;
+      way = way-up _ t u made.kept whole c.loop-at.above.items c.pop.new.self.items c.in-Some.at c.in-Some.ensures.items inv.way;
+      force = force-up _ t u made.kept g.St.Store.meaning whole c.loop-at.above.items c.pop.new.self.items c.in-Some.at _ c.in-Some.ensures.items inv.way made.force;
+      grows = grow_twice _ t u inv.grows (more_grow c.in-Some.at t u made.kept);
+      kept = kept-up _ c.args.id.now c.in-Some.at c.loop-at.above.items c.pop.new.self.items _ t.told u.told c.in-Some.ensures.items inv.kept made.kept.kept;
     }
 
-pub returns-in-Some-inside-clause-force : goal.returns-in-Some-inside-clause-force
-returns-in-Some-inside-clause-force g c = search rules
+pub returns-clause-force : goal.returns-clause-force
+returns-clause-force g c =
+    force-end (g.N.Nodes.table c.loop-at.nodes) g.St.Store.meaning _ c.loop-at.above.items c.loop-at.stream
+    (none-left _ _ _ _ _ _ c.pop.ensures.items c.pop.ensures.rest c.pop.ensures.cases c.in_default.not-Some) c.loop-at.invariant.force
 
-pub returns-in-Some-inside-clause-fits : goal.returns-in-Some-inside-clause-fits
-returns-in-Some-inside-clause-fits g c =
+pub returns-clause-fits : goal.returns-clause-fits
+returns-clause-fits g c =
     let p = c.args.program.now in
-    let whole = g.N.Nodes.tree c.args.nodes.now c.args.id.now in
-    let fit = subst (λ q. Fits q whole) c.requires.goals (g.met.N.Nodes.fits c.args.nodes.now c.args.id.now c.requires.belongs) in
-    fits-moved (programs.meaning p) (programs.meaning p) _ _ _ _ refl (returns-in-Some-inside-clause-force g c).1 (force-fits (programs.meaning p) whole (program-closed p c.requires.small) fit)
+    let whole = (g.N.Nodes.table c.args.nodes.now).tree c.args.id.now in
+    let fit = subst (λ q. Fits q whole) c.requires.table.program (g.met.N.Nodes.fits c.args.nodes.now c.args.id.now c.requires.belongs) in
+    fits-moved (programs.meaning p) (programs.meaning p) _ _ _ _ refl ((returns-clause-force g c).1 ∙ ap (λ q. force q whole) c.loop-at.invariant.table.program) (force-fits (programs.meaning p) whole (program-closed p c.requires.table.small) fit)
+
+pub returns-clause-kept : goal.returns-clause-kept
+returns-clause-kept g c =
+    kept-none _ c.args.id.now c.loop-at.above.items _ _
+    (none-left _ _ _ _ _ _ c.pop.ensures.items c.pop.ensures.rest c.pop.ensures.cases c.in_default.not-Some) c.loop-at.invariant.kept
+
+pub returns-clause-grows : goal.returns-clause-grows
+returns-clause-grows g c = c.loop-at.invariant.grows

@@ -1,16 +1,19 @@
-use Rattle.std.proofs.Common.{◌≡◌, length}
-use Rattle.kan_model.specs.Programs.Closed as programs
-use Rattle.stream_core.specs.Standing as standing
-use Rattle.stream_core.specs.Ways.{IsWayDown}
+use Rattle.std.proofs.Common.{length}
+use Rattle.stream_core.specs.CodeTasks.{stack}
+use Rattle.stream_core.specs.Tables.{IsTableOf, Grows, BothTold, IsForce}
+use Rattle.stream_core.specs.WaysDown.{next, IsWayFrom}
+use Rattle.stream_core.proofs.TableLaws.{KeptUpTo}
 use Rattle.stream_core.proofs.forcing.force.Given as goal
 
--- the ids that are left are a way down to what is inside the last one
+-- the ids that are left are a way down to the last one whose force was made, which is kept
 abbrev pub invariant-loop-at : goal.invariant-loop-at
 invariant-loop-at g l = record {
-  down : IsWayDown (g.N.Nodes.belongs l.nodes) (g.N.Nodes.tree l.nodes) g.St.Store.meaning (programs.meaning l.program) (g.N.Nodes.tree l.fn.nodes l.id) l.ids.items l.inside;
-  older : standing.Grows (g.N.Nodes.belongs l.fn.nodes) (g.N.Nodes.tree l.fn.nodes) (g.N.Nodes.belongs l.nodes) (g.N.Nodes.tree l.nodes);
-  same : g.N.Nodes.serves l.nodes ≡ g.N.Nodes.serves l.fn.nodes;
+  table : IsTableOf l.program (g.N.Nodes.table l.nodes);
+  way : IsWayFrom (g.N.Nodes.table l.nodes) ((g.N.Nodes.table l.fn.nodes).tree l.id) l.above.items;
+  force : IsForce (g.N.Nodes.table l.nodes) g.St.Store.meaning (next ((g.N.Nodes.table l.fn.nodes).tree l.id) (stack (g.N.Nodes.table l.nodes).tree l.above.items)) l.stream;
+  grows : Grows (g.N.Nodes.table l.fn.nodes) (g.N.Nodes.table l.nodes);
+  kept : BothTold (KeptUpTo (g.N.Nodes.table l.fn.nodes).belongs l.id (stack (λ at. at) l.above.items)) (g.N.Nodes.table l.fn.nodes).told (g.N.Nodes.table l.nodes).told;
 }
 
 abbrev pub decreases-loop-at : goal.decreases-loop-at
-decreases-loop-at g l = length l.ids.items
+decreases-loop-at g l = length l.above.items

@@ -1,35 +1,25 @@
-use Rattle.std.proofs.Common.{sym, ◌∙◌, subst}
-use Rattle.stream_core.specs.Forcing.{MayForce, IsInside}
-use Rattle.stream_core.proofs.ForceLaws.{inner-may}
-use Rattle.stream_core.proofs.WayLaws.{way-longer, next-inside, each-longer}
+use Rattle.std.proofs.Common.{sym, ◌∙◌, subst, ap, arith}
+use Rattle.stream_core.specs.InnerSuspensions.{MayForce, IsInside}
+use Rattle.stream_core.proofs.WayLaws.{way-longer, next-longer, leads-longer, way-begins, next-begins, leads-begins}
 use Rattle.stream_core.proofs.forcing.way_down.Goals as goal
+
+pub down-init : goal.down-init
+down-init g c =
+    let t = g.N.Nodes.table c.args.nodes.now in
+    record {
+      above = way-begins t (t.tree c.args.id.now) _ c.new-above.ensures.items;
+      next = next-begins t c.args.id.now c.in_ok-last.last _ c.new-above.ensures.items c.requires.may c.in_ok-last.ensures.stands;
+      leads = leads-begins c.args.id.now c.in_ok-last.last _ t.told c.new-above.ensures.items c.in_ok-last.ensures.same;
+    }
 
 pub down-preserved : goal.down-preserved
 down-preserved g c =
-    let tree = g.N.Nodes.tree c.args.nodes.now in
-    let belongs = g.N.Nodes.belongs c.args.nodes.now in
-    let program = g.N.Nodes.serves c.args.nodes.now in
-    let means = g.St.Store.meaning in
-    let whole = tree c.args.id.now in
+    let t = g.N.Nodes.table c.args.nodes.now in
+    let whole = t.tree c.args.id.now in
     let inv = c.down.invariant in
-    let inside = subst (IsInside belongs tree (tree c.down.at)) c.in-Some-inner.is c.in_ok-inner.ensures in
+    let inner = subst (IsInside t c.down.last) c.in-Some-inner_again.is c.in_ok-inner_again.ensures in
     record {
-      belongs = inside.0;
-      is = inside.1 ∙ sym (next-inside means program tree whole c.down.ids.items c.push.new.self.items c.down.at c.in_ok-push.ensures.items);
-      may = subst (MayForce program) (sym inside.1) (inner-may program (tree c.down.at) inv.may);
-      way = way-longer means program tree whole c.down.ids.items c.push.new.self.items c.down.at c.in_ok-push.ensures.items inv.is inv.way;
-      each = each-longer means program (λ id. belongs id × MayForce program (tree id)) c.down.ids.items c.push.new.self.items c.down.at c.in_ok-push.ensures.items inv.each (inv.belongs, inv.may);
-    }
-
-pub returns-in-None : goal.returns-in-None
-returns-in-None g c =
-    let tree = g.N.Nodes.tree c.args.nodes.now in
-    let belongs = g.N.Nodes.belongs c.args.nodes.now in
-    let program = g.N.Nodes.serves c.args.nodes.now in
-    let means = g.St.Store.meaning in
-    let inv = c.down.invariant in
-    record {
-      way = way-longer means program tree (tree c.args.id.now) c.down.ids.items c.push.new.self.items c.down.at c.in_ok-push.ensures.items inv.is inv.way;
-      each = each-longer means program (λ id. belongs id × MayForce program (tree id)) c.down.ids.items c.push.new.self.items c.down.at c.in_ok-push.ensures.items inv.each (inv.belongs, inv.may);
-      inside = tt;
+      above = way-longer t whole c.down.above.items c.push.new.self.items c.down.last c.in_ok-push.ensures.items inv.next inner.holds inv.above;
+      next = next-longer t whole c.down.above.items c.push.new.self.items c.down.last c.in-Some-inner_again.inside c.in_ok-push.ensures.items inner inv.next;
+      leads = leads-longer c.args.id.now c.down.last c.in-Some-inner_again.inside c.down.above.items c.push.new.self.items t.told c.in_ok-push.ensures.items inner.told inv.leads;
     }

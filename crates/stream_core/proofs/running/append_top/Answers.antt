@@ -1,27 +1,34 @@
 use Rattle.std.proofs.Common.{ap, ◌∙◌, ◌∷◌}
-use Rattle.stream_core.specs.Standing as standing
-use Rattle.stream_core.proofs.RunningLaws.{becomes-top, stack-grows, all-belong, Each-last, Each-front}
-use Rattle.stream_core.proofs.StackLaws.{stack-pop}
+use Rattle.stream_core.specs.Tables.{HasStream, stream_in}
+use Rattle.stream_core.proofs.StreamLaws.{becomes-top, stack-stays, all-belong, Each-last, Each-front}
+use Rattle.stream_core.proofs.StackLaws.{stack-pop, two-pops, one-pop}
 use Rattle.stream_core.proofs.running.append_top.Goals as goal
 
+pub unreachable-requires : goal.unreachable-requires
+unreachable-requires g c = one-pop _ _ _ _ _ _ c.pop.ensures.items c.pop.ensures.rest c.pop.ensures.cases c.in_default.not-Some c.requires.two
+
+pub unreachable-2-requires : goal.unreachable-2-requires
+unreachable-2-requires g c = two-pops _ _ _ _ _ _ _ _ c.in-Some.ensures.items c.pop-2.ensures.items c.pop-2.ensures.rest c.pop-2.ensures.cases c.in_default.not-Some c.requires.two
+
 pub returns-clause-becomes : goal.returns-clause-becomes
-returns-clause-becomes g c ts =
+returns-clause-becomes g c program ts =
     let means = g.St.Store.meaning in
-    let was = standing.stream (g.N.Nodes.tree c.args.nodes.now) means in
-    let is = standing.stream (g.N.Nodes.tree c.append.new.nodes) means in
-    let belongs = standing.StreamBelongs (g.N.Nodes.belongs c.args.nodes.now) in
-    let first = Each-front belongs _ _ _ c.in-Some.ensures.items c.requires.belong in
-    let second = Each-front belongs _ _ _ c.in-Some-pop.ensures.items first.0 in
-    becomes-top (g.N.Nodes.serves c.args.nodes.now) ts _ _ _ _ _ _
+    let t = g.N.Nodes.table c.args.nodes.now in
+    let u = g.N.Nodes.table c.append.new.nodes in
+    let was = stream_in t means in
+    let is = stream_in u means in
+    let first = Each-front (HasStream t) _ _ _ c.in-Some.ensures.items c.requires.belong in
+    let second = Each-front (HasStream t) _ _ _ c.in-Some-pop.ensures.items first.0 in
+    becomes-top program ts _ _ _ _ _ _
     (stack-pop was _ _ _ c.in-Some.ensures.items ∙ ap (λ vs. was c.in-Some.left ∷ vs) (stack-pop was _ _ _ c.in-Some-pop.ensures.items))
     (stack-pop is _ _ _ c.in_ok-push.ensures.items
-    ∙ ap (λ vs. is c.in_ok-stream.stream ∷ vs) (stack-grows (g.N.Nodes.belongs c.args.nodes.now) (g.N.Nodes.belongs c.append.new.nodes) (g.N.Nodes.tree c.args.nodes.now) (g.N.Nodes.tree c.append.new.nodes) means c.in_ok-stream.ensures.older _ second.0))
+    ∙ ap (λ vs. is c.in_ok-stream.stream ∷ vs) (stack-stays t.belongs u.belongs t.tree u.tree means c.in_ok-stream.ensures.adds.ids _ second.0))
     c.in_ok-stream.ensures.made
 
 pub returns-clause-belong : goal.returns-clause-belong
 returns-clause-belong g c =
-    let belongs = standing.StreamBelongs (g.N.Nodes.belongs c.args.nodes.now) in
-    let first = Each-front belongs _ _ _ c.in-Some.ensures.items c.requires.belong in
-    let second = Each-front belongs _ _ _ c.in-Some-pop.ensures.items first.0 in
-    rw c.in_ok-push.ensures.items (Each-last (standing.StreamBelongs (g.N.Nodes.belongs c.append.new.nodes)) _ _
-    (all-belong (g.N.Nodes.belongs c.args.nodes.now) (g.N.Nodes.belongs c.append.new.nodes) (g.N.Nodes.tree c.args.nodes.now) (g.N.Nodes.tree c.append.new.nodes) c.in_ok-stream.ensures.older _ second.0) c.in_ok-stream.ensures.belong)
+    let t = g.N.Nodes.table c.args.nodes.now in
+    let u = g.N.Nodes.table c.append.new.nodes in
+    let first = Each-front (HasStream t) _ _ _ c.in-Some.ensures.items c.requires.belong in
+    let second = Each-front (HasStream t) _ _ _ c.in-Some-pop.ensures.items first.0 in
+    rw c.in_ok-push.ensures.items (Each-last (HasStream u) _ _ (all-belong t.belongs u.belongs t.tree u.tree c.in_ok-stream.ensures.adds.ids _ second.0) c.in_ok-stream.ensures.belong)

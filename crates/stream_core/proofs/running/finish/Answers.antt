@@ -1,9 +1,10 @@
 use Rattle.std.proofs.Common.{ap, ◌∙◌}
 use Rattle.kan_model.specs.Programs.Closed as programs
-use Rattle.stream_core.specs.Standing as standing
-use Rattle.stream_core.specs.Tasks.{task, stack}
-use Rattle.stream_core.proofs.RunningLaws.{first-ready, step-done, step-fewer, top-is, grows-twice, Each-front}
-use Rattle.stream_core.proofs.StackLaws.{stack-pop, none-left}
+use Rattle.stream_core.specs.Tables.{HasStream, stream_in}
+use Rattle.stream_core.specs.CodeTasks.{task, stack}
+use Rattle.stream_core.proofs.StreamLaws.{first-ready, step-done, step-fewer, top-is, none-done, Each-front}
+use Rattle.stream_core.proofs.StackLaws.{stack-pop, none-left, none-pop}
+use Rattle.stream_core.proofs.TableLaws.{adds_twice, table_stays}
 use Rattle.stream_core.proofs.running.finish.Goals as goal
 
 pub take_task-requires-clause-ready : goal.take_task-requires-clause-ready
@@ -23,16 +24,20 @@ loop-next-preserved g c =
       same = step-done (programs.meaning c.args.program.now) _ _ _ _ _ _ _ split step.becomes inv.same;
       ready = step.becomes.ready (first-ready (programs.meaning c.args.program.now) _ _ _ _ split inv.ready);
       belong = step.belong;
-      older = grows-twice (g.N.Nodes.belongs c.args.nodes.now) (g.N.Nodes.belongs c.loop-next.nodes) (g.N.Nodes.belongs c.take_task.new.nodes)
-          (g.N.Nodes.tree c.args.nodes.now) (g.N.Nodes.tree c.loop-next.nodes) (g.N.Nodes.tree c.take_task.new.nodes) inv.older step.older;
-      goals = step.same ∙ inv.goals;
+      adds = adds_twice _ _ _ inv.adds step.adds;
+      table = table_stays _ c.args.program.now _ _ step.adds inv.table;
     }
 
+pub unreachable-requires : goal.unreachable-requires
+unreachable-requires g c =
+    none-done _ _ _ (ap (stack (task g.St.Store.meaning (programs.goal c.args.program.now))) (none-left _ _ _ _ _ _ c.pop.ensures.items c.pop.ensures.rest c.pop.ensures.cases c.in_default.not-Some)) c.loop-next.invariant.same
+    (none-pop (stream_in (g.N.Nodes.table c.loop-next.nodes) g.St.Store.meaning) _ _ _ _ _ _ c.pop-2.ensures.items c.pop-2.ensures.rest c.pop-2.ensures.cases c.in-None.not-Some) c.requires.one
+
 pub returns-in-Some-pop-clause-made : goal.returns-in-Some-pop-clause-made
-returns-in-Some-pop-clause-made g c v more is =
+returns-in-Some-pop-clause-made g c =
     top-is _ _ _ _ _ (ap (stack (task g.St.Store.meaning (programs.goal c.args.program.now))) (none-left _ _ _ _ _ _ c.pop.ensures.items c.pop.ensures.rest c.pop.ensures.cases c.in_default.not-Some)) c.loop-next.invariant.same
-    (stack-pop (standing.stream (g.N.Nodes.tree c.loop-next.nodes) g.St.Store.meaning) _ _ _ c.in-Some-pop.ensures.items) v more is
+    (stack-pop (stream_in (g.N.Nodes.table c.loop-next.nodes) g.St.Store.meaning) _ _ _ c.in-Some-pop.ensures.items) c.requires.one
 
 pub returns-in-Some-pop-clause-belong : goal.returns-in-Some-pop-clause-belong
 returns-in-Some-pop-clause-belong g c =
-    (Each-front (standing.StreamBelongs (g.N.Nodes.belongs c.loop-next.nodes)) _ _ _ c.in-Some-pop.ensures.items c.loop-next.invariant.belong).1
+    (Each-front (HasStream (g.N.Nodes.table c.loop-next.nodes)) _ _ _ c.in-Some-pop.ensures.items c.loop-next.invariant.belong).1

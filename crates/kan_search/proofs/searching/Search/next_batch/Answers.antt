@@ -1,26 +1,28 @@
 use Rattle.std.proofs.Common.{◌∙◌, sym, arith, map}
 use Rattle.std.proofs.Math.Logic.{inl, inr}
-use Rattle.kan_search.proofs.JoinLaws.{advances-on, advances-so, joined-pull}
+use Rattle.kan_search.proofs.JoinLaws.{advances-on, advances-end, joined-pull}
 use Rattle.kan_search.proofs.searching.Search.next_batch.Goals as goal
-use Rattle.kan_search.proofs.searching.Search.next_batch.Goals.{then-is_some-via-then-is_some, then-is_some-via-else-is_some+then-made-self}
 
 pub returns-then-len-eq-GREATEST_BATCH-clause-batch : goal.returns-then-len-eq-GREATEST_BATCH-clause-batch
 returns-then-len-eq-GREATEST_BATCH-clause-batch g c =
     let inv = c.loop-answers.invariant in
     let gave = c.in_ok-give_heads.ensures in
     advances-on g.St.Store.meaning c.args.self.now.round c.args.self.now.pulls c.loop-answers.made _ _ c.give_heads.new.answers _
-    (inv.joins ∙ gave.joined c.loop-answers.made) (gave.pulls ∙ inv.counted) gave.few (inl (sym c.len.ensures ∙ c.if-len-eq-GREATEST_BATCH.true))
+    (inv.joins ∙ gave.joined c.loop-answers.made) (gave.pulls ∙ inv.counted) gave.few inv.within (inl (sym c.len.ensures ∙ c.if-len-eq-GREATEST_BATCH.true))
 
-pub returns-then-is_some-clause-batch : goal.returns-then-is_some-clause-batch
-returns-then-is_some-clause-batch g c =
+pub returns-in-Ends-clause-batch : goal.returns-in-Ends-clause-batch
+returns-in-Ends-clause-batch g c =
     let inv = c.loop-answers.invariant in
     let gave = c.in_ok-give_heads.ensures in
-    let so = advances-so g.St.Store.meaning c.args.self.now.round c.args.self.now.pulls c.loop-answers.made _ _ c.give_heads.new.answers _ c.ending-ended.result
-    (inv.joins ∙ gave.joined c.loop-answers.made) (gave.pulls ∙ inv.counted) gave.few in
-    elim c.then-is_some.branch [
-      | then-is_some-via-then-is_some w ↦ so (inl (sym w.if-is_some.ensures)) c.ending-ended.ensures.some
-      | then-is_some-via-else-is_some+then-made-self w ↦ so (inr (w.if-made-self.true ∙ gave.round ∙ inv.round)) c.ending-ended.ensures.some
-    ]
+    advances-end g.St.Store.meaning c.args.self.now.round c.args.self.now.pulls c.loop-answers.made _ _ c.give_heads.new.answers _ c.in-Ends.ended
+    (inv.joins ∙ gave.joined c.loop-answers.made) (gave.pulls ∙ inv.counted) gave.few inv.within c.in-Ends.ensures
+
+pub returns-then-made-self-clause-batch : goal.returns-then-made-self-clause-batch
+returns-then-made-self-clause-batch g c =
+    let inv = c.loop-answers.invariant in
+    let gave = c.in_ok-give_heads.ensures in
+    advances-on g.St.Store.meaning c.args.self.now.round c.args.self.now.pulls c.loop-answers.made _ _ c.give_heads.new.answers _
+    (inv.joins ∙ gave.joined c.loop-answers.made) (gave.pulls ∙ inv.counted) gave.few inv.within (inr (c.if-made-self.true ∙ gave.round ∙ inv.round))
 
 pub loop-answers-preserved : goal.loop-answers-preserved
 loop-answers-preserved g c =

@@ -1,4 +1,6 @@
-use Rattle.std.proofs.Common.{◌∙◌, ap, ap₂, subst}
+use Rattle.std.proofs.Common.{◌∙◌, ap, ap₂, subst, refl}
+use Rattle.std.specs.List.{list_all}
+use Rattle.stream_core.specs.BuiltGoals.{is_built}
 use Rattle.std.specs.Prelude.{IfSome}
 use Rattle.kan_model.specs.Programs.Closed as programs
 use Rattle.kan_model.specs.Streams.Running.{start}
@@ -9,11 +11,11 @@ use Rattle.kan_search.proofs.PullLaws.{built-alike}
 use Rattle.kan_search.proofs.searching.Search.open.Goals as goal
 
 pub invariant_of-result-clause-small : goal.invariant_of-result-clause-small
-invariant_of-result-clause-small g c = ap is_small (c.start.ensures.same ∙ ap programs.meaning c.new-nodes.ensures.program) ∙ c.requires.small
+invariant_of-result-clause-small g c = ap is_small (c.start.ensures.grows.program ∙ ap programs.meaning c.new-nodes.ensures.program) ∙ c.requires.small
 
 pub invariant_of-result-clause-built : goal.invariant_of-result-clause-built
 invariant_of-result-clause-built g c =
-    built-alike (programs.tables c.args.program.now) (programs.tables c.start.new.nodes.program.now) (c.start.ensures.same ∙ ap programs.meaning c.new-nodes.ensures.program) c.requires.built
+    built-alike (programs.tables c.args.program.now) (programs.tables c.start.new.nodes.program.now) (c.start.ensures.grows.program ∙ ap programs.meaning c.new-nodes.ensures.program) c.requires.built
 
 pub invariant_of-result-clause-belongs : goal.invariant_of-result-clause-belongs
 invariant_of-result-clause-belongs g c = ∣ c.in_ok-pulled.ensures.belong ∣₁
@@ -23,5 +25,12 @@ invariant_of-result-clause-room g c id is = subst (λ o. IfSome o (λ next. Leav
 
 pub returns-clause-left : goal.returns-clause-left
 returns-clause-left g c =
-    ap₂ (λ p s. take p c.args.fuel s c.args.query.now.limit) (c.start.ensures.same ∙ ap programs.meaning c.new-nodes.ensures.program)
+    ap₂ (λ p s. take p c.args.fuel s c.args.query.now.limit) (c.start.ensures.grows.program ∙ ap programs.meaning c.new-nodes.ensures.program)
     (c.in_ok-pulled.ensures.made ∙ ap (λ p. start (programs.goal p c.args.query.now.goal)) c.new-nodes.ensures.program)
+
+pub start-requires-clause-table : goal.start-requires-clause-table
+start-requires-clause-table g c = record {
+  program = refl;
+  small = ap (λ p. is_small (programs.meaning p)) c.new-nodes.ensures.program ∙ c.requires.small;
+  built = ap (λ p. list_all is_built (programs.tables p).goals) c.new-nodes.ensures.program ∙ c.requires.built;
+}
