@@ -6,10 +6,12 @@ use Rattle.kan_terms.specs.Tree.{Tm}
 use Rattle.kan_model.specs.Programs.Goals.{Primitive}
 use Rattle.kan_model.specs.Stores.Store.{Store}
 use Rattle.kan_model.specs.Stores.Solve.{Replacement, image}
-use Rattle.kan_model.specs.Stores.Kept.{is_symbol_variable, is_number_variable}
+use Rattle.kan_model.specs.Stores.Kept.{has_type}
+use Rattle.kan_model.specs.declared.prims.Kind.TheVariants.{Symbol, Number, Text}
 use Rattle.kan_model.specs.Answers.Answer.{forms_of, names_where, tags_of, in_names, named_variables}
 use Rattle.kan_model.specs.Answers.AnswerText.{constraint_texts, answer_under}
-use Rattle.kan_model.specs.Answers.Text.{Table, name_text, print}
+use Rattle.kan_terms.specs.Table.{Table}
+use Rattle.kan_model.specs.Answers.Text.{name_text, print}
 use Rattle.kan_model.specs.Answers.Output.{answer_line}
 use Rattle.kan_model.specs.Stores.Calls.{answer, is_equation}
 
@@ -30,6 +32,7 @@ no_forms vs st s (Primitive.same a b ∷ ps) e = no_forms vs st s ps (and_rest t
 no_forms vs st s (Primitive.differ a b ∷ ps) e = absurd (true≢false (sym (and_first false (list_all is_equation ps) e)))
 no_forms vs st s (Primitive.symbol a ∷ ps) e = absurd (true≢false (sym (and_first false (list_all is_equation ps) e)))
 no_forms vs st s (Primitive.number a ∷ ps) e = absurd (true≢false (sym (and_first false (list_all is_equation ps) e)))
+no_forms vs st s (Primitive.text a ∷ ps) e = absurd (true≢false (sym (and_first false (list_all is_equation ps) e)))
 no_forms vs st s (Primitive.absent tag a ∷ ps) e = absurd (true≢false (sym (and_first false (list_all is_equation ps) e)))
 
 no_tags : (ps : List (Primitive Tm)) → list_all is_equation ps ≡ true → tags_of ps ≡ []
@@ -38,15 +41,17 @@ no_tags (Primitive.same a b ∷ ps) e = no_tags ps (and_rest true (list_all is_e
 no_tags (Primitive.differ a b ∷ ps) e = absurd (true≢false (sym (and_first false (list_all is_equation ps) e)))
 no_tags (Primitive.symbol a ∷ ps) e = absurd (true≢false (sym (and_first false (list_all is_equation ps) e)))
 no_tags (Primitive.number a ∷ ps) e = absurd (true≢false (sym (and_first false (list_all is_equation ps) e)))
+no_tags (Primitive.text a ∷ ps) e = absurd (true≢false (sym (and_first false (list_all is_equation ps) e)))
 no_tags (Primitive.absent tag a ∷ ps) e = absurd (true≢false (sym (and_first false (list_all is_equation ps) e)))
 
 no_type : (s : Replacement) (v : ℕ) (ps : List (Primitive Tm)) → list_all is_equation ps ≡ true →
-    (is_symbol_variable s ps v ≡ false) × (is_number_variable s ps v ≡ false)
-no_type s v [] e = (refl, refl)
+    (has_type Symbol s ps v ≡ false) × (has_type Number s ps v ≡ false) × (has_type Text s ps v ≡ false)
+no_type s v [] e = (refl, refl, refl)
 no_type s v (Primitive.same a b ∷ ps) e = no_type s v ps (and_rest true (list_all is_equation ps) e)
 no_type s v (Primitive.differ a b ∷ ps) e = absurd (true≢false (sym (and_first false (list_all is_equation ps) e)))
 no_type s v (Primitive.symbol a ∷ ps) e = absurd (true≢false (sym (and_first false (list_all is_equation ps) e)))
 no_type s v (Primitive.number a ∷ ps) e = absurd (true≢false (sym (and_first false (list_all is_equation ps) e)))
+no_type s v (Primitive.text a ∷ ps) e = absurd (true≢false (sym (and_first false (list_all is_equation ps) e)))
 no_type s v (Primitive.absent tag a ∷ ps) e = absurd (true≢false (sym (and_first false (list_all is_equation ps) e)))
 
 no_names : (test : ℕ → Bool) → ((v : ℕ) → test v ≡ false) → (n : ℕ) (vs : List ℕ) → names_where test n vs ≡ []
@@ -59,8 +64,9 @@ no_constraints table st s vs e =
     rw (
       no_forms vs st s st.prims e,
       no_tags st.prims e,
-      no_names (is_number_variable s st.prims) (λ v. (no_type s v st.prims e).1) 0 vs,
-      no_names (is_symbol_variable s st.prims) (λ v. (no_type s v st.prims e).0) 0 vs,
+      no_names (has_type Number s st.prims) (λ v. (no_type s v st.prims e).1) 0 vs,
+      no_names (has_type Symbol s st.prims) (λ v. (no_type s v st.prims e).0) 0 vs,
+      no_names (has_type Text s st.prims) (λ v. (no_type s v st.prims e).2) 0 vs,
     ) refl
 
 -- the line of an answer without constraints

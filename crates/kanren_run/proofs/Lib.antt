@@ -3,7 +3,6 @@ pub mod NamingLaws
 pub mod PrintingLaws
 pub mod AnswerLaws
 pub mod RunLaws
-pub mod RefusalLaws
 pub mod CommandLaws
 pub mod TextLaws
 pub mod WritingLaws

@@ -1,15 +1,15 @@
 -- Places of variables, and the variables of letters.
 use Rattle.std.proofs.Common.{◌≡◌, ℕ, suc, ◌+◌, ◌<◌, ◌≤◌, Bool, true, false, eqb, List, [], ◌∷◌, ◌++◌, length, map, filter, get_or, take, drop, drop-cons, refl, sym, ◌∙◌, ap, ap₂, append-nil, arith, add-one, not, eqb-true, eq-eqb, ne_eqb, drop_of_length-le, true≢false, Option, Some}
-use Rattle.std.specs.Prelude.{◌||◌, if◌then◌else◌}
+use Rattle.std.specs.Prelude.{◌||◌, if◌then◌else◌, IsSome}
 use Rattle.std.proofs.lemmas.List.Elements.{filter-append}
 use Rattle.std.proofs.lemmas.List.{map-append, take_more}
 use Rattle.kan_terms.specs.Tree.{Tree, Tm, leaves}
 use Rattle.kan_model.specs.Answers.Order.{each_once, place_of, stands_in}
 use Rattle.kan_model.specs.Answers.Answer.{in_names, named_variables}
-use Rattle.kan_model.specs.Terms.Letters.{spelling, built_from, only_one}
+use Rattle.kan_model.specs.Terms.Letters.{spelling, built_from, only_one, term_of}
 use Rattle.kan_model.proofs.LettersLaws.{built_from-spelling}
 use Rattle.kan_model.specs.declared.letters.Letter.{Letter}
-use Rattle.kan_model.specs.declared.letters.Letter.TheVariants.{Pair, Var, Sym, Num, Truth, Nil}
+use Rattle.kan_model.specs.declared.letters.Letter.TheVariants.{Pair, Var, Sym, Str, Num, Truth, Nil}
 use Rattle.kanren_run.specs.Naming.{variables_of, renamed, with_variable, with_letter}
 
 -- the place of a variable counted from an index on
@@ -79,6 +79,7 @@ variables_of-append [] ys = refl
 variables_of-append (Pair ∷ xs) ys = variables_of-append xs ys
 variables_of-append (Var v ∷ xs) ys = ap (λ vs. v ∷ vs) (variables_of-append xs ys)
 variables_of-append (Sym v ∷ xs) ys = variables_of-append xs ys
+variables_of-append (Str v ∷ xs) ys = variables_of-append xs ys
 variables_of-append (Num v ∷ xs) ys = variables_of-append xs ys
 variables_of-append (Truth v ∷ xs) ys = variables_of-append xs ys
 variables_of-append (Nil ∷ xs) ys = variables_of-append xs ys
@@ -87,6 +88,7 @@ with_letter_is : (vs : List ℕ) (xs : List Letter) (x : Letter) → with_letter
 with_letter_is vs xs Pair = sym (ap (each_once eqb) (variables_of-append xs (Pair ∷ []) ∙ append-nil (variables_of xs)))
 with_letter_is vs xs (Var v) = sym (ap (each_once eqb) (variables_of-append xs (Var v ∷ [])) ∙ each_once-push (variables_of xs) v)
 with_letter_is vs xs (Sym v) = sym (ap (each_once eqb) (variables_of-append xs (Sym v ∷ []) ∙ append-nil (variables_of xs)))
+with_letter_is vs xs (Str v) = sym (ap (each_once eqb) (variables_of-append xs (Str v ∷ []) ∙ append-nil (variables_of xs)))
 with_letter_is vs xs (Num v) = sym (ap (each_once eqb) (variables_of-append xs (Num v ∷ []) ∙ append-nil (variables_of xs)))
 with_letter_is vs xs (Truth v) = sym (ap (each_once eqb) (variables_of-append xs (Truth v ∷ []) ∙ append-nil (variables_of xs)))
 with_letter_is vs xs Nil = sym (ap (each_once eqb) (variables_of-append xs (Nil ∷ []) ∙ append-nil (variables_of xs)))
@@ -102,6 +104,7 @@ named_step letters i d old new below so_far grown =
 pub variables_of-spelling : (t : Tm) → variables_of (spelling t) ≡ leaves t
 variables_of-spelling (Tree.leaf v) = refl
 variables_of-spelling (Tree.sym s) = refl
+variables_of-spelling (Tree.str s) = refl
 variables_of-spelling (Tree.num n) = refl
 variables_of-spelling (Tree.truth b) = refl
 variables_of-spelling Tree.nil = refl
@@ -111,19 +114,27 @@ variables_of-spelling (Tree.pair a b) = variables_of-append (spelling a) (spelli
 pub renamed-spelling : (vs : List ℕ) (t : Tm) → map (renamed vs) (spelling t) ≡ spelling (in_names vs t)
 renamed-spelling vs (Tree.leaf v) = refl
 renamed-spelling vs (Tree.sym s) = refl
+renamed-spelling vs (Tree.str s) = refl
 renamed-spelling vs (Tree.num n) = refl
 renamed-spelling vs (Tree.truth b) = refl
 renamed-spelling vs Tree.nil = refl
 renamed-spelling vs (Tree.pair a b) =
     ap (λ xs. Pair ∷ xs) (map-append (renamed vs) (spelling a) (spelling b) ∙ ap₂ (λ l r. l ++ r) (renamed-spelling vs a) (renamed-spelling vs b))
 
--- what is built from renamed letters is the named term
-pub answer_built : (u t : Tm) (letters named : List Letter) (vs : List ℕ) (r : Option Tm) →
-    letters ≡ spelling u → vs ≡ each_once eqb (variables_of letters) → named ≡ map (renamed vs) letters → r ≡ only_one (built_from named []) → r ≡ Some t →
-    t ≡ in_names (named_variables u) u
-answer_built u t letters named vs r l v n built some =
+-- renamed letters spell the named term
+pub named_spell : (u : Tm) (letters named : List Letter) (vs : List ℕ) → letters ≡ spelling u → vs ≡ each_once eqb (variables_of letters) → named ≡ map (renamed vs) letters →
+    term_of named ≡ Some (in_names (named_variables u) u)
+named_spell u letters named vs l v n =
     let variables : vs ≡ named_variables u = v ∙ ap (λ xs. each_once eqb (variables_of xs)) l ∙ ap (each_once eqb) (variables_of-spelling u) in
     let whole : named ≡ spelling (in_names (named_variables u) u) = n ∙ ap₂ (λ ws xs. map (renamed ws) xs) variables l ∙ renamed-spelling (named_variables u) u in
-    let same : Some t ≡ Some (in_names (named_variables u) u) =
-    sym some ∙ built ∙ ap (λ xs. only_one (built_from xs [])) whole ∙ ap only_one (built_from-spelling (in_names (named_variables u) u) []) in
+    ap (λ xs. only_one (built_from xs [])) whole ∙ ap only_one (built_from-spelling (in_names (named_variables u) u) [])
+
+-- what is built from them is that term
+pub answer_built : (u t : Tm) (letters named : List Letter) (vs : List ℕ) → letters ≡ spelling u → vs ≡ each_once eqb (variables_of letters) → named ≡ map (renamed vs) letters → term_of named ≡ Some t →
+    t ≡ in_names (named_variables u) u
+answer_built u t letters named vs l v n built =
+    let same : Some t ≡ Some (in_names (named_variables u) u) = sym built ∙ named_spell u letters named vs l v n in
     cc
+
+pub spells_some : (u : Tm) (letters named : List Letter) (vs : List ℕ) → letters ≡ spelling u → vs ≡ each_once eqb (variables_of letters) → named ≡ map (renamed vs) letters → IsSome (term_of named)
+spells_some u letters named vs l v n = rw (named_spell u letters named vs l v n) tt

@@ -5,7 +5,8 @@ use Rattle.kan_terms.specs.Tree.{Tree, Tm, size}
 use Rattle.kan_terms.specs.Terms.{tree}
 use Rattle.kan_terms.specs.declared.terms.Term.{Term}
 use Rattle.kan_terms.proofs.TreeLaws.{size-positive}
-use Rattle.kan_model.specs.Answers.Text.{Table, name_text, print, print_rest}
+use Rattle.kan_terms.specs.Table.{Table}
+use Rattle.kan_model.specs.Answers.Text.{name_text, print, print_rest}
 use Rattle.kanren_run.specs.Printing.{frame_text, frames_text, frame_cost, frames_cost}
 use Rattle.kanren_run.specs.declared.printing.Frame.{Frame}
 use Rattle.kanren_run.specs.declared.printing.Frame.TheVariants.{Element, Rest, Close}

@@ -9,17 +9,19 @@ use Rattle.kan_model.specs.Stores.Store.{Store, bare, with_prim, with_fresh}
 use Rattle.kan_model.specs.Stores.Kept.{is_kept}
 use Rattle.kan_model.specs.Stores.Calls.{is_equation}
 use Rattle.kan_model.specs.Streams.Stream.{Stream, Thunk, empty, one, append, append_each, bind_all}
-use Rattle.kan_model.specs.Streams.Running.{run, force, enter, start, assert, instance, instances, named, named_store, variables}
-use Rattle.kan_model.specs.Streams.Taking.{Taken, Ending, give, take, taken, nothing_more, with_answer, with_pull}
-use Rattle.kan_model.specs.Answers.Text.{Table}
+use Rattle.kan_model.specs.Streams.Running.{run, force, enter, start, assert, instance, instances, name_pairs, named_store, variables}
+use Rattle.kan_model.specs.Streams.Taking.{Taken, Ending, give, take, take_query, nothing_more, with_answer, with_pull}
+use Rattle.kan_terms.specs.Table.{Table}
 use Rattle.kan_model.specs.Answers.Output.{runs_output, taken_text}
 use Rattle.goal_syntax.specs.Building.Equations as equational
-use Rattle.kanren_run.specs.Answers.{spends, is_fuel}
+use Rattle.kan_grammar.specs.Texts.Reply.{is_spent}
+use Rattle.kanren_run.specs.Answers.{spends}
 use Rattle.kanren_run.specs.Equations.{HasEquations, Each}
 
 -- forcing asks a program for its relations alone
 force-same : (p q : Program) → p.relations ≡ q.relations → (t : Thunk) → force p t ≡ force q t
 force-same p q e (Thunk.call r args st) = ap (λ rs. enter (slice_get rs r) args st) e
+force-same p q e (Thunk.pause g env st) = refl
 force-same p q e (Thunk.swap t i) = ap (append t) (force-same p q e i)
 force-same p q e (Thunk.bind g env i) = ap (bind_all (run g env) g env) (force-same p q e i)
 
@@ -45,7 +47,7 @@ runs-same table p q e f (x ∷ xs) = ap₂ (λ a b. a ++ b) (ap (taken_text tabl
 
 pub spends-same : (p q : Program) → p.relations ≡ q.relations → (f : ℕ) (qs : List Query) → spends p f qs ≡ spends q f qs
 spends-same p q e f [] = refl
-spends-same p q e f (x ∷ xs) = ap₂ (λ a b. a || b) (ap (λ (t : Taken). is_fuel t.ending) (take-same p q e f (start x.goal) x.limit)) (spends-same p q e f xs)
+spends-same p q e f (x ∷ xs) = ap₂ (λ a b. a || b) (ap (λ (t : Taken). is_spent t.ending) (take-same p q e f (start x.goal) x.limit)) (spends-same p q e f xs)
 
 -- streams whose stores have equations alone, also those that come later
 abbrev mutual
@@ -55,6 +57,7 @@ abbrev mutual
 
   pub ThunkHas : Thunk → Type 0
   ThunkHas (Thunk.call r args st) = HasEquations st
+  ThunkHas (Thunk.pause g env st) = (equational.is_equational g ≡ true) × HasEquations st
   ThunkHas (Thunk.swap t i) = StreamHas t × ThunkHas i
   ThunkHas (Thunk.bind g env i) = (equational.is_equational g ≡ true) × ThunkHas i
 
@@ -80,11 +83,12 @@ more-has : (ps : List (Primitive Tm)) (a b : Tm) → list_all is_equation ps ≡
 more-has [] a b e = refl
 more-has (p ∷ ps) a b e = let parts = and_parts (is_equation p) (list_all is_equation ps) e in rw (parts.0, more-has ps a b parts.1) refl
 
-named-has : (st : Store) (ts : List Tm) → HasEquations st → HasEquations (named st ts).store
+named-has : (st : Store) (ts : List Tm) → HasEquations st → HasEquations (name_pairs st ts).store
 named-has st [] e = e
 named-has st (Tree.pair a b ∷ ts) e = named-has (named_store st (Tree.pair a b)) ts (more-has st.prims (Tree.leaf st.counter) (Tree.pair a b) e)
 named-has st (Tree.leaf v ∷ ts) e = named-has st ts e
 named-has st (Tree.sym s ∷ ts) e = named-has st ts e
+named-has st (Tree.str s ∷ ts) e = named-has st ts e
 named-has st (Tree.num n ∷ ts) e = named-has st ts e
 named-has st (Tree.truth b ∷ ts) e = named-has st ts e
 named-has st (Tree.nil ∷ ts) e = named-has st ts e
@@ -100,6 +104,7 @@ assert-has (Primitive.same a b) env st ep e =
 assert-has (Primitive.differ a b) env st ep e = absurd cc
 assert-has (Primitive.symbol a) env st ep e = absurd cc
 assert-has (Primitive.number a) env st ep e = absurd cc
+assert-has (Primitive.text a) env st ep e = absurd cc
 assert-has (Primitive.absent tag a) env st ep e = absurd cc
 
 run-has : (g : Goal) (env : List Tm) (st : Store) → equational.is_equational g ≡ true → HasEquations st → StreamHas (run g env st)
@@ -113,6 +118,7 @@ run-has (Goal.either g h) env st eg e =
     let parts = and_parts (equational.is_equational g) (equational.is_equational h) eg in
     append-has (run g env st) (run h env st) (run-has g env st parts.0 e) (run-has h env st parts.1 e)
 run-has (Goal.fresh k g) env st eg e = run-has g (env ++ variables st.counter k) (with_fresh st k) eg e
+run-has (Goal.later g) env st eg e = (tt, (eg, e))
 run-has (Goal.call r args) env st eg e = (tt, named-has st (instances env args) e)
 
 enter-has : (rs : List Relation) (r : ℕ) (args : List Tm) (st : Store) → list_all equational.is_equational_body rs ≡ true → HasEquations st → StreamHas (enter (slice_get rs r) args st)
@@ -122,6 +128,7 @@ enter-has (x ∷ rs) (suc r) args st er e = enter-has rs r args st (and_parts (e
 
 force-has : (p : Program) → list_all equational.is_equational_body p.relations ≡ true → (t : Thunk) → ThunkHas t → StreamHas (force p t)
 force-has p ep (Thunk.call r args st) e = enter-has p.relations r args st ep e
+force-has p ep (Thunk.pause g env st) (eg, e) = run-has g env st eg e
 force-has p ep (Thunk.swap t i) (et, ei) = append-has t (force p i) et (force-has p ep i ei)
 force-has p ep (Thunk.bind g env i) (eg, ei) = bind-has (run g env) g env (λ a ea. run-has g env a eg ea) eg (force p i) (force-has p ep i ei)
 
@@ -141,5 +148,5 @@ take-has p ep (suc f) (Stream.goes_on hs i) l (eh, ei) =
     give-has (λ rest. with_pull (take p f (force p i) rest)) (λ rest. take-has p ep f (force p i) rest (force-has p ep i ei)) hs l eh
 
 -- all answers of a run have equations alone
-pub taken-has : (p : Program) (f : ℕ) (q : Query) → list_all equational.is_equational_body p.relations ≡ true → equational.is_equational q.goal ≡ true → Each HasEquations (taken p f q).stores
+pub taken-has : (p : Program) (f : ℕ) (q : Query) → list_all equational.is_equational_body p.relations ≡ true → equational.is_equational q.goal ≡ true → Each HasEquations (take_query p f q).stores
 taken-has p f q ep eq = take-has p ep f (start q.goal) q.limit (run-has q.goal (Tree.leaf 0 ∷ []) (bare 1) eq refl)

@@ -1,40 +1,131 @@
 -- What becomes of a text: its program, or its refusal.
-use Rattle.std.proofs.Common.{◌≡◌, ℕ, List, [], map, None, Result, Ok, Err, sym, ap, subst, ◌∙◌}
-use Rattle.kan_grammar.specs.Data.Faults.{read_text, data_are}
-use Rattle.sexpr.specs.Seen.{Table, written, as_kept}
-use Rattle.sexpr.specs.Reads.{Extends}
+use Rattle.std.proofs.Common.{◌≡◌, ℕ, ◌≤◌, Bool, true, false, List, [], map, None, Result, Ok, Err, refl, sym, ap, subst, ◌∙◌}
+use Rattle.std.specs.Prelude.{Some, length, ◌&&◌}
+use Rattle.std.specs.List.{list_all}
+use Rattle.std.specs.Str.{is_utf8, chars}
+use Rattle.std.proofs.lemmas.Bool.{and_parts}
+use Rattle.kan_terms.specs.Table.{Table, no_names}
+use Rattle.kan_model.specs.Programs.Closed as programs
+use Rattle.kan_model.specs.Programs.Tables.{GoalEntry}
+use Rattle.kan_grammar.specs.declared.dialect.Dialect.TheVariants.{Book}
+use Rattle.kan_grammar.specs.Data.Faults as faults
+use Rattle.kan_grammar.specs.Data.Faults.{run, read_tokens, read_text, data_are, fault}
+use Rattle.kan_grammar.specs.Data.Tokens.{tokens, tokens_from}
+use Rattle.kan_grammar.specs.Texts.TextNames.{with_prefixes, with_text_names, text_table}
+use Rattle.kan_grammar.specs.Texts.Reply.{Reply, reply, reply_to_data, unless_fault}
+use Rattle.kan_grammar.specs.Texts.ProgramText.{program_of_text, queries_of_text}
+use Rattle.sexpr.specs.Seen.{written, as_kept}
+use Rattle.sexpr.specs.Reads.{Reads, Answers}
 use Rattle.sexpr.specs.declared.data.Datum.{Datum}
-use Rattle.goal_forms.specs.PrefixSymbols.{NamesPrefixes}
+use Rattle.sexpr.specs.declared.data.ReadError.{ReadError}
+use Rattle.sexpr.specs.declared.data.ReadError.TheVariants as reading
+use Rattle.sexpr.proofs.ReplyLaws.{replies_as_read}
+use Rattle.stream_core.specs.BuiltGoals.{is_built}
 use Rattle.goal_syntax.specs.Compiling.Compiles.{Compiles, IsCompiled, fault_found, relations_meant, queries_meant}
-use Rattle.goal_syntax.specs.Building.Equations.{are_equational}
+use Rattle.goal_syntax.specs.Building.Equations.{are_equational, is_equational_entry, are_equational_entries, is_equational_body, is_equational_query}
 use Rattle.goal_syntax.specs.declared.refusal.SyntaxError.{SyntaxError}
 use Rattle.goal_syntax.specs.declared.refusal.SyntaxError.TheVariants as syntax
 use Rattle.goal_syntax.specs.declared.compiler.Compiled.{Compiled}
-use Rattle.kanren_run.specs.Answers.{Answered, faulty, not_built, refusal, HasFault}
-use Rattle.kanren_run.specs.Replies.{HasRuns, ComesTo, EquationsAlone, IsRefused}
+use Rattle.kanren_run.specs.Answers.{answer, unless_unbuilt, where_built, IsRefused}
+use Rattle.kanren_run.specs.Replies.{HasRuns, ComesTo, EquationsAlone}
 use Rattle.kanren_run.specs.declared.text.NotRun.{NotRun}
 use Rattle.kanren_run.specs.declared.text.NotRun.TheVariants.{Fault, Memory}
 
+-- a text without a library in front of it names what its own tokens do
+no_tokens : tokens [] ≡ []
+unfolding tokens tokens_from
+no_tokens = refl
+
+own_table : (text : List ℕ) → text_table [] text ≡ with_prefixes (with_text_names no_names text)
+unfolding tokens tokens_from
+own_table text = refl
+
+-- the empty library has no data
+none_read : (table : Table) → Reads [] table (Ok [])
+unfolding run read_tokens read_text tokens tokens_from is_utf8 chars
+none_read table = refl
+
+-- what is answered where the reading comes to data, and where it comes to a fault
+to_data : (text : List ℕ) (names : Table) (ds : List Datum) → names ≡ with_text_names no_names text → Reads text (with_prefixes names) (Ok ds) →
+    reply [] text Book ≡ reply_to_data Book (with_prefixes names) [] (map (written (with_prefixes names)) ds)
+to_data text names ds is read =
+    let same : text_table [] text ≡ with_prefixes names = own_table text ∙ ap with_prefixes (sym is) in
+    subst (λ t. reply [] text Book ≡ reply_to_data Book t [] (map (written t) ds)) same
+    (replies_as_read [] text Book [] (Ok ds) (none_read (text_table [] text)) (subst (λ t. Reads text t (Ok ds)) (sym same) read))
+
+-- a text that can't be read is refused
+pub reading_refused : (text : List ℕ) (names : Table) (x : ReadError) (at number : ℕ) → x ≡ reading.Fault at number → Reads text names (Err x) → IsRefused text at number
+reading_refused text names x at number is read =
+    ap unless_unbuilt (replies_as_read [] text Book [] (Err (reading.Fault at number)) (none_read (text_table [] text)) (subst (λ y. Reads text names (Err y)) is read))
+
+-- the table of a text that was read into an empty one
+pub numbered_from : (text : List ℕ) (old new : Table) → old ≡ no_names → new ≡ with_text_names old text → new ≡ with_text_names no_names text
+numbered_from text old new is numbered = numbered ∙ ap (λ t. with_text_names t text) is
+
+entry_built : (e : GoalEntry) → is_equational_entry e ≡ true → is_built e ≡ true
+entry_built GoalEntry.succeed alone = refl
+entry_built GoalEntry.fail alone = refl
+entry_built (GoalEntry.same a b) alone = refl
+entry_built (GoalEntry.differ a b) alone = alone
+entry_built (GoalEntry.symbol a) alone = alone
+entry_built (GoalEntry.number a) alone = alone
+entry_built (GoalEntry.text a) alone = alone
+entry_built (GoalEntry.absent tag a) alone = alone
+entry_built (GoalEntry.both g h) alone = refl
+entry_built (GoalEntry.either g h) alone = refl
+entry_built (GoalEntry.fresh k g) alone = refl
+entry_built (GoalEntry.later g) alone = refl
+entry_built (GoalEntry.call r at k) alone = refl
+
+entries_built : (es : List GoalEntry) → are_equational_entries es ≡ true → list_all is_built es ≡ true
+entries_built [] alone = refl
+entries_built (e ∷ es) alone =
+    let parts = and_parts (is_equational_entry e) (list_all is_equational_entry es) alone in
+    rw (entry_built e parts.0, entries_built es parts.1) refl
+
+-- what data that were compiled are answered with
+compiled_answer : (names : Table) (ds : List Datum) (text : List ℕ) (b : Bool) → reply [] text Book ≡ reply_to_data Book names [] (map (written names) ds) → fault_found names [] ds ≡ None →
+    are_equational (relations_meant Book names [] ds) (queries_meant Book names [] ds) ≡ b →
+    answer text ≡ where_built b (Reply.accepted names (program_of_text Book names [] (map (written names) ds)) (queries_of_text Book names [] (map (written names) ds)))
+compiled_answer names ds text b same none alone =
+    ap unless_unbuilt (same ∙ ap (λ f. unless_fault f (Reply.accepted names (program_of_text Book names [] (map (written names) ds)) (queries_of_text Book names [] (map (written names) ds)))) none)
+    ∙ ap (λ x. where_built x (Reply.accepted names (program_of_text Book names [] (map (written names) ds)) (queries_of_text Book names [] (map (written names) ds)))) alone
+
 -- what data that were read come to
-pub data_come : (bytes : List ℕ) (names later : Table) (ds : List Datum) (c : Compiled) (r : Result Compiled NotRun) →
-    read_text as_kept bytes ≡ data_are (map (written names) ds) → Extends 3 names later → NamesPrefixes later → IsCompiled later [] ds c.program c.queries → EquationsAlone c r → ComesTo bytes later r
-data_come bytes names later ds c (Ok back) read (more, is, few) named compiled (same, alone) =
-    subst (λ x. HasRuns bytes later x.program x.queries) (sym same)
+pub data_come : (text : List ℕ) (old later : Table) (ds : List Datum) (c : Compiled) (r : Result Compiled NotRun) →
+    old ≡ with_text_names no_names text → Reads text (with_prefixes old) (Ok ds) → later ≡ with_prefixes old → IsCompiled Book (with_prefixes old) [] ds c.program c.queries → EquationsAlone c r → ComesTo text later r
+data_come text old later ds c (Ok back) is read table compiled (same, alone) =
+    let names : Table = with_prefixes old in
+    let meant : are_equational (relations_meant Book names [] ds) (queries_meant Book names [] ds) ≡ true = sym compiled.equational ∙ alone in
+    let parts = and_parts (list_all is_equational_body (relations_meant Book names [] ds)) (list_all is_equational_query (queries_meant Book names [] ds)) meant in
+    subst (λ x. HasRuns text later x.program x.queries) (sym same) (subst (λ t. HasRuns text t c.program c.queries) (sym table)
     (record {
-      text = record { names = names; more = more; ds = ds; read = read; prefixes = subst NamesPrefixes is named; is = ap (λ t. fault_found t [] ds) (sym is) ∙ compiled.accepted };
-      names_are = sym is;
-      compiled = subst (λ t. IsCompiled t [] ds c.program c.queries) is compiled;
-      alone = ap (λ t. are_equational (relations_meant t [] ds) (queries_meant t [] ds)) (sym is) ∙ sym compiled.equational ∙ alone;
-    })
-data_come bytes names later ds c (Err (Fault f)) read (more, is, few) named compiled (at, number, alone) =
-    let has : HasFault bytes None = record { names = names; more = more; ds = ds; read = read; prefixes = subst NamesPrefixes is named; is = ap (λ t. fault_found t [] ds) (sym is) ∙ compiled.accepted } in
-    λ fuel. subst (λ a. Answered fuel bytes (refusal a f.number)) (sym at) (subst (λ n. Answered fuel bytes (refusal 0 n)) (sym number)
-    (not_built has (ap (λ t. are_equational (relations_meant t [] ds) (queries_meant t [] ds)) (sym is) ∙ sym compiled.equational ∙ alone)))
-data_come bytes names later ds c (Err Memory) read more named compiled alone = absurd alone
+      meant = program_of_text Book names [] (map (written names) ds);
+      answered = compiled_answer names ds text true (to_data text old ds is read) compiled.accepted meant
+          ∙ ap (λ qs. Reply.accepted names (program_of_text Book names [] (map (written names) ds)) qs) (sym compiled.queries_are);
+      relations = compiled.relations;
+      can = record {
+        closed = compiled.closed;
+        small = compiled.small;
+        built = entries_built (programs.tables c.program).goals alone;
+        bodies = ap (list_all is_equational_body) compiled.relations ∙ parts.0;
+        goals = ap (list_all is_equational_query) compiled.queries_are ∙ parts.1;
+      };
+    }))
+data_come text old later ds c (Err (Fault f)) is read table compiled (at, number, alone) =
+    compiled_answer (with_prefixes old) ds text false (to_data text old ds is read) compiled.accepted (sym compiled.equational ∙ alone)
+    ∙ ap (λ a. Reply.refusal (fault a 0)) (sym at) ∙ ap (λ n. Reply.refusal (fault f.at n)) (sym number)
+data_come text old later ds c (Err Memory) is read table compiled alone = absurd alone
 
 -- data that have a fault are refused for it
-pub data_refused : (bytes : List ℕ) (names later : Table) (ds : List Datum) (x : SyntaxError) (at number : ℕ) → x ≡ syntax.Fault at number →
-    read_text as_kept bytes ≡ data_are (map (written names) ds) → Extends 3 names later → Compiles later [] ds (Err x) → IsRefused bytes at number
-data_refused bytes names later ds x at number same read (more, is, few) answer fuel =
-    let (named, found) = subst (λ y. Compiles later [] ds (Err y)) same answer in
-    faulty (record { names = names; more = more; ds = ds; read = read; prefixes = subst NamesPrefixes is named; is = ap (λ t. fault_found t [] ds) (sym is) ∙ found })
+pub data_refused : (text : List ℕ) (old : Table) (ds : List Datum) (x : SyntaxError) (at number : ℕ) → x ≡ syntax.Fault at number →
+    old ≡ with_text_names no_names text → Reads text (with_prefixes old) (Ok ds) → Compiles Book (with_prefixes old) [] ds (Err x) → IsRefused text at number
+data_refused text old ds x at number same is read found =
+    let names : Table = with_prefixes old in
+    let first : fault_found names [] ds ≡ Some (fault at number) = subst (λ y. Compiles Book names [] ds (Err y)) same found in
+    ap unless_unbuilt (to_data text old ds is read
+    ∙ ap (λ f. unless_fault f (Reply.accepted names (program_of_text Book names [] (map (written names) ds)) (queries_of_text Book names [] (map (written names) ds)))) first)
+
+-- the same of equal offsets and numbers
+pub refused_same : (text : List ℕ) (a b m n : ℕ) → a ≡ b → m ≡ n → IsRefused text a m → IsRefused text b n
+refused_same text a b m n p q refused = subst (λ at. IsRefused text at n) p (subst (λ number. IsRefused text a number) q refused)

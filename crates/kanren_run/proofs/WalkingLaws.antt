@@ -26,12 +26,14 @@ parts_wait s old middle new a b t first second pair =
 found_spells : (s : Replacement) (u w : Tm) → IsFoundFor s u w → spelled_under s w ≡ spelling u
 found_spells s (Tree.leaf x) w found = ap (spelled_under s) found
 found_spells s (Tree.sym x) w found = ap (spelled_under s) found
+found_spells s (Tree.str x) w found = ap (spelled_under s) found
 found_spells s (Tree.num n) w found = ap (spelled_under s) found
 found_spells s (Tree.truth b) w found = ap (spelled_under s) found
 found_spells s Tree.nil w found = ap (spelled_under s) found
 found_spells s (Tree.pair a b) (Tree.pair c d) found = ap spelling found
 found_spells s (Tree.pair a b) (Tree.leaf x) found = absurd found
 found_spells s (Tree.pair a b) (Tree.sym x) found = absurd found
+found_spells s (Tree.pair a b) (Tree.str x) found = absurd found
 found_spells s (Tree.pair a b) (Tree.num x) found = absurd found
 found_spells s (Tree.pair a b) (Tree.truth x) found = absurd found
 found_spells s (Tree.pair a b) Tree.nil found = absurd found
@@ -40,6 +42,7 @@ found_spells s (Tree.pair a b) Tree.nil found = absurd found
 walked_spells : (s : Replacement) (t w : Tm) → WalksTo s t w → spelled_under s w ≡ spelling (apply s t)
 walked_spells s (Tree.leaf v) w found = found_spells s (image s v) w found
 walked_spells s (Tree.sym x) w found = ap (spelled_under s) found
+walked_spells s (Tree.str x) w found = ap (spelled_under s) found
 walked_spells s (Tree.num n) w found = ap (spelled_under s) found
 walked_spells s (Tree.truth b) w found = ap (spelled_under s) found
 walked_spells s Tree.nil w found = ap (spelled_under s) found

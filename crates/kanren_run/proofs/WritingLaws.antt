@@ -17,11 +17,11 @@ use Rattle.kan_model.specs.Programs.Goals.{Program, Query, Goal}
 use Rattle.kan_model.specs.Programs.Nodes.{goal_place}
 use Rattle.kan_model.specs.Programs.Closed as programs
 use Rattle.kan_model.specs.Programs.Scope.{is_closed, is_low, calls_there, body_in_scope, in_scope}
-use Rattle.kan_model.specs.Programs.Tables.{nothing_open, templates_of, program_of, goal_at, goals_of}
+use Rattle.kan_model.specs.Programs.Tables.{are_closed, templates_of, program_of, goal_at, goals_of}
 use Rattle.kanren_run.proofs.Declared as declared
 use Rattle.kan_model.specs.Stores.Store.{Store}
-use Rattle.kan_model.specs.Answers.Text.{Table}
-use Rattle.kan_model.specs.Streams.Taking.{Taken, taken}
+use Rattle.kan_terms.specs.Table.{Table}
+use Rattle.kan_model.specs.Streams.Taking.{Taken, take_query}
 use Rattle.kan_model.specs.Answers.Output.{answer_line, summary_line, taken_text, runs_output}
 use Rattle.kan_search.specs.Batches.{Advances, joined, ending_of}
 use Rattle.kan_model.specs.Programs.Closed.{query_of}
@@ -30,7 +30,8 @@ use Rattle.kanren_run.specs.Writing.{Puts, Stops, Written, WritesNext, Continues
 use Rattle.kanren_run.specs.declared.writing.Stop.{Stop}
 use Rattle.kanren_run.specs.declared.writing.Stop.TheVariants.{Fault, Memory}
 use Rattle.goal_syntax.specs.Building.Equations.{is_equational_query}
-use Rattle.kanren_run.specs.Answers.{is_fuel, spends}
+use Rattle.kan_grammar.specs.Texts.Reply.{is_spent}
+use Rattle.kanren_run.specs.Answers.{spends}
 use Rattle.kanren_run.specs.Equations.{HasEquations, Each}
 
 -- the lines of the answers so far, and of one more
@@ -225,12 +226,12 @@ drop_at xs i x within is = let next : suc i ≡ i + 1 = omega arith in from xs i
 
 -- the lines of a run, and then those of the later ones
 pub runs_more : (table : Table) (program : Program) (fuel : ℕ) (means : declared.Query → Query) (qs : List declared.Query) (i : ℕ) (q : declared.Query) → i < length qs → q ≡ get_or qs i q →
-    runs_output table program fuel (map means (drop i qs)) ≡ taken_text table (taken program fuel (means q)) ++ runs_output table program fuel (map means (drop (i + 1) qs))
+    runs_output table program fuel (map means (drop i qs)) ≡ taken_text table (take_query program fuel (means q)) ++ runs_output table program fuel (map means (drop (i + 1) qs))
 runs_more table program fuel means qs i q within is = ap (λ l. runs_output table program fuel (map means l)) (drop_at qs i q within is)
 
 -- whether a run spent its fuel, among those so far and this one and the later ones
 pub spends_more : (program : Program) (fuel : ℕ) (means : declared.Query → Query) (qs : List declared.Query) (i : ℕ) (q : declared.Query) (spent now all : Bool) → i < length qs → q ≡ get_or qs i q →
-    now ≡ is_fuel (taken program fuel (means q)).ending → (spent || spends program fuel (map means (drop i qs))) ≡ all → ((spent || now) || spends program fuel (map means (drop (i + 1) qs))) ≡ all
+    now ≡ is_spent (take_query program fuel (means q)).ending → (spent || spends program fuel (map means (drop i qs))) ≡ all → ((spent || now) || spends program fuel (map means (drop (i + 1) qs))) ≡ all
 spends_more program fuel means qs i q spent now all within is told so_far =
     or_assoc spent now (spends program fuel (map means (drop (i + 1) qs)))
     ∙ ap (λ b. spent || (b || spends program fuel (map means (drop (i + 1) qs)))) told
@@ -255,7 +256,7 @@ one_scoped gs (y ∷ qs) (suc i) q within is all = one_scoped gs qs i q (omega (
 both_hold : (a b : Bool) → a ≡ true → b ≡ true → (a && b) ≡ true
 both_hold a b ea eb = rw (ea, eb) refl
 
-one_closed : (program : declared.Program) (qs : List declared.Query) (i : ℕ) (q : declared.Query) → i < length qs → q ≡ get_or qs i q → nothing_open (programs.tables program) (map goal_place qs) ≡ true → nothing_open (programs.tables program) (q.goal ∷ []) ≡ true
+one_closed : (program : declared.Program) (qs : List declared.Query) (i : ℕ) (q : declared.Query) → i < length qs → q ≡ get_or qs i q → are_closed (programs.tables program) (map goal_place qs) ≡ true → are_closed (programs.tables program) (q.goal ∷ []) ≡ true
 one_closed program qs i q within is all =
     let ts = programs.tables program in
     let low = list_all is_low (templates_of ts.terms) in
@@ -286,19 +287,19 @@ pub can-at : (program : declared.Program) (qs : List declared.Query) (i : ℕ) (
 can-at program qs i d within can = can-one program qs i (get_or qs i d) within (at_place qs i d (get_or qs i d) within) can
 
 pub runs-written : (table : Table) (program : Program) (fuel : ℕ) (means : declared.Query → Query) (qs : List declared.Query) (i : ℕ) (d : declared.Query) (total : List ℕ) (a b c : SinkView) → i < length qs →
-    Written total a b (runs_output table program fuel (map means (drop i qs))) → Appends b.put c.put (taken_text table (taken program fuel (means (get_or qs i d)))) × (c.faults ≡ b.faults) →
+    Written total a b (runs_output table program fuel (map means (drop i qs))) → Appends b.put c.put (taken_text table (take_query program fuel (means (get_or qs i d)))) × (c.faults ≡ b.faults) →
     Written total a c (runs_output table program fuel (map means (drop (i + 1) qs)))
 runs-written table program fuel means qs i d total a b c within w (put, still) =
-    written_more total _ (runs_output table program fuel (map means (drop (i + 1) qs))) (taken_text table (taken program fuel (means (get_or qs i d)))) a b c w
+    written_more total _ (runs_output table program fuel (map means (drop (i + 1) qs))) (taken_text table (take_query program fuel (means (get_or qs i d)))) a b c w
     (runs_more table program fuel means qs i (get_or qs i d) within (at_place qs i d (get_or qs i d) within)) put still
 
 pub runs-stopped : (table : Table) (program : Program) (fuel : ℕ) (means : declared.Query → Query) (qs : List declared.Query) (i : ℕ) (d : declared.Query) (total : List ℕ) (s : Stop) (a b c : SinkView) → i < length qs →
-    Written total a b (runs_output table program fuel (map means (drop i qs))) → Stops (taken_text table (taken program fuel (means (get_or qs i d)))) b c s → Stops total a c s
+    Written total a b (runs_output table program fuel (map means (drop i qs))) → Stops (taken_text table (take_query program fuel (means (get_or qs i d)))) b c s → Stops total a c s
 runs-stopped table program fuel means qs i d total s a b c within w stopped =
     stops_on total (runs_output table program fuel (map means (drop i qs))) s a b c w
-    (front_stops (runs_output table program fuel (map means (drop i qs))) (taken_text table (taken program fuel (means (get_or qs i d)))) (runs_output table program fuel (map means (drop (i + 1) qs))) s b c
+    (front_stops (runs_output table program fuel (map means (drop i qs))) (taken_text table (take_query program fuel (means (get_or qs i d)))) (runs_output table program fuel (map means (drop (i + 1) qs))) s b c
     (runs_more table program fuel means qs i (get_or qs i d) within (at_place qs i d (get_or qs i d) within)) stopped)
 
 pub spends-at : (program : Program) (fuel : ℕ) (means : declared.Query → Query) (qs : List declared.Query) (i : ℕ) (d : declared.Query) (spent now all : Bool) → i < length qs →
-    now ≡ is_fuel (taken program fuel (means (get_or qs i d))).ending → (spent || spends program fuel (map means (drop i qs))) ≡ all → ((spent || now) || spends program fuel (map means (drop (i + 1) qs))) ≡ all
+    now ≡ is_spent (take_query program fuel (means (get_or qs i d))).ending → (spent || spends program fuel (map means (drop i qs))) ≡ all → ((spent || now) || spends program fuel (map means (drop (i + 1) qs))) ≡ all
 spends-at program fuel means qs i d spent now all within told so_far = spends_more program fuel means qs i (get_or qs i d) spent now all within (at_place qs i d (get_or qs i d) within) told so_far

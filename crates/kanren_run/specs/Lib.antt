@@ -2,7 +2,6 @@ pub mod Walking
 pub mod Naming
 pub mod Printing
 pub mod Commands
-pub mod Refusals
 pub mod Answers
 pub mod Writing
 pub mod Equations

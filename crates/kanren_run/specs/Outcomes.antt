@@ -9,8 +9,8 @@ use Rattle.kan_base.specs.Texts.{greatest_text, IsWhole, TakesCount, TakesAtMost
 use Rattle.kan_base.specs.declared.status.Status.{Status}
 use Rattle.kan_base.specs.declared.status.Status.TheVariants.{Done, Fuel, Usage, Text, ReadFault, WriteFault, TooLong, Memory}
 use Rattle.kanren_run.specs.Commands.{fuel_of, is_command}
-use Rattle.kanren_run.specs.Refusals.{refusal_line}
-use Rattle.kanren_run.specs.Answers.{Answer, output, refusal, Answered, answer_bytes}
+use Rattle.kan_grammar.specs.Texts.Reply.{reply_bytes}
+use Rattle.kanren_run.specs.Answers.{answer, Runs, IsRefused}
 
 -- the source and the sink of a call, before and after it
 pub record Ends : Type 0 where
@@ -34,26 +34,27 @@ pub record ReadsWhole (e : Ends) (text : List ℕ) : Type 0 where
   pub whole : IsWhole (input e) e.source_after.left text
   pub short : length text ≤ greatest_text
 
--- a text was read whole, and what was put is its output; it is said whether some run spent its fuel
+-- all that is written for a text at a fuel was put
+abbrev pub PutWhole : ℕ → List ℕ → Option (List ℕ) → Option (List ℕ) → Type 0
+PutWhole fuel text put after = Appends put after (reply_bytes fuel (answer text))
+
+-- a front of what is written for a text was put
+abbrev pub PutFront : ℕ → List ℕ → Option (List ℕ) → Option (List ℕ) → Type 0
+PutFront fuel text put after = PutsFront put after (reply_bytes fuel (answer text))
+
+-- a text was read whole and accepted, and its output was put; it is said whether some run spent its fuel
 pub record Ran (fuel : ℕ) (e : Ends) (spent : Bool) : Type 0 where
   pub text : List ℕ
-  pub out : List ℕ
   pub read : ReadsWhole e text
-  pub output : Answered fuel text (output out spent)
-  pub put : Appends e.sink.put e.sink_after.put out
+  pub runs : Runs fuel text spent
+  pub put : PutWhole fuel text e.sink.put e.sink_after.put
 
--- a text was read whole and is refused, and what was put is the line that says so
+-- a text was read whole and is refused, and the line that says so was put
 pub record Refused (fuel : ℕ) (e : Ends) (at number : ℕ) : Type 0 where
   pub text : List ℕ
   pub read : ReadsWhole e text
-  pub refused : Answered fuel text (refusal at number)
-  pub put : Appends e.sink.put e.sink_after.put (refusal_line at number)
-
--- a front of what is written for a text was put
-pub record PutFront (fuel : ℕ) (text : List ℕ) (put after : Option (List ℕ)) : Type 0 where
-  pub answer : Answer
-  pub answered : Answered fuel text answer
-  pub front : PutsFront put after (answer_bytes answer)
+  pub refused : IsRefused text at number
+  pub put : PutWhole fuel text e.sink.put e.sink_after.put
 
 -- nothing was put
 abbrev pub PutNothing : Ends → Type 0
@@ -110,9 +111,9 @@ pub record NoneFailed (e : Ends) : Type 0 where
 
 -- what a text is answered with where nothing fails
 abbrev pub AnswersText : ℕ → List ℕ → Status → Type 0
-AnswersText fuel text Done = (out : List ℕ) × Answered fuel text (output out false)
-AnswersText fuel text Fuel = (out : List ℕ) × Answered fuel text (output out true)
-AnswersText fuel text (Text at number) = Answered fuel text (refusal at number)
+AnswersText fuel text Done = Runs fuel text false
+AnswersText fuel text Fuel = Runs fuel text true
+AnswersText fuel text (Text at number) = IsRefused text at number
 AnswersText fuel text Memory = ⊤
 AnswersText fuel text _ = ⊥
 
@@ -143,10 +144,13 @@ pub data Wanted (fuel : ℕ) (text : List ℕ) (put after : Option (List ℕ)) :
 
 -- what a status says of the writing of a text that was read whole, into a sink
 abbrev pub WritesReply : ℕ → List ℕ → SinkView → SinkView → Status → Type 0
-WritesReply fuel text old new Done = (out : List ℕ) × Answered fuel text (output out false) × Appends old.put new.put out × (new.faults ≡ old.faults)
-WritesReply fuel text old new Fuel = (out : List ℕ) × Answered fuel text (output out true) × Appends old.put new.put out × (new.faults ≡ old.faults)
+WritesReply fuel text old new Done =
+    Runs fuel text false × PutWhole fuel text old.put new.put × (new.faults ≡ old.faults)
+WritesReply fuel text old new Fuel =
+    Runs fuel text true × PutWhole fuel text old.put new.put × (new.faults ≡ old.faults)
 WritesReply fuel text old new (Text at number) =
-    Answered fuel text (refusal at number) × Appends old.put new.put (refusal_line at number) × (new.faults ≡ old.faults)
-WritesReply fuel text old new WriteFault = PutFront fuel text old.put new.put × (new.faults ≡ one_more old.faults)
+    IsRefused text at number × PutWhole fuel text old.put new.put × (new.faults ≡ old.faults)
+WritesReply fuel text old new WriteFault =
+    PutFront fuel text old.put new.put × (new.faults ≡ one_more old.faults)
 WritesReply fuel text old new Memory = Wanted fuel text old.put new.put × (new.faults ≡ old.faults)
 WritesReply fuel text old new _ = ⊥

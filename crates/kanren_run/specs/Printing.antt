@@ -2,7 +2,8 @@
 use Rattle.std.specs.Prelude.{ℕ, ◌+◌, ◌*◌, List, [], ◌∷◌, ◌++◌}
 use Rattle.kan_terms.specs.Tree.{Tree, Tm, size}
 use Rattle.kan_terms.specs.Terms.{tree}
-use Rattle.kan_model.specs.Answers.Text.{Table, name_text, print, print_rest}
+use Rattle.kan_terms.specs.Table.{Table}
+use Rattle.kan_model.specs.Answers.Text.{name_text, print, print_rest}
 use Rattle.kanren_run.specs.declared.printing.Frame.{Frame}
 use Rattle.kanren_run.specs.declared.printing.Frame.TheVariants.{Element, Rest, Close}
 

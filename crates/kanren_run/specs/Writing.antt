@@ -8,12 +8,12 @@ use Rattle.kan_base.specs.Writes.{PutsFront}
 use Rattle.kan_model.specs.Stores.Store.{Store}
 use Rattle.kan_model.specs.Streams.Taking.{Taken}
 use Rattle.kan_model.specs.Programs.Scope.{is_small}
-use Rattle.kan_model.specs.Programs.Tables.{nothing_open}
+use Rattle.kan_model.specs.Programs.Tables.{are_closed}
 use Rattle.kan_model.specs.Programs.Nodes.{goal_place}
 use Rattle.kan_model.specs.Programs.Closed as programs
 use Rattle.kan_model.specs.declared.program.Program.{Program}
 use Rattle.kan_model.specs.declared.nodes.Query.{Query}
-use Rattle.kan_model.specs.Answers.Text.{Table}
+use Rattle.kan_terms.specs.Table.{Table}
 use Rattle.kan_model.specs.Answers.Output.{answer_line, summary_line}
 use Rattle.stream_core.specs.BuiltGoals.{is_built}
 use Rattle.goal_syntax.specs.Building.Equations.{is_equational_body, is_equational_query}
@@ -76,7 +76,7 @@ WritesNext t before n p after m q old new (Err stop) = Stops (rest_text t n p be
 
 -- a program may be run for some queries: nothing is open, it is small, and it has equations alone
 pub record CanRun (program : Program) (queries : List Query) : Type 0 where
-  pub closed : nothing_open (programs.tables program) (map goal_place queries) ≡ true
+  pub closed : are_closed (programs.tables program) (map goal_place queries) ≡ true
   pub small : is_small (programs.meaning program) ≡ true
   pub built : list_all is_built (programs.tables program).goals ≡ true
   pub bodies : list_all is_equational_body (programs.meaning program).relations ≡ true

@@ -24,10 +24,8 @@ fn answer_term<St: Store>(alloc: Global, store: &St) -> Result<Term, Memory>
     let letters = spell_in(alloc, store, &Term::Var(0))?;
     let variables = named_variables(alloc, &letters)?;
     let named = rename_all(alloc, &variables, &letters)?;
-    match build(alloc, named)? {
-        Some(term) => Ok(term),
-        None => Err(Memory),
-    }
+    let term = build(alloc, named)?;
+    Ok(term)
 }
 
 /// Adds the line of a store's answer, where the store has equations alone.

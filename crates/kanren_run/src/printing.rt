@@ -2,11 +2,13 @@
 
 ghost use Rattle.std.specs.Prelude.{◌≡◌, ◌+◌, ◌<◌, ◌++◌, OnOk, string_bytes};
 ghost use Rattle.kan_terms.specs.Terms.{tree};
-ghost use Rattle.kan_model.specs.Answers.Text.{name_text, print};
+ghost use Rattle.kan_model.specs.Answers.Decimals.{number_text};
+ghost use Rattle.kan_model.specs.Answers.Text.{name_text, print, string_text};
 ghost use Rattle.kanren_run.specs.declared.printing.Frame.TheVariants.{Element, Rest};
 ghost use Rattle.kanren_run.specs.Printing.{frame_text, frames_text, frame_cost, frames_cost, IsAtom};
 
 use kan_terms::{Memory, Names, Term};
+use sexpr::print_string;
 use std::alloc::Global;
 
 // What is left to print.
@@ -20,15 +22,41 @@ pub(crate) enum Frame<'a> {
     Close,
 }
 
+// The name of a variable.
+fn write_name(name: u64, text: &mut String) -> Result<(), Memory>
+    ensures { OnOk result (string_bytes text.new ≡ string_bytes text.old ++ name_text name) }
+{
+    write!(text, "_{name}")?;
+    Ok(())
+}
+
+// A whole number.
+fn write_number(number: i128, text: &mut String) -> Result<(), Memory>
+    ensures { OnOk result (string_bytes text.new ≡ string_bytes text.old ++ number_text number) }
+{
+    write!(text, "{number}")?;
+    Ok(())
+}
+
+// The string that has a number.
+fn write_string(number: u32, names: &Names, text: &mut String) -> Result<(), Memory>
+    ensures { OnOk result
+        (string_bytes text.new ≡ string_bytes text.old ++ string_text names.now number) }
+{
+    print_string(text, names.string(number).unwrap_or(""))?;
+    Ok(())
+}
+
 // The text of a term that is no pair.
 fn write_atom(term: &Term, names: &Names, text: &mut String) -> Result<(), Memory>
     requires { IsAtom (tree term.now) }
     ensures { OnOk result (string_bytes text.new ≡ string_bytes text.old ++ print name_text names.now (tree term.now)) }
 {
     match term {
-        Term::Var(name) => write!(text, "_{name}")?,
+        Term::Var(name) => write_name(*name, text)?,
         Term::Sym(symbol) => text.push_str(names.name(*symbol).unwrap_or(""))?,
-        Term::Num(number) => write!(text, "{number}")?,
+        Term::Str(number) => write_string(*number, names, text)?,
+        Term::Num(number) => write_number(*number, text)?,
         Term::Truth(true) => text.push_str("#t")?,
         Term::Truth(false) => text.push_str("#f")?,
         Term::Nil => text.push_str("()")?,

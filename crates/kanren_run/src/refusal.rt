@@ -1,7 +1,8 @@
 //! The fault of a text, and the line that says it.
 
 ghost use Rattle.std.specs.Prelude.{◌≡◌, IfOk, string_bytes};
-ghost use Rattle.kanren_run.specs.Refusals.{refusal_line};
+ghost use Rattle.kan_grammar.specs.Data.Faults.{fault as fault_at};
+ghost use Rattle.kan_grammar.specs.Texts.Reply.{refusal_line};
 
 use kan_refusals::{Refusal, error_line};
 use std::alloc::{AllocError, Global};
@@ -17,7 +18,7 @@ pub(crate) struct Fault {
 
 /// The line of a fault.
 pub(crate) fn fault_line(alloc: Global, fault: Fault) -> Result<String, AllocError>
-    ensures { IfOk result (λ line. string_bytes line ≡ refusal_line fault.at fault.number) }
+    ensures { IfOk result (λ line. string_bytes line ≡ refusal_line (fault_at fault.at fault.number)) }
 {
     match Refusal::of_number(fault.number) {
         Some(refusal) => error_line(alloc, fault.at, refusal),

@@ -1,16 +1,18 @@
 //! Texts: their program and their runs.
 
-ghost use Rattle.std.specs.Prelude.{◌≡◌, ◌+◌, ◌<◌, ◌≤◌, ◌^◌, [], length, map, List, ℕ};
-ghost use Rattle.kan_grammar.specs.Data.Faults.{read_text, data_are};
+ghost use Rattle.std.specs.Prelude.{◌≡◌, ◌+◌, ◌<◌, ◌≤◌, ◌^◌, length, List, ℕ, Ok};
+ghost use Rattle.kan_terms.specs.Table.{no_names};
+ghost use Rattle.kan_grammar.specs.Texts.TextNames.{with_prefixes, with_text_names};
 ghost use Rattle.kan_model.specs.Programs.Nodes.{goal_entry};
 ghost use Rattle.kan_model.specs.Programs.Closed as programs;
-ghost use Rattle.sexpr.specs.Seen.{written, as_kept};
-ghost use Rattle.goal_syntax.specs.Compiling.Compiles.{AreOfText, Compiles};
+ghost use Rattle.sexpr.specs.Reads.{Reads};
+ghost use Rattle.goal_syntax.specs.Compiling.Compiles.{AreOfText};
 ghost use Rattle.goal_syntax.specs.Building.Equations.{is_equational_entry, are_equational_entries};
 ghost use Rattle.kanren_run.specs.Replies.{ComesTo, EquationsAlone};
 
 use crate::refusal::Fault;
 use goal_syntax::{Compiled, SyntaxError, compile};
+use kan_grammar::Dialect;
 use kan_model::{GoalNode, Program};
 use kan_terms::Names;
 use sexpr::{Datum, ReadError, read};
@@ -31,7 +33,11 @@ fn is_equational(node: GoalNode) -> bool
 {
     !matches!(
         node,
-        GoalNode::Differ(_, _) | GoalNode::Symbol(_) | GoalNode::Number(_) | GoalNode::Absent(_, _)
+        GoalNode::Differ(_, _)
+            | GoalNode::Symbol(_)
+            | GoalNode::Number(_)
+            | GoalNode::Text(_)
+            | GoalNode::Absent(_, _)
     )
 }
 
@@ -64,29 +70,31 @@ fn equations_alone(compiled: Compiled) -> Result<Compiled, NotRun>
 
 // The program and the runs of a text's data. No text has more data than a u32 counts.
 fn compile_data(alloc: Global, forms: &[Datum], names: &mut Names) -> Result<Compiled, NotRun>
-    requires few { length names.old + 3 < 2 ^ 32 }
-    requires texts { AreOfText names.old forms.now }
-    ensures { (bytes : List ℕ) → read_text as_kept bytes ≡ data_are (map (written names.old) forms.now) → ComesTo bytes names.new result }
+    requires few { length names.old.symbols + 3 < 2 ^ 32 }
+    requires texts { AreOfText (with_prefixes names.old) forms.now }
+    ensures { (text : List ℕ) → names.old ≡ with_text_names no_names text
+        → Reads text (with_prefixes names.old) (Ok forms.now) → ComesTo text names.new result }
 {
     if u32::try_from(forms.len()).is_err() {
         return Err(NotRun::Memory);
     }
-    match compile(alloc, &[], forms, names) {
+    match compile(alloc, &[], forms, names, Dialect::Book) {
         Ok(compiled) => equations_alone(compiled),
         Err(SyntaxError::Fault(at, number)) => Err(NotRun::Fault(Fault { at, number })),
         Err(SyntaxError::Memory) => Err(NotRun::Memory),
     }
 }
 
-/// The program and the runs of a text, whose symbols get numbers; or the fault for which it isn't run: that of the reading
+/// The program and the runs of a text, whose names get numbers; or the fault for which it isn't run: that of the reading
 /// of its data, or else that of the data, or else that it has a constraint that isn't built yet.
+#[tactic(auto, using(goal_syntax::proofs::Compiling::OfTextLaws::read_of_text))]
 pub(crate) fn compile_text(
     alloc: Global,
     text: &[u8],
     names: &mut Names,
 ) -> Result<Compiled, NotRun>
     requires short { length text.now ≤ 1048576 }
-    requires empty { names.old ≡ [] }
+    requires empty { names.old ≡ no_names }
     ensures { ComesTo text.now names.new result }
 {
     match read(alloc, text, names) {

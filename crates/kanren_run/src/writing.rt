@@ -3,12 +3,13 @@
 ghost use Rattle.std.specs.Prelude.{◌≡◌, ◌+◌, ◌++◌, ◌≤◌, [], ◌∷◌, map, true, false, IfOk, OnOk, string_bytes};
 ghost use Rattle.std.specs.List.{list_all};
 ghost use Rattle.kan_model.specs.Programs.Closed as programs;
-ghost use Rattle.kan_model.specs.Streams.Taking.{taken};
+ghost use Rattle.kan_model.specs.Streams.Taking.{take_query};
 ghost use Rattle.kan_model.specs.Answers.Output.{taken_text, runs_output};
 ghost use Rattle.kan_search.specs.Batches.{ending_of};
 ghost use Rattle.kan_model.specs.Programs.Closed.{query_of};
-ghost use Rattle.kan_search.specs.Searches.{left};
-ghost use Rattle.kanren_run.specs.Answers.{is_fuel, spends};
+ghost use Rattle.kan_search.specs.Searches.{left, pulls_made, round_of};
+ghost use Rattle.kan_grammar.specs.Texts.Reply.{is_spent};
+ghost use Rattle.kanren_run.specs.Answers.{spends};
 ghost use Rattle.kanren_run.specs.Equations.{HasEquations, Each};
 ghost use Rattle.kanren_run.specs.Writing.{CanRun, Puts, WritesNext, answer_lines, end_text, rest_text, memory_wanted, sink_failed};
 
@@ -114,10 +115,10 @@ fn write_next<K: Sink, St: Store>(
     names: &Names,
     sink: &mut K,
 ) -> Result<Option<Ended>, Stop>
-    requires round { 1 ≤ search.old.round }
+    requires round { 1 ≤ round_of search.old }
     requires equations { Each HasEquations (left St.meaning search.old).stores }
-    ensures next { WritesNext names.now (left St.meaning search.old) answers.old search.old.pulls (left St.meaning search.new) answers.new search.new.pulls (K.view sink.old) (K.view sink.new) result }
-    ensures round { search.new.round ≡ search.old.round }
+    ensures next { WritesNext names.now (left St.meaning search.old) answers.old (pulls_made search.old) (left St.meaning search.new) answers.new (pulls_made search.new) (K.view sink.old) (K.view sink.new) result }
+    ensures round { round_of search.new ≡ round_of search.old }
 {
     let batch = search.advance_alone(alloc)?;
     *answers = sum(*answers, batch.answers.len())?;
@@ -134,9 +135,9 @@ fn write_search<K: Sink, St: Store>(
     names: &Names,
     sink: &mut K,
 ) -> Result<Ended, Stop>
-    requires round { 1 ≤ search.old.round }
+    requires round { 1 ≤ round_of search.old }
     requires equations { Each HasEquations (left St.meaning search.old).stores }
-    ensures puts { Puts (rest_text names.now 0 search.old.pulls (left St.meaning search.old)) (K.view sink.old) (K.view sink.new) result }
+    ensures puts { Puts (rest_text names.now 0 (pulls_made search.old) (left St.meaning search.old)) (K.view sink.old) (K.view sink.new) result }
     ensures ended { IfOk result (λ ended. ending_of ended ≡ (left St.meaning search.old).ending) }
 {
     let mut answers = 0;
@@ -161,8 +162,8 @@ fn write_query<K: Sink, St: Store>(
 ) -> Result<Ended, Stop>
     requires can_run { CanRun program.now (query.now ∷ []) }
     requires fuel { 1 ≤ fuel × (fuel ≤ 1000000) }
-    ensures puts { Puts (taken_text names.now (taken (programs.meaning program.now) fuel (query_of program.now query.now))) (K.view sink.old) (K.view sink.new) result }
-    ensures ended { IfOk result (λ ended. ending_of ended ≡ (taken (programs.meaning program.now) fuel (query_of program.now query.now)).ending) }
+    ensures puts { Puts (taken_text names.now (take_query (programs.meaning program.now) fuel (query_of program.now query.now))) (K.view sink.old) (K.view sink.new) result }
+    ensures ended { IfOk result (λ ended. ending_of ended ≡ (take_query (programs.meaning program.now) fuel (query_of program.now query.now)).ending) }
 {
     let mut search: Search<St> = Search::open(alloc, program, query, fuel, ROUND)?;
     let ended = write_search(alloc, &mut search, names, sink)?;
@@ -170,8 +171,8 @@ fn write_query<K: Sink, St: Store>(
 }
 
 // Whether a run ended by its fuel.
-fn is_spent(ended: Ended) -> bool
-    ensures { result ≡ is_fuel (ending_of ended) }
+fn ended_by_fuel(ended: Ended) -> bool
+    ensures { result ≡ is_spent (ending_of ended) }
 {
     matches!(ended, Ended::Fuel)
 }
@@ -193,7 +194,7 @@ pub(crate) fn write_runs<K: Sink, St: Store>(
     let mut spent = false;
     for query in queries {
         let ended = write_query::<K, St>(alloc, program, query, fuel, names, sink)?;
-        spent |= is_spent(ended);
+        spent |= ended_by_fuel(ended);
     }
     Ok(spent)
 }

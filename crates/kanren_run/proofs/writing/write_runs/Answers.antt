@@ -1,7 +1,7 @@
 use Rattle.std.proofs.Common.{ap, ◌∙◌}
 use Rattle.kan_model.specs.Programs.Closed as programs
 use Rattle.kan_model.specs.Programs.Closed.{query_of}
-use Rattle.kanren_run.specs.Answers.{is_fuel}
+use Rattle.kan_grammar.specs.Texts.Reply.{is_spent}
 use Rattle.kanren_run.proofs.WritingLaws.{can-at, err_puts, runs-written, runs-stopped, spends-at}
 use Rattle.kanren_run.proofs.writing.write_runs.Goals as goal
 
@@ -17,6 +17,6 @@ returns-in_err-ended-clause-puts g c =
 pub loop-query-preserved : goal.loop-query-preserved
 loop-query-preserved g c = record {
   written = runs-written c.args.names.now (programs.meaning c.args.program.now) c.args.fuel (query_of c.args.program.now) c.args.queries.now c.loop-query.query-index _ _ _ _ _ c.loop-query-test.true c.loop-query.invariant.written c.in_ok-ended.ensures.puts;
-  spent = spends-at (programs.meaning c.args.program.now) c.args.fuel (query_of c.args.program.now) c.args.queries.now c.loop-query.query-index _ c.loop-query.spent c.is_spent-spent.result _ c.loop-query-test.true
-      (c.is_spent-spent.ensures ∙ ap is_fuel c.in_ok-ended.ensures.ended) c.loop-query.invariant.spent;
+  spent = spends-at (programs.meaning c.args.program.now) c.args.fuel (query_of c.args.program.now) c.args.queries.now c.loop-query.query-index _ c.loop-query.spent c.ended_by_fuel-spent.result _ c.loop-query-test.true
+      (c.ended_by_fuel-spent.ensures ∙ ap is_spent c.in_ok-ended.ensures.ended) c.loop-query.invariant.spent;
 }

@@ -14,6 +14,6 @@ invariant-loop-ended g l = record {
   ending : (left g.St.Store.meaning l.search).ending ≡ (left g.St.Store.meaning l.fn.search).ending;
 }
 
--- what is left to be taken
+-- what is left to be take_query
 abbrev pub decreases-loop-ended : goal.decreases-loop-ended
 decreases-loop-ended g l = length (left g.St.Store.meaning l.search).stores + (left g.St.Store.meaning l.search).pulls
