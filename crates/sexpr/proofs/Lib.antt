@@ -5,3 +5,4 @@ pub mod FrameLaws
 pub mod ReadLaws
 pub mod PrintLaws
 pub mod KeptLaws
+pub mod ReplyLaws
