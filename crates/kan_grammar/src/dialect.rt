@@ -5,6 +5,7 @@
 pub enum Dialect {
     /// The book's: no other goal.
     Book,
-    /// Each `fresh` and each `conde` too, also the `fresh` that a run over a list of names stands for.
+    /// Each `fresh` and each `conde` too, also the `fresh` that a run over a list of names stands
+    /// for.
     All,
 }

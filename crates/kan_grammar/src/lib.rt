@@ -1,4 +1,5 @@
-//! The grammar of texts, as definitions: words, data, forms, programs and faults, with the laws that tie them together.
+//! The grammar of texts, as definitions: words, data, forms, programs and faults, with the laws
+//! that tie them together.
 #![tactic(auto)]
 
 mod dialect;

@@ -10,7 +10,7 @@ use Rattle.kan_grammar.specs.Data.Faults.{fault, refusal, after, begins, first_f
 use Rattle.sexpr.specs.Meaning.{prefix_of, shape_of}
 use Rattle.sexpr.specs.Seen.{written, as_kept}
 use Rattle.kan_terms.specs.Table.{Table}
-use Rattle.sexpr.specs.Frames.{after_point, inside, place, enclosing_of, deepened, HasDepth, Takes}
+use Rattle.sexpr.specs.Frames.{after_point, inside, place, enclosing_of, depth_inside, HasDepth, Takes}
 use Rattle.sexpr.specs.declared.data.Datum.{Datum}
 use Rattle.sexpr.specs.declared.data.Prefix.{Prefix}
 use Rattle.sexpr.specs.declared.data.DatumKind.TheVariants as kinds
@@ -33,17 +33,17 @@ point_depth : (names : Table) (p : Place Written) (at : ℕ) (s : Shape) (ds : L
 point_depth names p at s [] point h = absurd (omega arith)
 point_depth names p at s (d ∷ ds) point h = ap (λ n. depth p + suc n) (map_count (written names) ds)
 
-inside_depth : (names : Table) (p : Place Written) (f : Frame) → depth (inside names p f) ≡ deepened (depth p) f
+inside_depth : (names : Table) (p : Place Written) (f : Frame) → depth (inside names p f) ≡ depth_inside (depth p) f
 inside_depth names p (frames.List l) = ap (λ n. depth p + suc n) (map_count (written names) l.items)
 inside_depth names p (frames.Dotted l) = point_depth names p l.at (shape_of l.shape) l.items l.point l.has_first
 inside_depth names p (frames.Prefix at q) = refl
 
-frames_depth : (names : Table) (p : Place Written) (fs : List Frame) → depth (fold (inside names) p fs) ≡ fold deepened (depth p) fs
+frames_depth : (names : Table) (p : Place Written) (fs : List Frame) → depth (fold (inside names) p fs) ≡ fold depth_inside (depth p) fs
 frames_depth names p [] = refl
-frames_depth names p (f ∷ fs) = frames_depth names (inside names p f) fs ∙ ap (λ n. fold deepened n fs) (inside_depth names p f)
+frames_depth names p (f ∷ fs) = frames_depth names (inside names p f) fs ∙ ap (λ n. fold depth_inside n fs) (inside_depth names p f)
 
 -- what is kept as the depth is that of the next datum
-pub depth_is : (names : Table) (o : stacks.Enclosing) → o.depth ≡ fold deepened 0 o.frames.items → depth (place names o) ≡ o.depth
+pub depth_is : (names : Table) (o : stacks.Enclosing) → o.depth ≡ fold depth_inside 0 o.frames.items → depth (place names o) ≡ o.depth
 depth_is names o h = frames_depth names (top (map (written names) o.top)) o.frames.items ∙ sym h
 
 -- one frame more

@@ -46,10 +46,10 @@ abbrev pub enclosing_of : Table → stacks.Enclosing → Enclosing Written
 enclosing_of names o = ended_in names (place names o) o.ended
 
 -- how deep the next datum stands inside one frame more
-abbrev pub deepened : ℕ → Frame → ℕ
-deepened n (frames.List l) = n + suc (length l.items)
-deepened n (frames.Dotted l) = n + length l.items
-deepened n (frames.Prefix at q) = n + 2
+abbrev pub depth_inside : ℕ → Frame → ℕ
+depth_inside n (frames.List l) = n + suc (length l.items)
+depth_inside n (frames.Dotted l) = n + length l.items
+depth_inside n (frames.Prefix at q) = n + 2
 
 -- a list whose last datum is there is still to be put at its place
 abbrev pub HasRoom : Option Ended → ℕ → Type 0
@@ -58,7 +58,7 @@ HasRoom (Some e) n = n < 2050
 
 -- the depth that is kept is that inside all frames
 pub record HasDepth (o : stacks.Enclosing) : Type 0 where
-  pub inside_all : o.depth ≡ fold deepened 0 o.frames.items
+  pub inside_all : o.depth ≡ fold depth_inside 0 o.frames.items
   pub bounded : o.depth ≤ 2050
   pub room : HasRoom o.ended o.depth
 

@@ -1,5 +1,5 @@
 -- What is left to print of a datum.
-use Rattle.std.specs.Prelude.{ℕ, ◌+◌, List, [], ◌∷◌, ◌++◌, map, Option, None, Some}
+use Rattle.std.specs.Prelude.{◌≡◌, ℕ, ◌+◌, ◌<◌, List, [], ◌∷◌, ◌++◌, map, Option, None, Some}
 use Rattle.std.specs.Borrow.{Bor}
 use Rattle.std.specs.Option.{option_map, option_copied}
 use Rattle.kan_model.specs.Answers.Text.{in_quotes, print_rest}
@@ -59,3 +59,11 @@ work_cost names works.Close = 1
 abbrev pub works_cost : Table → List Work → ℕ
 works_cost names [] = 0
 works_cost names (w ∷ ws) = work_cost names w + works_cost names ws
+
+-- from a text and a stack of work to others: what was put and what is left are this text and what was left below it
+abbrev pub Prints : Table → List ℕ → List ℕ → List Work → List Work → List ℕ → Type 0
+Prints names before after below works text = after ++ works_text names works ≡ before ++ (text ++ works_text names below)
+
+-- and the work that is left takes less than this and what was left below it
+abbrev pub Falls : Table → List Work → List Work → ℕ → Type 0
+Falls names below works taken = works_cost names works < taken + works_cost names below

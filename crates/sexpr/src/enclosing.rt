@@ -10,7 +10,7 @@ ghost use Rattle.sexpr.specs.Meaning.{shape_of, prefix_of};
 ghost use Rattle.sexpr.specs.Seen.{list_of, written, as_kept};
 ghost use Rattle.kan_terms.specs.Table.{Table};
 ghost use Rattle.sexpr.specs.Reads.{Answers, memory_wanted};
-ghost use Rattle.sexpr.specs.Frames.{HasDepth, Refuses, RefusesToken, Takes, deepened, inside, enclosing_of, place};
+ghost use Rattle.sexpr.specs.Frames.{HasDepth, Refuses, RefusesToken, Takes, depth_inside, inside, enclosing_of, place};
 
 use crate::data::{Data, Datum, DatumKind, Prefix, ReadError};
 use crate::frame::{DottedFrame, Ended, Frame, ListFrame};
@@ -21,8 +21,8 @@ use std::alloc::Global;
 /// The greatest depth at which a datum may begin.
 const DEEPEST: usize = 2048;
 
-/// What is open: the data at the top, the frames from the outermost to the innermost, and the list in them whose last datum is
-/// there.
+/// What is open: the data at the top, the frames from the outermost to the innermost, and the list
+/// in them whose last datum is there.
 #[derive(Drop)]
 pub(crate) struct Enclosing {
     top: Data,
@@ -54,7 +54,7 @@ impl Enclosing {
         ensures place { OnOk result (self.now.ended ≡ None) }
         ensures depth { OnOk result (self.now.depth ≤ 2048) }
         ensures refused { IfErr result (λ e.
-            (names : Table) (t : Token) → begins t ≡ true → Refuses e (refusal (enclosing_of names self.now) at t)) }
+            (t : Token) → begins t ≡ true → RefusesToken e self.now at t) }
     {
         if let Some(ended) = &self.ended {
             return Err(ReadError::Fault(ended.list.point, 5));
@@ -68,8 +68,10 @@ impl Enclosing {
     /// Opens a list.
     pub(crate) fn begin_list(&mut self, at: u32, shape: Shape) -> Result<(), ReadError>
         requires { HasDepth self.old }
-        ensures taken { OnOk result ((names : Table) → Takes names self.old self.new at (opening (shape_of shape))) }
-        ensures refused { IfErr result (λ e. RefusesToken e self.old at (opening (shape_of shape))) }
+        ensures taken { OnOk result
+            ((names : Table) → Takes names self.old self.new at (opening (shape_of shape))) }
+        ensures refused { IfErr result
+            (λ e. RefusesToken e self.old at (opening (shape_of shape))) }
         ensures depth { OnOk result (HasDepth self.new) }
     {
         self.may_begin(at)?;
@@ -83,7 +85,8 @@ impl Enclosing {
     /// Takes a prefix, whose datum is to follow.
     pub(crate) fn begin_prefixed(&mut self, at: u32, kind: Prefix) -> Result<(), ReadError>
         requires { HasDepth self.old }
-        ensures taken { OnOk result ((names : Table) → Takes names self.old self.new at (prefix (prefix_of kind))) }
+        ensures taken { OnOk result
+            ((names : Table) → Takes names self.old self.new at (prefix (prefix_of kind))) }
         ensures refused { IfErr result (λ e. RefusesToken e self.old at (prefix (prefix_of kind))) }
         ensures depth { OnOk result (HasDepth self.new) }
     {
@@ -97,9 +100,9 @@ impl Enclosing {
     pub(crate) fn take_single(&mut self, at: u32, kind: DatumKind) -> Result<(), ReadError>
         requires { HasDepth self.old }
         ensures taken { OnOk result ((names : Table) (a : Atom) → is_allowed_atom a ≡ true
-            → written names (record { at = at; kind = kind }) ≡ single at a → Takes names self.old self.new at (atom a)) }
-        ensures refused { IfErr result (λ e.
-            (names : Table) (a : Atom) → Refuses e (refusal (enclosing_of names self.old) at (atom a))) }
+            → written names (record { at = at; kind = kind }) ≡ single at a
+            → Takes names self.old self.new at (atom a)) }
+        ensures refused { IfErr result (λ e. (a : Atom) → RefusesToken e self.old at (atom a)) }
         ensures depth { OnOk result (HasDepth self.new) }
     {
         self.may_begin(at)?;
@@ -109,7 +112,7 @@ impl Enclosing {
     /// Refuses a number out of range, where a datum may begin at all.
     pub(crate) fn out_of_range(&self, at: u32) -> ReadError
         requires { HasDepth self.now }
-        ensures { (names : Table) → Refuses result (refusal (enclosing_of names self.now) at (atom out_of_range)) }
+        ensures { RefusesToken result self.now at (atom out_of_range) }
     {
         match self.may_begin(at) {
             Ok(()) => ReadError::Fault(at, 7),
@@ -120,7 +123,7 @@ impl Enclosing {
     /// Refuses a reserved name, where a datum may begin at all.
     pub(crate) fn reserved(&self, at: u32) -> ReadError
         requires { HasDepth self.now }
-        ensures { (names : Table) → Refuses result (refusal (enclosing_of names self.now) at (atom reserved)) }
+        ensures { RefusesToken result self.now at (atom reserved) }
     {
         match self.may_begin(at) {
             Ok(()) => ReadError::Fault(at, 8),
@@ -164,8 +167,10 @@ impl Enclosing {
     /// Takes a close.
     pub(crate) fn take_close(&mut self, at: u32, shape: Shape) -> Result<(), ReadError>
         requires { HasDepth self.old }
-        ensures taken { OnOk result ((names : Table) → Takes names self.old self.new at (closing (shape_of shape))) }
-        ensures refused { IfErr result (λ e. RefusesToken e self.old at (closing (shape_of shape))) }
+        ensures taken { OnOk result
+            ((names : Table) → Takes names self.old self.new at (closing (shape_of shape))) }
+        ensures refused { IfErr result
+            (λ e. RefusesToken e self.old at (closing (shape_of shape))) }
         ensures depth { OnOk result (HasDepth self.new) }
     {
         if let Some(ended) = self.ended.take() {
@@ -185,14 +190,18 @@ impl Enclosing {
 
     /// Closes a list that was taken from the frames.
     fn close_list(&mut self, at: u32, shape: Shape, list: ListFrame) -> Result<(), ReadError>
-        requires depth { self.old.depth ≡ fold deepened 0 (self.old.frames.items ++ Frame.List list ∷ []) }
+        requires depth { self.old.depth
+            ≡ fold depth_inside 0 (self.old.frames.items ++ Frame.List list ∷ []) }
         requires bounded { self.old.depth ≤ 2050 }
         requires place { self.old.ended ≡ None }
-        ensures shape { OnOk result (is_shape (Some (shape_of list.shape)) (shape_of shape) ≡ true) }
+        ensures shape { OnOk result
+            (is_shape (Some (shape_of list.shape)) (shape_of shape) ≡ true) }
         ensures around { OnOk result ((names : Table) → enclosing_of names self.new
-            ≡ put as_kept (place names self.old) (list_of list.at (map (written names) list.items) None)) }
+            ≡ put as_kept (place names self.old)
+            (list_of list.at (map (written names) list.items) None)) }
         ensures refused { IfErr result (λ e.
-            Refuses e (if is_shape (Some (shape_of list.shape)) (shape_of shape) then None else Some (fault at 3))) }
+            Refuses e (if is_shape (Some (shape_of list.shape)) (shape_of shape)
+            then None else Some (fault at 3))) }
         ensures depth { OnOk result (HasDepth self.new) }
     {
         if !list.shape.is_closed_by(shape) {
@@ -208,12 +217,15 @@ impl Enclosing {
         requires depth { HasDepth self.old }
         requires room { self.old.depth < 2050 }
         requires place { self.old.ended ≡ None }
-        ensures shape { OnOk result (is_shape (Some (shape_of ended.list.shape)) (shape_of shape) ≡ true) }
+        ensures shape { OnOk result
+            (is_shape (Some (shape_of ended.list.shape)) (shape_of shape) ≡ true) }
         ensures around { OnOk result ((names : Table) → enclosing_of names self.new
             ≡ put as_kept (place names self.old)
-            (list_of ended.list.at (map (written names) ended.list.items) (Some (written names ended.last)))) }
+            (list_of ended.list.at (map (written names) ended.list.items)
+            (Some (written names ended.last)))) }
         ensures refused { IfErr result (λ e.
-            Refuses e (if is_shape (Some (shape_of ended.list.shape)) (shape_of shape) then None else Some (fault at 3))) }
+            Refuses e (if is_shape (Some (shape_of ended.list.shape)) (shape_of shape)
+            then None else Some (fault at 3))) }
         ensures depth { OnOk result (HasDepth self.new) }
     {
         let Ended { list, last } = ended;
@@ -247,7 +259,8 @@ impl Enclosing {
         requires room { self.old.depth < 2050 }
         requires place { self.old.ended ≡ None }
         ensures around { OnOk result ((names : Table) →
-            enclosing_of names self.new ≡ put as_kept (place names self.old) (written names datum)) }
+            enclosing_of names self.new
+            ≡ put as_kept (place names self.old) (written names datum)) }
         ensures refused { IfErr result (λ e. e ≡ memory_wanted) }
         ensures depth { OnOk result (HasDepth self.new) }
     {
@@ -275,7 +288,8 @@ impl Enclosing {
 
     /// Puts a datum behind the elements of a list that was taken from the frames.
     fn reopen(&mut self, list: ListFrame, datum: Datum) -> Result<(), ReadError>
-        requires depth { self.old.depth ≡ fold deepened 0 (self.old.frames.items ++ Frame.List list ∷ []) }
+        requires depth { self.old.depth
+            ≡ fold depth_inside 0 (self.old.frames.items ++ Frame.List list ∷ []) }
         requires room { self.old.depth < 2050 }
         requires place { self.old.ended ≡ None }
         ensures around { OnOk result ((names : Table) → enclosing_of names self.new
@@ -293,10 +307,12 @@ impl Enclosing {
 
     /// Puts the datum after the dot of a list that was taken from the frames.
     fn end(&mut self, list: DottedFrame, last: Datum)
-        requires depth { self.old.depth ≡ fold deepened 0 (self.old.frames.items ++ Frame.Dotted list ∷ []) }
+        requires depth { self.old.depth
+            ≡ fold depth_inside 0 (self.old.frames.items ++ Frame.Dotted list ∷ []) }
         requires room { self.old.depth < 2050 }
         ensures around { (names : Table) → enclosing_of names self.new
-            ≡ put as_kept (inside names (place names self.old) (Frame.Dotted list)) (written names last) }
+            ≡ put as_kept (inside names (place names self.old) (Frame.Dotted list))
+            (written names last) }
         ensures depth { HasDepth self.new }
     {
         self.depth -= list.items.len();

@@ -1,8 +1,10 @@
-//! The laws that tie the data that are kept to the data of a text. Each function has its law for its contract, and does nothing.
+//! The laws that tie the data that are kept to the data of a text. Each function has its law for
+//! its contract, and does nothing.
 
 ghost use Rattle.sexpr.specs.Laws.{KeepsData, KeepsMeaning, KeepsSites, ReadsNamed, RepliesAsRead};
 
-/// The data that are kept of a text are made of those that are written in it, and its fault is the same.
+/// The data that are kept of a text are made of those that are written in it, and its fault is the
+/// same.
 pub fn keeps_data()
     ensures { KeepsData }
 {}

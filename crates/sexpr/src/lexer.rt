@@ -91,11 +91,13 @@ fn comma_piece<'a>(rest: &[u8]) -> Piece<'a>
     }
 }
 
-/// The piece of a quotation mark before these bytes. One that begins no string is a token by itself.
+/// The piece of a quotation mark before these bytes. One that begins no string is a token by
+/// itself.
 fn string_piece<'a>(text: &'a str, rest: &[u8]) -> Piece<'a>
     requires { text.now ≡ 34 ∷ rest.now }
     ensures piece { piece_of result ≡ string_piece (string_length false rest.now) rest.now }
-    ensures size { result.length ≡ suc (more (string_piece (string_length false rest.now) rest.now)) }
+    ensures size { result.length
+        ≡ suc (more (string_piece (string_length false rest.now) rest.now)) }
 {
     match string_length(rest) {
         Some(length) => spelled(Token::Atom(Atom::Text(&text[1..1 + length])), 2 + length),

@@ -8,7 +8,7 @@ ghost use Rattle.sexpr.specs.Seen.{written};
 ghost use Rattle.kan_terms.specs.Table.{name_of};
 ghost use Rattle.kan_model.specs.Answers.Decimals.{number_text};
 ghost use Rattle.kan_model.specs.Answers.Text.{truth_text};
-ghost use Rattle.sexpr.specs.Printing.{string_atom_text, within, rest_text, cost_within, work_text, works_text, work_cost, works_cost};
+ghost use Rattle.sexpr.specs.Printing.{string_atom_text, within, Falls, Prints, rest_text, cost_within, work_text, work_cost};
 ghost use Rattle.sexpr.specs.declared.printer.Work.TheVariants as work_variants;
 
 use crate::data::{Datum, DatumKind, Prefix};
@@ -30,9 +30,9 @@ pub(crate) enum Work<'a> {
     Close,
 }
 
-/// The text of a datum, as it is read as pairs: with round parentheses, one space between elements, and prefixes written out as
-/// lists. A symbol without a name prints as nothing, and so
-/// does a string without a text.
+/// The text of a datum, as it is read as pairs: with round parentheses, one space between elements,
+/// and prefixes written out as lists. A symbol without a name prints as nothing, and so does a
+/// string without a text.
 pub fn print(alloc: Global, datum: &Datum, names: &Names) -> Result<Vec<u8>, Memory>
     ensures { IfOk result (λ text. text.items ≡ datum_text (written names.now datum.now)) }
 {
@@ -52,9 +52,11 @@ fn print_work<'a>(
     text: &mut String,
     works: &mut Vec<Work<'a>>,
 ) -> Result<(), Memory>
-    ensures printed { OnOk result (string_bytes text.new ++ works_text names.now works.new.items
-        ≡ string_bytes text.old ++ (work_text names.now work.entry ++ works_text names.now works.old.items)) }
-    ensures falls { OnOk result (works_cost names.now works.new.items < work_cost names.now work.entry + works_cost names.now works.old.items) }
+    ensures printed { OnOk result (Prints names.now
+        (string_bytes text.old) (string_bytes text.new) works.old.items works.new.items
+        (work_text names.now work.entry)) }
+    ensures falls { OnOk result (Falls names.now works.old.items works.new.items
+        (work_cost names.now work.entry)) }
 {
     match work {
         Work::Datum(datum) => print_datum(datum, names, text, works),
@@ -74,9 +76,11 @@ fn print_datum<'a>(
     text: &mut String,
     works: &mut Vec<Work<'a>>,
 ) -> Result<(), Memory>
-    ensures printed { OnOk result (string_bytes text.new ++ works_text names.now works.new.items
-        ≡ string_bytes text.old ++ (work_text names.now (work_variants.Datum datum.entry) ++ works_text names.now works.old.items)) }
-    ensures falls { OnOk result (works_cost names.now works.new.items < work_cost names.now (work_variants.Datum datum.entry) + works_cost names.now works.old.items) }
+    ensures printed { OnOk result (Prints names.now
+        (string_bytes text.old) (string_bytes text.new) works.old.items works.new.items
+        (work_text names.now (work_variants.Datum datum.entry))) }
+    ensures falls { OnOk result (Falls names.now works.old.items works.new.items
+        (work_cost names.now (work_variants.Datum datum.entry))) }
 {
     match &datum.kind {
         DatumKind::Symbol(number) => text.push_str(names.name(*number).unwrap_or(""))?,
@@ -119,7 +123,8 @@ fn truth_name(truth: bool) -> &'static str
 /// Prints the string that has a number, and nothing where none has it.
 fn print_text(number: u32, names: &Names, text: &mut String) -> Result<(), Memory>
     ensures { OnOk result
-        (string_bytes text.new ≡ string_bytes text.old ++ string_atom_text (name_of names.now.strings number)) }
+        (string_bytes text.new
+        ≡ string_bytes text.old ++ string_atom_text (name_of names.now.strings number)) }
 {
     match names.string(number) {
         Some(string) => print_string(text, string),
@@ -135,10 +140,11 @@ fn print_list<'a>(
     text: &mut String,
     works: &mut Vec<Work<'a>>,
 ) -> Result<(), Memory>
-    ensures printed { OnOk result (string_bytes text.new ++ works_text names.now works.new.items
-        ≡ string_bytes text.old ++ (named_text (pairs_within (within names.now items.entry last.entry)) ++ works_text names.now works.old.items)) }
-    ensures falls { OnOk result (works_cost names.now works.new.items
-        < 3 + cost_within (within names.now items.entry last.entry) + works_cost names.now works.old.items) }
+    ensures printed { OnOk result (Prints names.now
+        (string_bytes text.old) (string_bytes text.new) works.old.items works.new.items
+        (named_text (pairs_within (within names.now items.entry last.entry)))) }
+    ensures falls { OnOk result (Falls names.now works.old.items works.new.items
+        (3 + cost_within (within names.now items.entry last.entry))) }
 {
     if let Some((first, rest)) = items.split_first() {
         text.push('(')?;
@@ -162,10 +168,11 @@ fn print_rest<'a>(
     text: &mut String,
     works: &mut Vec<Work<'a>>,
 ) -> Result<(), Memory>
-    ensures printed { OnOk result (string_bytes text.new ++ works_text names.now works.new.items
-        ≡ string_bytes text.old ++ (rest_text (pairs_within (within names.now items.entry last.entry)) ++ works_text names.now works.old.items)) }
-    ensures falls { OnOk result (works_cost names.now works.new.items
-        < 1 + cost_within (within names.now items.entry last.entry) + works_cost names.now works.old.items) }
+    ensures printed { OnOk result (Prints names.now
+        (string_bytes text.old) (string_bytes text.new) works.old.items works.new.items
+        (rest_text (pairs_within (within names.now items.entry last.entry)))) }
+    ensures falls { OnOk result (Falls names.now works.old.items works.new.items
+        (1 + cost_within (within names.now items.entry last.entry))) }
 {
     if let Some((first, rest)) = items.split_first() {
         text.push(' ')?;
@@ -179,16 +186,19 @@ fn print_rest<'a>(
     Ok(())
 }
 
-/// Prints the datum after the dot of a list, as far as its first part: a list goes on with its elements.
+/// Prints the datum after the dot of a list, as far as its first part: a list goes on with its
+/// elements.
 fn print_tail<'a>(
     datum: &'a Datum,
     names: &Names,
     text: &mut String,
     works: &mut Vec<Work<'a>>,
 ) -> Result<(), Memory>
-    ensures printed { OnOk result (string_bytes text.new ++ works_text names.now works.new.items
-        ≡ string_bytes text.old ++ (work_text names.now (work_variants.Tail datum.entry) ++ works_text names.now works.old.items)) }
-    ensures falls { OnOk result (works_cost names.now works.new.items < work_cost names.now (work_variants.Tail datum.entry) + works_cost names.now works.old.items) }
+    ensures printed { OnOk result (Prints names.now
+        (string_bytes text.old) (string_bytes text.new) works.old.items works.new.items
+        (work_text names.now (work_variants.Tail datum.entry))) }
+    ensures falls { OnOk result (Falls names.now works.old.items works.new.items
+        (work_cost names.now (work_variants.Tail datum.entry))) }
 {
     match &datum.kind {
         DatumKind::List(items, last) => works.push(Work::Rest(items.as_slice(), lent(last)))?,
@@ -213,10 +223,13 @@ fn print_last<'a>(
     text: &mut String,
     works: &mut Vec<Work<'a>>,
 ) -> Result<(), Memory>
-    requires { rest_text (pairs (written names.now datum.now)) ≡ codes " . " ++ named_text (pairs (written names.now datum.now)) }
-    ensures printed { OnOk result (string_bytes text.new ++ works_text names.now works.new.items
-        ≡ string_bytes text.old ++ (work_text names.now (work_variants.Tail datum.entry) ++ works_text names.now works.old.items)) }
-    ensures falls { OnOk result (works_cost names.now works.new.items < work_cost names.now (work_variants.Tail datum.entry) + works_cost names.now works.old.items) }
+    requires { rest_text (pairs (written names.now datum.now))
+        ≡ codes " . " ++ named_text (pairs (written names.now datum.now)) }
+    ensures printed { OnOk result (Prints names.now
+        (string_bytes text.old) (string_bytes text.new) works.old.items works.new.items
+        (work_text names.now (work_variants.Tail datum.entry))) }
+    ensures falls { OnOk result (Falls names.now works.old.items works.new.items
+        (work_cost names.now (work_variants.Tail datum.entry))) }
 {
     text.push_str(" . ")?;
     works.push(Work::Datum(datum))?;

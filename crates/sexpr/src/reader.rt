@@ -18,8 +18,9 @@ use crate::token::{Atom, Token};
 use kan_terms::Names;
 use std::alloc::Global;
 
-/// The data of a text, or its first fault: its offset and the number of its refusal. The names of symbols and the texts of
-/// strings are added to the table, also where the text is refused; those that were there keep their numbers.
+/// The data of a text, or its first fault: its offset and the number of its refusal. The names of
+/// symbols and the texts of strings are added to the table, also where the text is refused; those
+/// that were there keep their numbers.
 pub fn read(alloc: Global, bytes: &[u8], names: &mut Names) -> Result<Data, ReadError>
     requires size { length bytes.now ≤ 1048576 }
     requires room { CanGrow (length bytes.now) names.old }
@@ -161,7 +162,8 @@ fn take_string(
         RefusesToken e enclosing.old at (words.atom (string (string_meaning false spelling.now)))) }
     ensures depth { OnOk result (HasDepth enclosing.new) }
     ensures numbered { OnOk result
-        (names.new ≡ with_token names.old (words.atom (string (string_meaning false spelling.now)))) }
+        (names.new ≡ with_token names.old
+        (words.atom (string (string_meaning false spelling.now)))) }
     ensures extends { Extends 1 names.old names.new }
 {
     let text = string_text(enclosing.alloc, spelling)?;

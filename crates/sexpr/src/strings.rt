@@ -32,8 +32,8 @@ fn byte_role(escape: bool, byte: u8) -> Role
     }
 }
 
-/// How many bytes come before the mark that closes a string, whose first mark stands before these bytes. None where it isn't
-/// closed, or holds what no string may.
+/// How many bytes come before the mark that closes a string, whose first mark stands before these
+/// bytes. None where it isn't closed, or holds what no string may.
 pub(crate) fn string_length(bytes: &[u8]) -> Option<usize>
     ensures length { result ≡ string_length false bytes.now }
     ensures within { IfSome result (λ count. count < length bytes.now) }
@@ -52,7 +52,8 @@ pub(crate) fn string_length(bytes: &[u8]) -> Option<usize>
     None
 }
 
-/// Whether what follows a character stands directly behind a backslash: one that does so itself begins nothing.
+/// Whether what follows a character stands directly behind a backslash: one that does so itself
+/// begins nothing.
 fn begins_escape(escape: bool, character: char) -> bool
     ensures { result ≡ begins_escape escape character }
 {
@@ -74,7 +75,8 @@ pub(crate) fn string_text(alloc: Global, spelling: &str) -> Result<String, Memor
 
 /// Puts what a character of a string means, directly behind a backslash or not.
 fn push_meaning(text: &mut String, escape: bool, character: char) -> Result<(), Memory>
-    ensures { OnOk result (string_bytes text.new ≡ string_bytes text.old ++ character_meaning escape character) }
+    ensures { OnOk result
+        (string_bytes text.new ≡ string_bytes text.old ++ character_meaning escape character) }
 {
     if escape {
         text.push(escape_meaning(character))?;
@@ -110,7 +112,8 @@ pub fn print_string(text: &mut String, string: &str) -> Result<(), Memory>
 
 /// Prints a character of a string. Five have a spelling of two.
 fn print_character(text: &mut String, character: char) -> Result<(), Memory>
-    ensures { OnOk result (string_bytes text.new ≡ string_bytes text.old ++ character_text character) }
+    ensures { OnOk result
+        (string_bytes text.new ≡ string_bytes text.old ++ character_text character) }
 {
     match character {
         '"' => text.push_str("\\\"")?,

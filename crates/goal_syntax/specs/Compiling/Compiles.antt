@@ -47,7 +47,7 @@ pub record IsCompiled (dialect : Dialect) (names : Table) (library text : List D
   pub relations : (programs.meaning program).relations ≡ relations_meant dialect names library text
   pub queries_are : map (programs.query_of program) queries ≡ queries_meant dialect names library text
   -- relations have the names at the heads of their defrels
-  pub names : entry_names (programs.tables program) ≡ relation_names names (sites_of names library ++ sites_of names text)
+  pub heads : entry_names (programs.tables program) ≡ relation_names names (sites_of names library ++ sites_of names text)
   -- nothing is open in it, with the goals of the runs
   pub closed : are_closed (programs.tables program) (map goal_place queries) ≡ true
   pub small : is_small (programs.meaning program) ≡ true
