@@ -129,14 +129,14 @@ module _ {I St : Type 0} (t : Table I) (p : code.Program) (means : St → Store)
 
   -- a goal that pauses may be run
   pub record MayResume (goal : ℕ) (env : Env) (store : St) : Type 0 where
-    pub is : IsOf (programs.meaning p) (programs.goal p goal) (terms_of env)
+    pub found : IsOf (programs.meaning p) (programs.goal p goal) (terms_of env)
     pub below : list_all (all_below (means store).counter) (terms_of env) ≡ true
     pub room : (means store).counter ≤ 2 ^ 62
 
   pub pause-may : (thunk : Suspension I St) (goal : ℕ) (env : Env) (store : St) → thunk ≡ Pause goal env store → MayForce t.program (thunk_in t means thunk) → MayResume goal env store
   pause-may thunk goal env store paused may =
       let ((there, slots, below), most) = subst (λ q. MayForce q (Thunk.pause (goal_in q goal) (terms_of env) (means store))) is.program (subst (λ u. MayForce t.program (thunk_in t means u)) paused may) in
-      record { is = (there, slots); below = below; room = omega (arith, most) }
+      record { found = (there, slots); below = below; room = omega (arith, most) }
 
   pub paused-force : (thunk : Suspension I St) (goal : ℕ) (env : Env) (store : St) (made : Stream) → thunk ≡ Pause goal env store →
       made ≡ run (programs.goal p goal) (terms_of env) (means store) → made ≡ force t.program (thunk_in t means thunk)

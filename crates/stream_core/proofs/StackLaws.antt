@@ -1,7 +1,7 @@
 -- What is put on a stack comes first.
 use Rattle.std.specs.Prelude.{Option, Some, None, MatchOption}
 use Rattle.std.specs.Option.{option_to_list}
-use Rattle.std.proofs.Common.{◌≡◌, ℕ, ◌-◌, ◌<◌, length, arith, take, append-nil, List, [], ◌∷◌, ◌++◌, refl, ap, ap₂, ◌∙◌}
+use Rattle.std.proofs.Common.{◌≡◌, ℕ, ◌-◌, ◌<◌, length, arith, take, append-nil, List, [], ◌∷◌, ◌++◌, refl, sym, ap, ap₂, ◌∙◌}
 use Rattle.std.proofs.lemmas.List.{length-append}
 use Rattle.stream_core.specs.CodeTasks.{stack}
 
@@ -43,3 +43,6 @@ none-pop f o new old n m B whole front cases other = ap (stack f) (none-left o n
 pub stack-length : {X Y : Type 0} (f : X → Y) (xs : List X) → length (stack f xs) ≡ length xs
 stack-length f [] = refl
 stack-length f (x ∷ xs) = let one = length-append (stack f xs) (f x ∷ []) in let rest = stack-length f xs in omega (arith, one, rest)
+
+pub not-some : {T : Type 0} (o : Option T) → o ≡ None → (x : T) → o ≡ Some x → ⊥
+not-some o none x some = let bad : None ≡ Some x = sym none ∙ some in cc

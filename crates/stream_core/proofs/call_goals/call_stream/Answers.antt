@@ -12,14 +12,14 @@ use Rattle.stream_core.proofs.call_goals.call_stream.Goals as goal
 pub name_all-requires-clause-room : goal.name_all-requires-clause-room
 name_all-requires-clause-room g c =
     let p = c.args.program.now in
-    arguments-many (programs.templates p) _ (programs.tables p).arguments c.args.call.at c.args.call.count (g.St.Store.meaning c.args.store).counter c.arguments.ensures c.requires.room
+    arguments-many (programs.templates p) _ (programs.tables p).arguments c.args.call.at c.args.call.count (g.St.Store.meaning c.args.store).counter c.arguments-arguments.ensures c.requires.room
 
 pub suspend-requires-clause-fits : goal.suspend-requires-clause-fits
 suspend-requires-clause-fits g c =
     let p = c.args.program.now in
     let before = g.St.Store.meaning c.args.store in
     let env = terms_of c.args.env.now in
-    let named = subst (λ xs. NamesFirst before (instances env (map (programs.template p) xs)) _ (g.St.Store.meaning c.in_ok-values.store)) c.arguments.ensures c.in_ok-values.ensures in
+    let named = subst (λ xs. NamesFirst before (instances env (map (programs.template p) xs)) _ (g.St.Store.meaning c.in_ok-values.store)) c.arguments-arguments.ensures c.in_ok-values.ensures in
     subst (λ q. Fits q (model.Thunk.call c.args.call.rel _ (g.St.Store.meaning c.in_ok-values.store))) (sym c.requires.table.program)
     (call-fits (programs.meaning p) c.args.call.rel before (g.St.Store.meaning c.in_ok-values.store) env (arguments_of p c.args.call.at c.args.call.count) _ _
     named c.of-args.ensures c.requires.below c.requires.there)
@@ -29,6 +29,6 @@ returns-clause-made g c =
     let p = c.args.program.now in
     let before = g.St.Store.meaning c.args.store in
     let env = terms_of c.args.env.now in
-    let named = subst (λ xs. NamesFirst before (instances env (map (programs.template p) xs)) _ (g.St.Store.meaning c.in_ok-values.store)) c.arguments.ensures c.in_ok-values.ensures in
+    let named = subst (λ xs. NamesFirst before (instances env (map (programs.template p) xs)) _ (g.St.Store.meaning c.in_ok-values.store)) c.arguments-arguments.ensures c.in_ok-values.ensures in
     ap₂ model.Stream.goes_on (ap (map g.St.Store.meaning) c.new.ensures) (c.in_ok-tail.ensures.stands.1 ∙ ap (λ vs. model.Thunk.call c.args.call.rel vs (g.St.Store.meaning c.in_ok-values.store)) c.of-args.ensures)
     ∙ call-waits c.args.call.rel before _ _ _ named

@@ -6,10 +6,10 @@ use Rattle.stream_core.proofs.StreamLaws.{on-ok}
 use Rattle.stream_core.proofs.TaskLaws.{each-last}
 use Rattle.stream_core.proofs.compound_goals.run_at_each.Goals as goal
 
-pub returns-in_ok-push_run : goal.returns-in_ok-push_run
-returns-in_ok-push_run g c goals =
+pub returns : goal.returns
+returns g c =
     let means = g.St.Store.meaning in
-    let f = task means goals in
-    c.in_ok-push_run.ensures goals
+    on-ok _ _ _ (λ h goals.
+    h goals
     ∙ ap (λ ts. pending.Task.run_at (goals c.args.goal) (terms_of c.args.env) (means c.in-Some.last) ∷ pending.Task.append_two ∷ ts) (c.in_ok-run_at_copies.ensures goals)
-    ∙ each-last means (goals c.args.goal) (terms_of c.args.env) c.args.heads c.pop.new.self c.in-Some.last (stack f c.args.tasks.now.items) c.in-Some.ensures.last
+    ∙ each-last means (goals c.args.goal) (terms_of c.args.env) c.args.heads c.pop.new.self c.in-Some.last (stack (task means goals) c.args.tasks.now.items) c.in-Some.ensures.last) c.push_run.ensures

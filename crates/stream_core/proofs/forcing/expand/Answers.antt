@@ -11,7 +11,7 @@ returns-in_ok-made-in-Call-clause-made g c =
 
 pub run_with-requires-clause-is : goal.run_with-requires-clause-is
 run_with-requires-clause-is g c =
-    (pause-may (g.N.Nodes.table c.args.nodes.now) c.args.program.now g.St.Store.meaning c.requires.table c.args.thunk c.in-Pause.goal c.in-Pause.env c.in-Pause.store c.in-Pause.is c.requires.may).is
+    (pause-may (g.N.Nodes.table c.args.nodes.now) c.args.program.now g.St.Store.meaning c.requires.table c.args.thunk c.in-Pause.goal c.in-Pause.env c.in-Pause.store c.in-Pause.is c.requires.may).found
 
 pub run_with-requires-clause-below : goal.run_with-requires-clause-below
 run_with-requires-clause-below g c =

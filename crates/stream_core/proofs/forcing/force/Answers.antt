@@ -52,7 +52,7 @@ loop-at-preserved g c =
     let u = g.N.Nodes.table c.force_around.new.nodes in
     let whole = (g.N.Nodes.table c.args.nodes.now).tree c.args.id.now in
     let inv = c.loop-at.invariant in
-    let made = c.in_ok-force_around.ensures in
+    let made = c.in_ok-stream-2.ensures in
     record {
       table = table_stays _ c.args.program.now t u made.kept inv.table;
       way = way-up _ t u made.kept whole c.loop-at.above.items c.pop.new.self.items c.in-Some.at c.in-Some.ensures.items inv.way;

@@ -7,21 +7,21 @@ use Rattle.stream_core.proofs.TableLaws.{adds_same, adds_twice, adds_more, found
 use Rattle.stream_core.proofs.forcing.force_last.Goals as goal
 
 pub expand-requires-clause-may : goal.expand-requires-clause-may
-expand-requires-clause-may g c = subst (MayForce (g.N.Nodes.table c.args.nodes.now).program) (sym c.in_ok-thunk.ensures.stands) c.requires.may
+expand-requires-clause-may g c = subst (MayForce (g.N.Nodes.table c.args.nodes.now).program) (sym c.in_ok-thunk-in-None.ensures.stands) c.requires.may
 
 pub expand-requires-clause-last : goal.expand-requires-clause-last
 expand-requires-clause-last g c =
     let t = g.N.Nodes.table c.args.nodes.now in
     let end = subst (EndsWay t g.St.Store.meaning c.args.last.now) c.in-None.is c.requires.end in
-    subst (λ x. has_inner x ≡ false) (sym c.in_ok-thunk.ensures.stands) end.0
+    subst (λ x. has_inner x ≡ false) (sym c.in_ok-thunk-in-None.ensures.stands) end.0
 
 pub keep-requires-clause-belongs : goal.keep-requires-clause-belongs
-keep-requires-clause-belongs g c = (c.in_ok-made.ensures.adds.ids c.args.last.now c.requires.belongs).0
+keep-requires-clause-belongs g c = (c.in_ok-made-in-None.ensures.adds.ids c.args.last.now c.requires.belongs).0
 
 pub keep-requires-clause-force : goal.keep-requires-clause-force
 keep-requires-clause-force g c =
-    made-force g.St.Store.meaning (g.N.Nodes.table c.args.nodes.now) (g.N.Nodes.table c.expand.new.nodes) c.args.last.now _ c.in_ok-made.made c.in_ok-made.ensures.adds c.requires.belongs c.in_ok-thunk.ensures.stands
-    c.in_ok-made.ensures.belong c.in_ok-made.ensures.made
+    made-force g.St.Store.meaning (g.N.Nodes.table c.args.nodes.now) (g.N.Nodes.table c.expand.new.nodes) c.args.last.now _ c.in_ok-made-in-None.made c.in_ok-made-in-None.ensures.adds c.requires.belongs c.in_ok-thunk-in-None.ensures.stands
+    c.in_ok-made-in-None.ensures.belong c.in_ok-made-in-None.ensures.made
 
 pub returns-in-Some-clause-force : goal.returns-in-Some-clause-force
 returns-in-Some-clause-force g c =
@@ -34,9 +34,9 @@ returns-in-Some-clause-kept g c =
 
 pub returns-in_ok-kept-in-None-clause-force : goal.returns-in_ok-kept-in-None-clause-force
 returns-in_ok-kept-in-None-clause-force g c =
-    force-same g.St.Store.meaning _ (g.N.Nodes.table c.args.nodes.now) (g.N.Nodes.table c.expand.new.nodes) (g.N.Nodes.table c.keep.new.self) c.args.last.now c.in_ok-kept-in-None.kept c.in_ok-made.ensures.adds c.requires.belongs
+    force-same g.St.Store.meaning _ (g.N.Nodes.table c.args.nodes.now) (g.N.Nodes.table c.expand.new.nodes) (g.N.Nodes.table c.keep.new.self) c.args.last.now c.in_ok-kept-in-None.kept c.in_ok-made-in-None.ensures.adds c.requires.belongs
     c.in_ok-kept-in-None.ensures.force
 
 pub returns-in_ok-kept-in-None-clause-kept : goal.returns-in_ok-kept-in-None-clause-kept
 returns-in_ok-kept-in-None-clause-kept g c =
-    adds_more c.args.last.now (g.N.Nodes.table c.args.nodes.now) (g.N.Nodes.table c.expand.new.nodes) (g.N.Nodes.table c.keep.new.self) c.in_ok-made.ensures.adds c.in_ok-kept-in-None.ensures.kept
+    adds_more c.args.last.now (g.N.Nodes.table c.args.nodes.now) (g.N.Nodes.table c.expand.new.nodes) (g.N.Nodes.table c.keep.new.self) c.in_ok-made-in-None.ensures.adds c.in_ok-kept-in-None.ensures.kept

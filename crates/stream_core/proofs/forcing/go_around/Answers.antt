@@ -13,12 +13,12 @@ pub bind_with-requires-clause-below : goal.bind_with-requires-clause-below
 bind_with-requires-clause-below g c =
     (around-binds (g.N.Nodes.table c.args.nodes.now) c.args.program.now g.St.Store.meaning c.requires.table c.args.thunk c.in-Bind.goal c.in-Bind.env _ c.args.inside c.in-Bind.is c.requires.may c.requires.inside).below
 
-pub returns-in_ok-made-in-Bind-clause-made : goal.returns-in_ok-made-in-Bind-clause-made
-returns-in_ok-made-in-Bind-clause-made g c =
+pub returns-in-Bind-clause-made : goal.returns-in-Bind-clause-made
+returns-in-Bind-clause-made g c =
     bound-force (g.N.Nodes.table c.args.nodes.now) c.args.program.now g.St.Store.meaning c.requires.table c.args.thunk c.in-Bind.goal c.in-Bind.env _ c.args.inside _ c.in-Bind.is c.requires.inside c.in_ok-made-in-Bind.ensures.made
 
-pub returns-in_ok-made-in-Swap-clause-made : goal.returns-in_ok-made-in-Swap-clause-made
-returns-in_ok-made-in-Swap-clause-made g c =
+pub returns-in-Swap-clause-made : goal.returns-in-Swap-clause-made
+returns-in-Swap-clause-made g c =
     swapped-force (g.N.Nodes.table c.args.nodes.now) c.args.program.now g.St.Store.meaning c.requires.table c.args.thunk c.in-Swap.heads c.in-Swap.tail _ c.args.inside _ c.in-Swap.is c.requires.inside c.in_ok-made-in-Swap.ensures.made
 
 pub unreachable-requires : goal.unreachable-requires

@@ -17,9 +17,9 @@ down-preserved g c =
     let t = g.N.Nodes.table c.args.nodes.now in
     let whole = t.tree c.args.id.now in
     let inv = c.down.invariant in
-    let inner = subst (IsInside t c.down.last) c.in-Some-inner_again.is c.in_ok-inner_again.ensures in
+    let inner = subst (IsInside t c.down.last) c.in-Some-2.is c.in_ok-inside.ensures in
     record {
-      above = way-longer t whole c.down.above.items c.push.new.self.items c.down.last c.in_ok-push.ensures.items inv.next inner.holds inv.above;
-      next = next-longer t whole c.down.above.items c.push.new.self.items c.down.last c.in-Some-inner_again.inside c.in_ok-push.ensures.items inner inv.next;
-      leads = leads-longer c.args.id.now c.down.last c.in-Some-inner_again.inside c.down.above.items c.push.new.self.items t.told c.in_ok-push.ensures.items inner.told inv.leads;
+      above = way-longer t whole c.down.above.items c.push.new.self.items c.down.last c.in_ok-push-in-Some-2.ensures.items inv.next inner.holds inv.above;
+      next = next-longer t whole c.down.above.items c.push.new.self.items c.down.last c.in-Some-2.inside c.in_ok-push-in-Some-2.ensures.items inner inv.next;
+      leads = leads-longer c.args.id.now c.down.last c.in-Some-2.inside c.down.above.items c.push.new.self.items t.told c.in_ok-push-in-Some-2.ensures.items inner.told inv.leads;
     }

@@ -7,8 +7,8 @@ use Rattle.stream_core.proofs.running.append_top.Goals as goal
 pub unreachable-requires : goal.unreachable-requires
 unreachable-requires g c = one-pop _ _ _ _ _ _ c.pop.ensures.items c.pop.ensures.rest c.pop.ensures.cases c.in_default.not-Some c.requires.two
 
-pub unreachable-2-requires : goal.unreachable-2-requires
-unreachable-2-requires g c = two-pops _ _ _ _ _ _ _ _ c.in-Some.ensures.items c.pop-2.ensures.items c.pop-2.ensures.rest c.pop-2.ensures.cases c.in_default.not-Some c.requires.two
+pub unreachable-requires-in_default-pop : goal.unreachable-requires-in_default-pop
+unreachable-requires-in_default-pop g c = two-pops _ _ _ _ _ _ _ _ c.in-Some.ensures.items c.pop-2.ensures.items c.pop-2.ensures.rest c.pop-2.ensures.cases c.in_default-pop.not-Some c.requires.two
 
 pub returns-clause-becomes : goal.returns-clause-becomes
 returns-clause-becomes g c program ts =

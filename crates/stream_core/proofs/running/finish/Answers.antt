@@ -3,7 +3,7 @@ use Rattle.kan_model.specs.Programs.Closed as programs
 use Rattle.stream_core.specs.Tables.{HasStream, stream_in}
 use Rattle.stream_core.specs.CodeTasks.{task, stack}
 use Rattle.stream_core.proofs.StreamLaws.{first-ready, step-done, step-fewer, top-is, none-done, Each-front}
-use Rattle.stream_core.proofs.StackLaws.{stack-pop, none-left, none-pop}
+use Rattle.stream_core.proofs.StackLaws.{stack-pop, none-left, none-pop, not-some}
 use Rattle.stream_core.proofs.TableLaws.{adds_twice, table_stays}
 use Rattle.stream_core.proofs.running.finish.Goals as goal
 
@@ -31,13 +31,13 @@ loop-next-preserved g c =
 pub unreachable-requires : goal.unreachable-requires
 unreachable-requires g c =
     none-done _ _ _ (ap (stack (task g.St.Store.meaning (programs.goal c.args.program.now))) (none-left _ _ _ _ _ _ c.pop.ensures.items c.pop.ensures.rest c.pop.ensures.cases c.in_default.not-Some)) c.loop-next.invariant.same
-    (none-pop (stream_in (g.N.Nodes.table c.loop-next.nodes) g.St.Store.meaning) _ _ _ _ _ _ c.pop-2.ensures.items c.pop-2.ensures.rest c.pop-2.ensures.cases c.in-None.not-Some) c.requires.one
+    (none-pop (stream_in (g.N.Nodes.table c.loop-next.nodes) g.St.Store.meaning) _ _ _ _ _ _ c.pop-2.ensures.items c.pop-2.ensures.rest c.pop-2.ensures.cases (not-some _ c.in-None.is)) c.requires.one
 
-pub returns-in-Some-pop-clause-made : goal.returns-in-Some-pop-clause-made
-returns-in-Some-pop-clause-made g c =
+pub returns-clause-made : goal.returns-clause-made
+returns-clause-made g c =
     top-is _ _ _ _ _ (ap (stack (task g.St.Store.meaning (programs.goal c.args.program.now))) (none-left _ _ _ _ _ _ c.pop.ensures.items c.pop.ensures.rest c.pop.ensures.cases c.in_default.not-Some)) c.loop-next.invariant.same
     (stack-pop (stream_in (g.N.Nodes.table c.loop-next.nodes) g.St.Store.meaning) _ _ _ c.in-Some-pop.ensures.items) c.requires.one
 
-pub returns-in-Some-pop-clause-belong : goal.returns-in-Some-pop-clause-belong
-returns-in-Some-pop-clause-belong g c =
+pub returns-clause-belong : goal.returns-clause-belong
+returns-clause-belong g c =
     (Each-front (HasStream (g.N.Nodes.table c.loop-next.nodes)) _ _ _ c.in-Some-pop.ensures.items c.loop-next.invariant.belong).1

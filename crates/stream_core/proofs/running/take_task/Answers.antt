@@ -1,5 +1,5 @@
 use Rattle.kan_model.specs.Programs.Closed as programs
-use Rattle.stream_core.specs.CodeTasks.{tasks_of}
+use Rattle.stream_core.specs.CodeTasks.{tasks_of, streams_of}
 use Rattle.stream_core.specs.Tables.{stream_in}
 use Rattle.std.proofs.Common.{subst, ◌∷◌}
 use Rattle.stream_core.specs.CodeTasks.{task}
@@ -13,4 +13,4 @@ append_top-requires-clause-two g c =
     let means = g.St.Store.meaning in
     let f = stream_in (g.N.Nodes.table c.args.nodes.now) means in
     two-to-append f (programs.meaning p) (tasks_of p means c.args.tasks.now.items) c.args.values.now.items
-    (subst (λ n. AreReady (programs.meaning p) (task means (programs.goal p) n ∷ tasks_of p means c.args.tasks.now.items) _) c.in-Append.is c.requires.ready)
+    (subst (λ n. AreReady (programs.meaning p) (task means (programs.goal p) n ∷ tasks_of p means c.args.tasks.now.items) (streams_of (g.N.Nodes.table c.args.nodes.now) means c.args.values.now.items)) c.in-Append.is c.requires.ready)
