@@ -1,5 +1,7 @@
 //! Tests of the versions of bindings.
 
+ghost use Rattle.std.specs.Prelude.{◌<◌, ◌^◌};
+
 use crate::cases::is_number;
 use kan_subst::{ListBindings, TreeBindings};
 use kan_terms::{Bindings, Memory, Term};
@@ -70,7 +72,10 @@ fn falling_order_serves<B: Bindings>(alloc: Global, count: u64) -> Result<bool, 
 }
 
 // Whether variables near a number are told apart, also from those with the same low digits.
-fn tells_near<B: Bindings>(alloc: Global, number: u64) -> Result<bool, Memory> {
+fn tells_near<B: Bindings>(alloc: Global, number: u64) -> Result<bool, Memory>
+    requires positive { 0 < number }
+    requires fits { number < 2 ^ 63 }
+{
     let vars = [number - 1, 0, number, 15, number + 1, 16];
     let mut bindings = B::empty(alloc)?;
     for var in vars {
