@@ -1,5 +1,7 @@
 //! What stands in braces: bytes by their digits, the word of a turn, and pieces that are repeated.
 
+ghost use Rattle.std.specs.Prelude.{◌<◌, IfSome};
+
 use crate::fault::Fault;
 use std::alloc::Global;
 
@@ -64,7 +66,9 @@ fn parts_of(alloc: Global, line: &[u8]) -> Result<Vec<Part>, Fault> {
 }
 
 // What a hexadecimal digit stands for.
-fn digit(byte: u8) -> Option<u8> {
+fn digit(byte: u8) -> Option<u8>
+    ensures { IfSome result (λ value. value < 16) }
+{
     match byte {
         b'0'..=b'9' => Some(byte - b'0'),
         b'A'..=b'F' => Some(byte - b'A' + 10),
@@ -75,7 +79,11 @@ fn digit(byte: u8) -> Option<u8> {
 // The byte of two hexadecimal digits.
 fn byte_of(inner: &[u8]) -> Option<u8> {
     match inner {
-        [high, low] => Some((digit(*high)? & 15) * 16 + (digit(*low)? & 15)),
+        [high, low] => {
+            let high = digit(*high)?;
+            let low = digit(*low)?;
+            Some(high * 16 + low)
+        }
         _ => None,
     }
 }
