@@ -127,9 +127,9 @@ arguments-many ts xs args at count room is low =
     let long : length xs ≡ length (take count (drop at args)) = ap length is in omega (arith, low, same, long)
 
 -- the equation of the next variable isn't lost
-pub not-kept : (st wider : Store) (v : ℕ) (t : Tm) {St : Type 0} {means : St → Store} (given : Option St) → wider ≡ with_fresh st 1 → v ≡ st.counter → is_kept (named_store st t) ≡ true → given ≡ None →
+pub not-kept : (st wider : Store) (v : ℕ) (t : Tm) {St : Type 0} (means : St → Store) (given : Option St) → wider ≡ with_fresh st 1 → v ≡ st.counter → is_kept (named_store st t) ≡ true → given ≡ None →
     Gives (with_prim wider (Primitive.same (Tree.leaf v) t)) (option_map means given) → ⊥
-not-kept st wider v t {means} given more next kept none gives =
+not-kept st wider v t means given more next kept none gives =
     let lost : is_kept (with_prim wider (Primitive.same (Tree.leaf v) t)) ≡ false = subst (λ o. Gives (with_prim wider (Primitive.same (Tree.leaf v) t)) (option_map means o)) none gives in
     let same : with_prim wider (Primitive.same (Tree.leaf v) t) ≡ named_store st t = ap₂ (λ s w. with_prim s (Primitive.same (Tree.leaf w) t)) more next in
     let both : true ≡ false = sym kept ∙ ap is_kept (sym same) ∙ lost in cc

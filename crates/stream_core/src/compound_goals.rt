@@ -148,5 +148,6 @@ pub(crate) fn run_at_each<St: Store>(
         return Ok(());
     };
     run_at_copies(alloc, goal, &env, heads, tasks)?;
-    push_run(goal, env, last, tasks)
+    push_run(goal, env, last, tasks)?;
+    Ok(())
 }

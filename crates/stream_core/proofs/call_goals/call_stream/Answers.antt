@@ -1,4 +1,5 @@
 use Rattle.std.proofs.Common.{ap, ap₂, sym, ◌∙◌, map, subst}
+use Rattle.kan_terms.specs.Terms.{tree}
 use Rattle.kan_model.specs.Streams.Stream as model
 use Rattle.kan_model.specs.Streams.Running.{instances}
 use Rattle.kan_model.specs.Streams.Bounds.{Fits}
@@ -19,8 +20,8 @@ suspend-requires-clause-fits g c =
     let p = c.args.program.now in
     let before = g.St.Store.meaning c.args.store in
     let env = terms_of c.args.env.now in
-    let named = subst (λ xs. NamesFirst before (instances env (map (programs.template p) xs)) _ (g.St.Store.meaning c.in_ok-values.store)) c.arguments-arguments.ensures c.in_ok-values.ensures in
-    subst (λ q. Fits q (model.Thunk.call c.args.call.rel _ (g.St.Store.meaning c.in_ok-values.store))) (sym c.requires.table.program)
+    let named = subst (λ xs. NamesFirst before (instances env (map (programs.template p) xs)) (map tree c.in_ok-values.values.items) (g.St.Store.meaning c.in_ok-values.store)) c.arguments-arguments.ensures c.in_ok-values.ensures in
+    subst (λ q. Fits q (model.Thunk.call c.args.call.rel (terms_of c.of-args.result) (g.St.Store.meaning c.in_ok-values.store))) (sym c.requires.table.program)
     (call-fits (programs.meaning p) c.args.call.rel before (g.St.Store.meaning c.in_ok-values.store) env (arguments_of p c.args.call.at c.args.call.count) _ _
     named c.of-args.ensures c.requires.below c.requires.there)
 
@@ -29,6 +30,6 @@ returns-clause-made g c =
     let p = c.args.program.now in
     let before = g.St.Store.meaning c.args.store in
     let env = terms_of c.args.env.now in
-    let named = subst (λ xs. NamesFirst before (instances env (map (programs.template p) xs)) _ (g.St.Store.meaning c.in_ok-values.store)) c.arguments-arguments.ensures c.in_ok-values.ensures in
+    let named = subst (λ xs. NamesFirst before (instances env (map (programs.template p) xs)) (map tree c.in_ok-values.values.items) (g.St.Store.meaning c.in_ok-values.store)) c.arguments-arguments.ensures c.in_ok-values.ensures in
     ap₂ model.Stream.goes_on (ap (map g.St.Store.meaning) c.new.ensures) (c.in_ok-tail.ensures.stands.1 ∙ ap (λ vs. model.Thunk.call c.args.call.rel vs (g.St.Store.meaning c.in_ok-values.store)) c.of-args.ensures)
     ∙ call-waits c.args.call.rel before _ _ _ named

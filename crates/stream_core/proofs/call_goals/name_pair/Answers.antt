@@ -10,5 +10,5 @@ assert_owned-requires-clause-below g c =
 
 pub unreachable-requires : goal.unreachable-requires
 unreachable-requires g c =
-    not-kept (g.St.Store.meaning c.args.store) (g.St.Store.meaning c.in_ok-wider.wider) c.counter-var.result (tree c.args.term) _ c.in_ok-wider.ensures c.counter-var.ensures
+    not-kept (g.St.Store.meaning c.args.store) (g.St.Store.meaning c.in_ok-wider.wider) c.counter-var.result (tree c.args.term) g.St.Store.meaning _ c.in_ok-wider.ensures c.counter-var.ensures
     (fresh_is_kept (g.St.Store.meaning c.args.store) (tree c.args.term) (g.met.St.Store.kept c.args.store) (g.met.St.Store.counted c.args.store) c.requires.below) c.in-None.is c.in_ok-longer.ensures
