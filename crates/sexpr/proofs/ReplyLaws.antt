@@ -6,13 +6,13 @@ use Rattle.kan_grammar.specs.declared.dialect.Dialect.{Dialect}
 use Rattle.kan_grammar.specs.Data.Words.{Shape}
 use Rattle.kan_grammar.specs.Data.Written.{Written, Within, single, list, prefixed, close, dotted, element}
 use Rattle.kan_grammar.specs.Data.Enclosing.{row, as_written}
-use Rattle.kan_grammar.specs.Data.Faults.{Fault as Refusal, fault, Reading, data_are, refused, read_text}
+use Rattle.kan_grammar.specs.Data.Faults.{fault, Reading, data_are, refused, read_text}
 use Rattle.kan_grammar.specs.Data.Builds.{build_datum, build_within, map_reading}
 use Rattle.kan_grammar.specs.Data.Printed.{prefix_name}
 use Rattle.kan_grammar.specs.Texts.Sited.{Sited, with_sites, within_sites, symbol_number}
 use Rattle.kan_grammar.specs.Texts.TextNames.{text_table}
-use Rattle.kan_grammar.specs.Texts.ProgramText.{Meant, text_meaning, program_of_text, queries_of_text}
-use Rattle.kan_grammar.specs.Texts.TextFaults.{fault_of_text, faults_of, least}
+use Rattle.kan_grammar.specs.Texts.ProgramText.{Meant, text_meaning}
+use Rattle.kan_grammar.specs.Texts.TextFaults.{faults_of, least}
 use Rattle.kan_grammar.specs.Texts.Reply.{Reply, reply, reply_to_data, reply_to_reading, data_of, unless_fault}
 use Rattle.sexpr.specs.Seen.{written, as_kept}
 use Rattle.sexpr.specs.Reads.{Reads}
