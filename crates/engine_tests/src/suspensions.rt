@@ -3,11 +3,12 @@
 ghost use Rattle.std.specs.Prelude.{◌≡◌, ◌≤◌, ◌^◌, IfOk};
 ghost use Rattle.kan_model.specs.Streams.Bounds.{top};
 ghost use Rattle.kan_model.specs.Programs.Closed as programs;
-ghost use Rattle.stream_core.specs.Standing.{Grows};
+ghost use Rattle.stream_core.specs.Tables.{Grows, IsTableOf};
 ghost use Rattle.engine_tests.specs.Small.{small_tables};
 
 use crate::programs::small_program;
-use kan_model::{Env, PlainStore, Program, Store};
+use kan_model::{Env, Program, Store};
+use kan_plain::PlainStore;
 use kan_terms::{ListOf, Memory};
 use std::alloc::Global;
 use std::process::Abort;
@@ -20,11 +21,11 @@ fn suspended_call<N: Nodes<St>, St: Store>(
     program: &Program,
     nodes: &mut N,
 ) -> Result<N::Id, Memory>
-    requires goals { N.serves nodes.old ≡ programs.meaning program.now }
+    requires table { IsTableOf program.now (N.table nodes.old) }
     requires tables { programs.tables program.now ≡ small_tables }
-    ensures belongs { IfOk result (N.belongs nodes.new) }
-    ensures room { IfOk result (λ id. top (N.tree nodes.new id) ≤ 2 ^ 22) }
-    ensures same { N.serves nodes.new ≡ N.serves nodes.old }
+    ensures belongs { IfOk result (N.table nodes.new).belongs }
+    ensures room { IfOk result (λ id. top ((N.table nodes.new).tree id) ≤ 2 ^ 22) }
+    ensures same { (N.table nodes.new).program ≡ (N.table nodes.old).program }
 {
     let store = St::empty(alloc)?;
     let args = Env::of(program, Vec::new(alloc));
@@ -43,11 +44,11 @@ fn forced<N: Nodes<St>, St: Store>(
     id: &N::Id,
     nodes: &mut N,
 ) -> Result<Stream<N::Id, St>, Memory>
-    requires goals { N.serves nodes.old ≡ programs.meaning program.now }
+    requires table { IsTableOf program.now (N.table nodes.old) }
     requires tables { programs.tables program.now ≡ small_tables }
-    requires belongs { N.belongs nodes.old id.now }
-    requires room { top (N.tree nodes.old id.now) ≤ 2 ^ 22 }
-    ensures older { Grows (N.belongs nodes.old) (N.tree nodes.old) (N.belongs nodes.new) (N.tree nodes.new) }
+    requires belongs { (N.table nodes.old).belongs id.now }
+    requires room { top ((N.table nodes.old).tree id.now) ≤ 2 ^ 22 }
+    ensures grows { Grows (N.table nodes.old) (N.table nodes.new) }
 {
     let stream = force(alloc, program, id, nodes)?;
     Ok(stream)
@@ -65,7 +66,7 @@ fn expect_kept<N: Nodes<St>, St: Store>(
     program: &Program,
     nodes: &mut N,
 ) -> Result<(), Fail>
-    requires goals { N.serves nodes.old ≡ programs.meaning program.now }
+    requires table { IsTableOf program.now (N.table nodes.old) }
     requires tables { programs.tables program.now ≡ small_tables }
 {
     let alloc = rt.alloc();
@@ -92,10 +93,10 @@ fn around<N: Nodes<St>, St: Store>(
     inner: N::Id,
     nodes: &mut N,
 ) -> Result<N::Id, Memory>
-    requires { N.belongs nodes.old inner }
-    ensures belongs { IfOk result (N.belongs nodes.new) }
-    ensures room { IfOk result (λ id. top (N.tree nodes.new id) ≡ top (N.tree nodes.old inner)) }
-    ensures same { N.serves nodes.new ≡ N.serves nodes.old }
+    requires { (N.table nodes.old).belongs inner }
+    ensures belongs { IfOk result (N.table nodes.new).belongs }
+    ensures room { IfOk result (λ id. top ((N.table nodes.new).tree id) ≡ top ((N.table nodes.old).tree inner)) }
+    ensures same { (N.table nodes.new).program ≡ (N.table nodes.old).program }
 {
     let id = nodes.suspend(Thunk::Swap {
         heads: ListOf::new(alloc),
@@ -112,10 +113,10 @@ fn nested<N: Nodes<St>, St: Store>(
     count: u32,
     nodes: &mut N,
 ) -> Result<N::Id, Memory>
-    requires { N.belongs nodes.old inner }
-    ensures belongs { IfOk result (N.belongs nodes.new) }
-    ensures room { IfOk result (λ id. top (N.tree nodes.new id) ≡ top (N.tree nodes.old inner)) }
-    ensures same { N.serves nodes.new ≡ N.serves nodes.old }
+    requires { (N.table nodes.old).belongs inner }
+    ensures belongs { IfOk result (N.table nodes.new).belongs }
+    ensures room { IfOk result (λ id. top ((N.table nodes.new).tree id) ≡ top ((N.table nodes.old).tree inner)) }
+    ensures same { (N.table nodes.new).program ≡ (N.table nodes.old).program }
 {
     let mut id = inner;
     for _ in 0..count {

@@ -1,9 +1,10 @@
 //! The programs that texts give, spelled word by word.
 
-ghost use Rattle.std.specs.Prelude.{◌≡◌, []};
+ghost use Rattle.std.specs.Prelude.{◌≡◌};
+ghost use Rattle.kan_terms.specs.Table.{no_names};
 
 use crate::spelling::spell_goal;
-use goal_syntax::{Compiled, SyntaxError, compile};
+use goal_syntax::{Compiled, Dialect, SyntaxError, compile};
 use kan_terms::Names;
 use sexpr::read;
 use std::alloc::Global;
@@ -16,7 +17,7 @@ fn compiled(
     text: &str,
     names: &mut Names,
 ) -> Result<Compiled, Fail>
-    requires { names.old ≡ [] }
+    requires { names.old ≡ no_names }
 {
     assert!(rt; text.len() <= 1_048_576);
     let alloc = rt.alloc();
@@ -24,7 +25,7 @@ fn compiled(
         return Err(Fail::from("data with a fault"));
     };
     assert!(rt; data.len() < 4_294_967_295);
-    match compile(alloc, &[], data.as_slice(), names) {
+    match compile(alloc, &[], data.as_slice(), names, Dialect::Book) {
         Ok(compiled) => Ok(compiled),
         Err(SyntaxError::Fault(_, _)) => Err(Fail::from("a text with a fault")),
         Err(SyntaxError::Memory) => Err(Fail::from("no memory")),

@@ -29,6 +29,10 @@ fn spell_term(
             let name = names.name(number).ok_or("no name")?;
             write!(text, " '{name}")?;
         }
+        TermNode::Str(number) => {
+            let string = names.string(number).ok_or("no string")?;
+            write!(text, " \"{string}\"")?;
+        }
         TermNode::Num(number) => write!(text, " {number}")?,
         TermNode::Truth(true) => text.push_str(" #t")?,
         TermNode::Truth(false) => text.push_str(" #f")?,
@@ -88,6 +92,10 @@ fn spell_node(
         }
         GoalNode::Fresh(count, body) => {
             write!(text, " fresh {count}")?;
+            parts.push(Part::Goal(body))?;
+        }
+        GoalNode::Later(body) => {
+            text.push_str(" later")?;
             parts.push(Part::Goal(body))?;
         }
         GoalNode::Call(relation, at, count) => {

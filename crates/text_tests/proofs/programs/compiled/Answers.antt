@@ -1,5 +1,5 @@
 use Rattle.std.proofs.Common.{[], refl}
-use Rattle.goal_syntax.proofs.Compiling.OfTextLaws.{none_of_text, none_accepted}
+use Rattle.goal_syntax.proofs.OfTextLaws.{none_of_text, none_accepted}
 use Rattle.text_tests.proofs.programs.compiled.Goals as goal
 
 pub compile-requires-clause-texts : goal.compile-requires-clause-texts
