@@ -28,7 +28,7 @@ and_assoc : (x y z : Bool) → ((x && y) && z) ≡ (x && (y && z))
 and_assoc false y z = refl
 and_assoc true y z = refl
 
-and_true : (x : Bool) → (x && true) ≡ x
+pub and_true : (x : Bool) → (x && true) ≡ x
 and_true false = refl
 and_true true = refl
 

@@ -115,7 +115,7 @@ pub work_falls : (ds : List Sited) (old popped new : List Work) (w : Work) → o
 work_falls ds old popped new w split falls = omega (arith, pushed_size ds popped old w split)
 
 -- the one template that was built
-last_built : (ts : Tables) (old popped : List ℕ) (p : ℕ) (t : Template) → old ≡ popped ++ p ∷ [] → are_below (length ts.terms) old ≡ true → built (templates_of ts.terms) old ≡ t ∷ [] → HasTemplate ts p t
+pub last_built : (ts : Tables) (old popped : List ℕ) (p : ℕ) (t : Template) → old ≡ popped ++ p ∷ [] → are_below (length ts.terms) old ≡ true → built (templates_of ts.terms) old ≡ t ∷ [] → HasTemplate ts p t
 last_built ts old popped p t split below is =
     let us = templates_of ts.terms in
     let top : template_at us p ∷ built us popped ≡ t ∷ [] = sym (built-push us popped p) ∙ sym (ap (built us) split) ∙ is in
@@ -224,12 +224,6 @@ pub both_there : (ts us : Tables) (a d : ℕ) (t u : Template) → HasTemplate u
 both_there ts us a d t u first rest grows =
     let later = grows.templates d u rest in
     and_from _ _ (lt-ltb a (length us.terms) first.there) (lt-ltb d (length us.terms) later.there)
-
--- the same of what is taken off the stack
-pub top_built : {E : Type 0} (ts : Tables) (old popped : List ℕ) (o : Option ℕ) (r : Result ℕ E) (e : E) (t : Template) → r ≡ ok_or o e → old ≡ popped ++ option_to_list o → are_below (length ts.terms) old ≡ true →
-    built (templates_of ts.terms) old ≡ t ∷ [] → IfOk r (λ p. HasTemplate ts p t)
-top_built ts old popped None r e t is split below made = rw is tt
-top_built ts old popped (Some p) r e t is split below made = rw is (last_built ts old popped p t split below made)
 
 -- a template that was built has its place on the stack
 pub place_left : (ts : List Template) (ps : List ℕ) (t : Template) → built ts ps ≡ t ∷ [] → length ps ≡ 0 → ⊥

@@ -1,8 +1,11 @@
 use Rattle.std.proofs.Common.{ap, ◌∙◌}
-use Rattle.std.proofs.lemmas.Bool.{lt-ltb}
-use Rattle.kan_model.specs.Programs.Drafts.{tables}
 use Rattle.kan_model.specs.Programs.Goals.{Goal}
+use Rattle.goal_syntax.proofs.Building.CallsThereLaws.{and_true}
 use Rattle.goal_syntax.proofs.build_run.suspend_at.Goals as goal
 
 pub returns-in_ok-later-in-All-clause-made : goal.returns-in_ok-later-in-All-clause-made
-returns-in_ok-later-in-All-clause-made c = λ g has. record { there = c.in_ok-later-in-All.ensures.made.there; is = c.in_ok-later-in-All.ensures.made.is ∙ ap Goal.later has.is }
+returns-in_ok-later-in-All-clause-made c = λ g has.
+    rw c.in-All.is (record { there = c.in_ok-later-in-All.ensures.made.there; is = c.in_ok-later-in-All.ensures.made.is ∙ ap Goal.later has.is })
+
+pub returns-in_ok-later-in-All-clause-called : goal.returns-in_ok-later-in-All-clause-called
+returns-in_ok-later-in-All-clause-called c = λ rows. c.in_ok-later-in-All.ensures.called rows ∙ and_true _

@@ -1,7 +1,7 @@
 use Rattle.std.proofs.Common.{arith}
 use Rattle.kan_model.specs.Programs.Drafts.{tables}
 use Rattle.goal_forms.specs.Parts.{sites}
-use Rattle.goal_syntax.proofs.Building.TermsLeftLaws.{adds_on, work_done, work_falls, top_built, all_done}
+use Rattle.goal_syntax.proofs.Building.TermsLeftLaws.{adds_on, work_done, work_falls, last_built, all_done}
 use Rattle.goal_syntax.proofs.Building.TermHeightLaws.{work_low}
 use Rattle.std.proofs.Common.{[], ◌∷◌, ◌++◌, ap, ◌∙◌}
 use Rattle.goal_syntax.proofs.Building.TermHeightLaws.{first_low, first_made, first_below}
@@ -25,7 +25,7 @@ loop-work-preserved c = record {
 
 pub returns-clause-made : goal.returns-clause-made
 returns-clause-made c =
-    top_built (tables c.loop-work.draft) c.loop-work.places.items _ _ _ _ _ c.ok_or.ensures.value c.pop-2.ensures.items c.loop-work.invariant.below
+    last_built (tables c.loop-work.draft) c.loop-work.places.items _ _ _ c.in-Some-pop.ensures.items c.loop-work.invariant.below
     (all_done (sites c.args.context.now.flat.now) c.args.context.now.names.now c.args.scope.now c.loop-work.works.items _ _ (omega (arith, c.in_default.ensures.cases)) c.loop-work.invariant.made)
 
 pub loop-work-init : goal.loop-work-init
