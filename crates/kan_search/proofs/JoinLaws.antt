@@ -1,6 +1,6 @@
 -- Answers and pulls in front of what is left.
 use Rattle.std.proofs.Common.{◌≡◌, ℕ, suc, ◌+◌, ◌<◌, ◌≤◌, List, [], ◌∷◌, ◌++◌, length, map, sym, ◌∙◌, ap, ap₂, append_assoc, add_assoc, arith}
-use Rattle.std.specs.Prelude.{Option, Some, None, is_some, IfSome, true}
+use Rattle.std.specs.Prelude.{Some, None}
 use Rattle.std.proofs.Math.Logic.{◌⊎◌, inl, inr, ⊎_elim}
 use Rattle.std.proofs.lemmas.List.{map-append, length-append, length-map}
 use Rattle.kan_model.specs.Stores.Store.{Store}

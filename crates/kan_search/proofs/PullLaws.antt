@@ -11,7 +11,7 @@ use Rattle.kan_model.specs.Streams.Running.{force}
 use Rattle.kan_model.specs.Streams.Taking.{take, with_pull}
 use Rattle.kan_model.specs.Programs.Tables.{GoalEntry, Tables, goal_of, goals_after, templates_of, program_of}
 use Rattle.kan_model.specs.Streams.Bounds.{top}
-use Rattle.stream_core.specs.CodeTasks.{is_built}
+use Rattle.stream_core.specs.BuiltGoals.{is_built}
 use Rattle.stream_core.specs.declared.plain_nodes.PlainId.{PlainId}
 use Rattle.kan_search.specs.Suspensions.{LeavesRoom, pulled_stream}
 use Rattle.kan_search.specs.Waiting.{is_reached}

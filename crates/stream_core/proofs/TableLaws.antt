@@ -1,18 +1,14 @@
 -- Tables that grow: one call after the other, and what is kept.
-use Rattle.std.proofs.Common.{◌≡◌, ◌⊎◌, inl, inr, Bool, true, false, List, [], ◌∷◌, ◌++◌, refl, sym, ◌∙◌, ap, subst}
+use Rattle.std.proofs.Common.{◌≡◌, ◌⊎◌, inl, inr, true, false, List, [], ◌∷◌, ◌++◌, refl, sym, ◌∙◌, ap, subst}
 use Rattle.std.specs.Prelude.{Option, Some, None, IfSome}
-use Rattle.kan_model.specs.Programs.Closed as programs
 use Rattle.kan_model.specs.declared.program.Program as code
 use Rattle.kan_model.specs.Stores.Store as facts
-use Rattle.kan_model.specs.Streams.Stream as model
-use Rattle.kan_model.specs.Streams.Running.{force}
 use Rattle.stream_core.specs.CodeTasks.{stack}
-use Rattle.stream_core.specs.Suspensions.{StreamBelongs, ForceOf, stream}
-use Rattle.stream_core.specs.Tables.{Told, Table, BothTold, InnerStays, KeepsSame, KeepsAll, KeepsMore, KeepsWay, GrowsBy, OnlyAdds, Grows, IsTableOf, IsForce, IsKept, IsInner}
+use Rattle.stream_core.specs.Tables.{Told, Table, BothTold, InnerStays, KeepsSame, KeepsAll, KeepsMore, KeepsWay, GrowsBy, OnlyAdds, Grows, IsTableOf, IsKept}
 use Rattle.stream_core.specs.WaysDown.{Leads, EndsWay}
 use Rattle.stream_core.specs.declared.streams.Stream.{Stream}
 use Rattle.stream_core.proofs.StackLaws.{stack-pop}
-use Rattle.stream_core.proofs.StreamLaws.{stays-twice, stream-stays}
+use Rattle.stream_core.proofs.StreamLaws.{stays-twice}
 
 module _ {I : Type 0} where
   both-same : (R : Told I → Told I → Type 0) → ((told : Told I) → R told told) → (o : Option (Told I)) → BothTold R o o

@@ -3,10 +3,8 @@ use Rattle.std.proofs.Common.{◌≡◌, true, List, [], ◌∷◌, ◌++◌, re
 use Rattle.std.specs.Prelude.{Option, Some, None, IfSome}
 use Rattle.kan_model.specs.Stores.Store as facts
 use Rattle.kan_model.specs.Streams.Stream.{Thunk}
-use Rattle.kan_model.specs.Streams.Running.{force}
 use Rattle.stream_core.specs.Tasks.{Each}
 use Rattle.stream_core.specs.InnerSuspensions.{MayForce, InnerId, has_inner, inner_of}
-use Rattle.stream_core.specs.Suspensions.{ForceOf}
 use Rattle.stream_core.specs.Tables.{Told, Table, GrowsBy, IsForce}
 use Rattle.stream_core.specs.CodeTasks.{stack}
 use Rattle.stream_core.specs.WaysDown.{next, IsWay, Leads, MayForceAround, IsWayFrom, IsNext}

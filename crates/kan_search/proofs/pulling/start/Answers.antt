@@ -5,6 +5,7 @@ use Rattle.kan_model.specs.Programs.Scope.{is_small}
 use Rattle.stream_core.specs.PlainTables.{plain_table}
 use Rattle.stream_core.specs.Tables.{IsTableOf}
 use Rattle.kan_search.specs.Suspensions.{tree_of}
+use Rattle.stream_core.proofs.TableLaws.{adds_grow}
 use Rattle.kan_search.proofs.StartLaws.{turned-is, started, start-room}
 use Rattle.kan_search.proofs.pulling.start.Goals as goal
 
@@ -29,3 +30,12 @@ returns-clause-room g c =
 
 pub run_goal-requires-clause-table : goal.run_goal-requires-clause-table
 run_goal-requires-clause-table g c = subst (λ p. IsTableOf p (plain_table g.St.Store.meaning c.args.nodes.now)) (sym c.program-program.ensures) c.requires.table
+
+pub returns-in_err-stream-clause-grows : goal.returns-in_err-stream-clause-grows
+returns-in_err-stream-clause-grows g c = adds_grow (plain_table g.St.Store.meaning c.args.nodes.now) (plain_table g.St.Store.meaning c.run_goal.new.nodes) c.run_goal.ensures.adds
+
+pub returns-in_err-pulled-clause-grows : goal.returns-in_err-pulled-clause-grows
+returns-in_err-pulled-clause-grows g c = adds_grow (plain_table g.St.Store.meaning c.args.nodes.now) (plain_table g.St.Store.meaning c.run_goal.new.nodes) c.run_goal.ensures.adds
+
+pub returns-clause-grows : goal.returns-clause-grows
+returns-clause-grows g c = adds_grow (plain_table g.St.Store.meaning c.args.nodes.now) (plain_table g.St.Store.meaning c.run_goal.new.nodes) c.run_goal.ensures.adds

@@ -1,4 +1,4 @@
-use Rattle.std.proofs.Common.{◌≡◌, true, ap, sym, ◌∙◌, subst}
+use Rattle.std.proofs.Common.{◌≡◌, true, subst}
 use Rattle.kan_model.specs.Programs.Goals.{Goal}
 use Rattle.kan_model.specs.Programs.Nodes.{goal_entry}
 use Rattle.kan_model.specs.Programs.Scope.{calls_there}

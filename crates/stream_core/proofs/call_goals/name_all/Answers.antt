@@ -1,9 +1,7 @@
-use Rattle.std.proofs.Common.{arith, ap, map, subst, take, take_all}
+use Rattle.std.proofs.Common.{arith}
 use Rattle.kan_terms.specs.Terms.{tree}
-use Rattle.kan_model.specs.Streams.Running.{instances}
 use Rattle.kan_model.specs.Programs.Environments.{terms_of}
 use Rattle.kan_model.specs.Programs.Closed as programs
-use Rattle.stream_core.specs.CallArguments.{NamesFirst}
 use Rattle.stream_core.proofs.HeadLaws.{env-more}
 use Rattle.stream_core.proofs.ArgumentLaws.{instance-below, names-step}
 use Rattle.stream_core.proofs.call_goals.name_all.Goals as goal

@@ -1,4 +1,3 @@
-use Rattle.std.proofs.Common.{ap, sym, ◌∙◌, subst, true, false, ◌≡◌}
 use Rattle.kan_terms.specs.Terms.{tree}
 use Rattle.kan_model.proofs.Solving.FreshLaws.{fresh_is_kept}
 use Rattle.stream_core.proofs.ArgumentLaws.{named-below, not-kept}

@@ -1,9 +1,8 @@
 use Rattle.std.proofs.Common.{◌≡◌, false, sym, subst}
-use Rattle.std.specs.Prelude.{Option}
 use Rattle.stream_core.specs.InnerSuspensions.{MayForce, has_inner}
 use Rattle.stream_core.specs.WaysDown.{EndsWay}
 use Rattle.stream_core.proofs.ForceLaws.{made-force, force-same}
-use Rattle.stream_core.proofs.TableLaws.{adds_same, adds_twice, adds_more, found-more, table_stays}
+use Rattle.stream_core.proofs.TableLaws.{adds_more, found-more}
 use Rattle.stream_core.proofs.forcing.force_last.Goals as goal
 
 pub expand-requires-clause-may : goal.expand-requires-clause-may

@@ -1,5 +1,5 @@
-use Rattle.std.proofs.Common.{sym, ◌∙◌, subst, ap, arith}
-use Rattle.stream_core.specs.InnerSuspensions.{MayForce, IsInside}
+use Rattle.std.proofs.Common.{subst}
+use Rattle.stream_core.specs.InnerSuspensions.{IsInside}
 use Rattle.stream_core.proofs.WayLaws.{way-longer, next-longer, leads-longer, way-begins, next-begins, leads-begins}
 use Rattle.stream_core.proofs.forcing.way_down.Goals as goal
 

@@ -1,4 +1,4 @@
-use Rattle.std.proofs.Common.{ap, ◌∙◌, ◌∷◌, map, refl, subst}
+use Rattle.std.proofs.Common.{ap, ◌∙◌, ◌∷◌, map}
 use Rattle.std.specs.Prelude.{option_map}
 use Rattle.kan_model.specs.Programs.Closed as programs
 use Rattle.kan_model.specs.Programs.Environments.{terms_of}

@@ -1,4 +1,4 @@
-use Rattle.std.proofs.Common.{ap, ◌∙◌}
+use Rattle.std.proofs.Common.{ap}
 use Rattle.kan_model.specs.Programs.Closed as programs
 use Rattle.stream_core.specs.Tables.{HasStream, stream_in}
 use Rattle.stream_core.specs.CodeTasks.{task, stack}

@@ -1,5 +1,4 @@
-use Rattle.std.proofs.Common.{ap, [], ◌∷◌, refl, sym, ◌∙◌, length}
-use Rattle.kan_model.specs.Streams.Stream as model
+use Rattle.std.proofs.Common.{ap, [], refl, sym, ◌∙◌, length}
 use Rattle.kan_model.specs.Programs.Environments.{terms_of}
 use Rattle.kan_model.specs.Programs.Closed as programs
 use Rattle.stream_core.specs.Tables.{stream_in}

@@ -28,7 +28,7 @@ pub loop-answers-preserved : goal.loop-answers-preserved
 loop-answers-preserved g c =
     let inv = c.loop-answers.invariant in
     let gave = c.in_ok-give_heads.ensures in
-    let pulled = c.in_ok-make_pull.ensures in
+    let pulled = c.in_ok-make_pull-in-Pulls.ensures in
     let same = gave.round ∙ inv.round in
     let other = c.if-made-self.false in
     record {
