@@ -1,6 +1,6 @@
 //! Closing drafts, and reading programs.
 
-ghost use Rattle.std.specs.Prelude.{◌≡◌, ◌<◌, ◌↔◌, ◌^◌, ◌-◌, ◌&&◌, nat_lt, nat_le, min, length, map, true, false, IsTrue, IsSome, slice_get, option_map};
+ghost use Rattle.std.specs.Prelude.{◌≡◌, ◌<◌, ◌≤◌, ◌↔◌, ◌^◌, ◌+◌, ◌-◌, ◌&&◌, take, drop, nat_lt, nat_le, min, length, map, true, false, IsTrue, IsSome, slice_get, option_map};
 ghost use Rattle.std.specs.Option.{option_copied};
 ghost use Rattle.std.specs.List.{list_all};
 ghost use Rattle.kan_model.specs.Programs.Tables.{are_closed, goal_at, template_of, program_of};
@@ -147,6 +147,15 @@ impl Program {
         ensures { result ≡ slice_get (programs.tables self.now).arguments at }
     {
         self.draft.arguments.get(at as usize).copied()
+    }
+
+    /// So many arguments from a place on, templates by their places. It takes no memory.
+    pub fn arguments(&self, at: u32, count: u32) -> &[u32]
+        requires { at + count ≤ length (programs.tables self.now).arguments }
+        ensures { result.now ≡ take count (drop at (programs.tables self.now).arguments) }
+    {
+        let from = at as usize;
+        &self.draft.arguments[from..from + count as usize]
     }
 
     /// The relation at a place, and None exactly past the end. It takes no memory.

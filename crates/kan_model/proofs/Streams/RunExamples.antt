@@ -77,3 +77,24 @@ pub pause_behind_never :
     output_of never 10 (Some 1) (Goal.later (Goal.either (Goal.call 0 []) (equal q (Tree.sym 0)))) ≡ line (codes "a") ++ line (codes "; 1 answers, 2 pulls, limit")
 unfolding solve_by rounds steps decimal_text
 pause_behind_never = refl
+
+-- Appending, where each disjunction and each fresh comes later: a list is empty and the other one the whole, or its first
+-- element is the whole's, and the rests are appended.
+abbrev appending : Relation
+appending = record {
+  params = 3;
+  body = Goal.later (Goal.either
+      (Goal.both (equal (Tree.leaf 0) Tree.nil) (equal (Tree.leaf 1) (Tree.leaf 2)))
+      (Goal.later (Goal.fresh 3 (Goal.both (equal (Tree.pair (Tree.leaf 3) (Tree.leaf 4)) (Tree.leaf 0))
+      (Goal.both (equal (Tree.pair (Tree.leaf 3) (Tree.leaf 5)) (Tree.leaf 2)) (Goal.call 0 (Tree.leaf 4 ∷ Tree.leaf 1 ∷ Tree.leaf 5 ∷ [])))))));
+}
+
+abbrev two_of : Template → Template → Template
+two_of a b = Tree.pair a (Tree.pair b Tree.nil)
+
+-- one pull for the run's own fresh, and three for each level: a call, a disjunction and a fresh
+pub three_levels : output_of appending 100 None (Goal.later (Goal.fresh 2 (Goal.both (equal (two_of (Tree.leaf 1) (Tree.leaf 2)) q)
+    (Goal.call 0 (Tree.leaf 1 ∷ Tree.leaf 2 ∷ two_of (Tree.sym 0) (Tree.sym 1) ∷ []))))) ≡
+    line (codes "(() (a b))") ++ line (codes "((a) (b))") ++ line (codes "((a b) ())") ++ line (codes "; 3 answers, 10 pulls, end")
+unfolding solve_by rounds steps decimal_text
+three_levels = refl

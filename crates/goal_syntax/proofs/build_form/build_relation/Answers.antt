@@ -10,7 +10,7 @@ use Rattle.goal_syntax.proofs.build_form.build_relation.Goals as goal
 pub returns-clause-means : goal.returns-clause-means
 returns-clause-means c =
     relation_means c.args.context.now.dialect (tables c.args.draft.now) (tables c.build_body.new.draft) (tables c.add_relation.new.draft) (relations c.args.context.now.relations.now) _ _ _ (goal_forms c.args.context.now.names.now (site_at (sites c.args.context.now.flat.now) c.args.goals)) _
-    c.deref.ensures.value (c.in_ok-bound.ensures.names c.args.context.now.names.now) (omega (arith, c.in-Ok.ensures.1, c.len.ensures, c.deref.ensures.len, ap length c.deref.ensures.value)) c.in_ok-body.ensures.made c.in_ok-body.ensures.grows c.in_ok-add_relation.ensures.added
+    c.deref.ensures.value (c.in_ok-bound.ensures.names c.args.context.now.names.now) (omega (arith, c.len-params.ensures, c.deref.ensures.len, ap length c.deref.ensures.value)) c.in_ok-body.ensures.made c.in_ok-body.ensures.grows c.in_ok-add_relation.ensures.added
 
 pub returns-clause-names : goal.returns-clause-names
-returns-clause-names c = relation_named (tables c.args.draft.now) (tables c.build_body.new.draft) (tables c.add_relation.new.draft) _ _ c.in_ok-body.ensures.grows c.in_ok-add_relation.ensures.added c.relation_name.ensures
+returns-clause-names c = relation_named (tables c.args.draft.now) (tables c.build_body.new.draft) (tables c.add_relation.new.draft) _ _ c.in_ok-body.ensures.grows c.in_ok-add_relation.ensures.added c.relation_name-name.ensures

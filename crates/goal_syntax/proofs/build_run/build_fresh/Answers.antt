@@ -18,8 +18,8 @@ returns-clause-grows c = grows_on _ _ _ c.in_ok-first.ensures.grows (grows_on _ 
 
 pub returns-clause-closed : goal.returns-clause-closed
 returns-clause-closed c =
-    let context = c.args.concontext.now in
-    run_closed c.args.concontext.now.dialect (sites context.flat.now) context.names.now c.args.binder (relations context.relations.now) (goal_forms context.names.now (site_at (sites context.flat.now) c.args.goals))
+    let context = c.args.context.now in
+    run_closed c.args.context.now.dialect (sites context.flat.now) context.names.now c.args.binder (relations context.relations.now) (goal_forms context.names.now (site_at (sites context.flat.now) c.args.goals))
     c.in_ok-bound.bound.items c.in_ok-scope.scope.items _ (tables c.args.draft.now) (tables c.build_equation.new.draft) (tables c.build_behind.new.draft) (tables c.add_goal.new.draft)
     c.in_ok-scope.ensures (c.in_ok-enter.ensures ∙ ap (within c.in_ok-scope.scope.items) c.deref.ensures.value) (c.in_ok-bound.ensures.names context.names.now)
     (rw c.deref-2.ensures.value at c.in_ok-first.ensures.low) c.in_ok-first.ensures.called c.in_ok-goal.ensures.closed c.in_ok-fresh.ensures.terms c.in_ok-fresh.ensures.called
