@@ -1,6 +1,6 @@
 -- Places of variables, and the variables of letters.
 use Rattle.std.proofs.Common.{◌≡◌, ℕ, suc, ◌+◌, ◌<◌, ◌≤◌, Bool, true, false, eqb, List, [], ◌∷◌, ◌++◌, length, map, filter, get_or, take, drop, drop-cons, refl, sym, ◌∙◌, ap, ap₂, append-nil, arith, add-one, not, eqb-true, eq-eqb, ne_eqb, drop_of_length-le, true≢false, Option, Some}
-use Rattle.std.specs.Prelude.{◌||◌, if◌then◌else◌, IsSome}
+use Rattle.std.specs.Prelude.{◌||◌, if◌then◌else◌, IsSome, is_some}
 use Rattle.std.proofs.lemmas.List.Elements.{filter-append}
 use Rattle.std.proofs.lemmas.List.{map-append, take_more}
 use Rattle.kan_terms.specs.Tree.{Tree, Tm, leaves}
@@ -137,4 +137,4 @@ answer_built u t letters named vs l v n built =
     cc
 
 pub spells_some : (u : Tm) (letters named : List Letter) (vs : List ℕ) → letters ≡ spelling u → vs ≡ each_once eqb (variables_of letters) → named ≡ map (renamed vs) letters → IsSome (term_of named)
-spells_some u letters named vs l v n = rw (named_spell u letters named vs l v n) tt
+spells_some u letters named vs l v n = ap is_some (named_spell u letters named vs l v n)

@@ -1,5 +1,5 @@
 -- What the writing of runs and of refusals makes of the answer of a text.
-use Rattle.std.proofs.Common.{◌≡◌, ℕ, Bool, List, map, Err, refl, sym, ◌∙◌, ap, subst}
+use Rattle.std.proofs.Common.{◌≡◌, ℕ, Bool, List, Option, map, Err, sym, ◌∙◌, ap, subst}
 use Rattle.std.specs.Io.KnownBytes.{Appends}
 use Rattle.kan_base.specs.Views.{SinkView}
 use Rattle.kan_base.specs.Writes.{PutsFront}

@@ -6,6 +6,7 @@ ghost use Rattle.kanren_run.specs.Outcomes.{IsFaithful, IsFaithfulAt, WritesRepl
 ghost use Rattle.kan_terms.specs.Table.{no_names};
 ghost use Rattle.kanren_run.specs.Answers.{IsRefused};
 ghost use Rattle.kanren_run.specs.Replies.{HasRuns};
+ghost use Rattle.kanren_run.specs.Writing.{CanRun};
 
 use crate::command::fuel_named;
 use crate::refusal::{Fault, fault_line};
@@ -93,6 +94,7 @@ fn answer_runs<K: Sink>(
     sink: &mut K,
 ) -> Status
     requires fuel { 1 ≤ fuel × (fuel ≤ 1000000) }
+    requires can_run { CanRun compiled.now.program compiled.now.queries }
     ensures { (text : List ℕ)
         → HasRuns text names.now compiled.now.program compiled.now.queries
         → WritesReply fuel text (K.view sink.old) (K.view sink.new) result }
