@@ -1,5 +1,5 @@
 -- Places of variables, and the variables of letters.
-use Rattle.std.proofs.Common.{◌≡◌, ℕ, suc, ◌+◌, ◌<◌, ◌≤◌, Bool, true, false, eqb, List, [], ◌∷◌, ◌++◌, length, map, filter, get_or, take, drop, drop-cons, refl, sym, ◌∙◌, ap, ap₂, append-nil, arith, add-one, not, eqb-true, eq-eqb, ne_eqb, drop_of_length-le, true≢false, Option, Some}
+use Rattle.std.proofs.Common.{◌≡◌, ℕ, suc, ◌+◌, ◌<◌, ◌≤◌, Bool, true, false, eqb, List, [], ◌∷◌, ◌++◌, length, map, filter, get_or, take, drop, drop-cons, refl, sym, ◌∙◌, ap, ap₂, append-nil, arith, add-one, not, eqb-true, eq-eqb, ne_eqb, drop_of_length-le, true≢false, Some}
 use Rattle.std.specs.Prelude.{◌||◌, if◌then◌else◌, IsSome, is_some}
 use Rattle.std.proofs.lemmas.List.Elements.{filter-append}
 use Rattle.std.proofs.lemmas.List.{map-append, take_more}

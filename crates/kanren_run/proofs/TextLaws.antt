@@ -1,6 +1,6 @@
 -- What becomes of a text: its program, or its refusal.
-use Rattle.std.proofs.Common.{◌≡◌, ℕ, ◌≤◌, Bool, true, false, List, [], ◌∷◌, map, None, Result, Ok, Err, refl, sym, ap, subst, ◌∙◌}
-use Rattle.std.specs.Prelude.{Some, length, ◌&&◌}
+use Rattle.std.proofs.Common.{◌≡◌, ℕ, Bool, true, false, List, [], ◌∷◌, map, None, Result, Ok, Err, refl, sym, ap, subst, ◌∙◌}
+use Rattle.std.specs.Prelude.{Some}
 use Rattle.std.specs.List.{list_all}
 use Rattle.std.specs.Str.{is_utf8, chars}
 use Rattle.std.proofs.lemmas.Bool.{and_parts}
@@ -8,14 +8,13 @@ use Rattle.kan_terms.specs.Table.{Table, no_names}
 use Rattle.kan_model.specs.Programs.Closed as programs
 use Rattle.kan_model.specs.Programs.Tables.{GoalEntry}
 use Rattle.kan_grammar.specs.declared.dialect.Dialect.TheVariants.{Book}
-use Rattle.kan_grammar.specs.Data.Faults as faults
-use Rattle.kan_grammar.specs.Data.Faults.{run, read_tokens, read_text, data_are, fault}
+use Rattle.kan_grammar.specs.Data.Faults.{run, read_tokens, read_text, fault}
 use Rattle.kan_grammar.specs.Data.Tokens.{tokens, tokens_from}
 use Rattle.kan_grammar.specs.Texts.TextNames.{with_prefixes, with_text_names, text_table}
 use Rattle.kan_grammar.specs.Texts.Reply.{Reply, reply, reply_to_data, unless_fault}
 use Rattle.kan_grammar.specs.Texts.ProgramText.{program_of_text, queries_of_text}
-use Rattle.sexpr.specs.Seen.{written, as_kept}
-use Rattle.sexpr.specs.Reads.{Reads, Answers}
+use Rattle.sexpr.specs.Seen.{written}
+use Rattle.sexpr.specs.Reads.{Reads}
 use Rattle.sexpr.specs.declared.data.Datum.{Datum}
 use Rattle.sexpr.specs.declared.data.ReadError.{ReadError}
 use Rattle.sexpr.specs.declared.data.ReadError.TheVariants as reading

@@ -1,4 +1,4 @@
-use Rattle.std.proofs.Common.{refl, sym}
+use Rattle.std.proofs.Common.{refl}
 use Rattle.goal_syntax.proofs.Compiling.OfTextLaws.{none_of_text, none_accepted}
 use Rattle.kanren_run.proofs.TextLaws.{data_come, data_refused}
 use Rattle.kanren_run.proofs.text.compile_data.Goals as goal
