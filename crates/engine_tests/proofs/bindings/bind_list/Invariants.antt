@@ -1,6 +1,0 @@
-use Rattle.unify_core.specs.Cycles.{HasNoCycle}
-use Rattle.engine_tests.proofs.bindings.bind_list.Given as goal
-
--- the bindings so far have no cycle
-abbrev pub invariant-loop-at : goal.invariant-loop-at
-invariant-loop-at g l = HasNoCycle (g.B.Bindings.pairs l.bindings)
