@@ -1,0 +1,20 @@
+-- The small program that the tests run.
+use Rattle.std.specs.Prelude.{[], ◌∷◌}
+use Rattle.kan_model.specs.Programs.Tables.{Tables, TermEntry, GoalEntry}
+
+-- no entries
+abbrev pub no_tables : Tables
+no_tables = record { terms = []; arguments = []; goals = []; relations = [] }
+
+-- a pair of two slots
+abbrev pub pair_tables : Tables
+pair_tables = record { terms = TermEntry.slot 0 ∷ TermEntry.slot 1 ∷ TermEntry.pair 0 1 ∷ []; arguments = []; goals = []; relations = [] }
+
+-- and a relation without arguments that always holds
+abbrev pub small_tables : Tables
+small_tables = record {
+  terms = TermEntry.slot 0 ∷ TermEntry.slot 1 ∷ TermEntry.pair 0 1 ∷ [];
+  arguments = 2 ∷ [];
+  goals = GoalEntry.succeed ∷ [];
+  relations = record { name = 0; params = 0; body = 0 } ∷ [];
+}

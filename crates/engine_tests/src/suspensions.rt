@@ -1,0 +1,132 @@
+//! Suspensions over a table: what was forced is kept, and deep ones are forced.
+
+ghost use Rattle.std.specs.Prelude.{◌≡◌, ◌≤◌, ◌^◌, IfOk};
+ghost use Rattle.kan_model.specs.Streams.Bounds.{top};
+ghost use Rattle.kan_model.specs.Programs.Closed as programs;
+ghost use Rattle.stream_core.specs.Tables.{Grows, IsTableOf};
+ghost use Rattle.stream_core.specs.PlainTables.{plain_table};
+ghost use Rattle.engine_tests.specs.Small.{small_tables};
+
+use crate::programs::small_program;
+use kan_model::{Env, Program, Store};
+use kan_plain::PlainStore;
+use kan_terms::{ListOf, Memory};
+use std::alloc::Global;
+use std::process::Abort;
+use std::test::Fail;
+use stream_core::{Nodes, PlainNodes, Stream, Thunk, force};
+
+// The empty table for the small program.
+fn small_table<'a, St: Store>(alloc: Global, program: &'a Program) -> PlainNodes<'a, St>
+    requires { programs.tables program.now ≡ small_tables }
+    ensures { IsTableOf program.now (plain_table St.meaning result) }
+{
+    PlainNodes::new(alloc, program)
+}
+
+// The suspension of a call that holds.
+fn suspended_call<N: Nodes<St>, St: Store>(
+    alloc: Global,
+    program: &Program,
+    nodes: &mut N,
+) -> Result<N::Id, Memory>
+    requires table { IsTableOf program.now (N.table nodes.old) }
+    requires tables { programs.tables program.now ≡ small_tables }
+    ensures belongs { IfOk result (N.table nodes.new).belongs }
+    ensures room { IfOk result (λ id. top ((N.table nodes.new).tree id) ≤ 2 ^ 62) }
+    ensures same { (N.table nodes.new).program ≡ (N.table nodes.old).program }
+{
+    let store = St::empty(alloc)?;
+    let args = Env::of(program, Vec::new(alloc));
+    let id = nodes.suspend(Thunk::Call {
+        rel: 0,
+        args,
+        store,
+    })?;
+    Ok(id)
+}
+
+// Demands that a stream is one store and an end.
+fn expect_one<I, St>(rt: &impl Abort, stream: &Stream<I, St>) {
+    assert_eq!(rt; stream.heads.len(), 1);
+    assert!(rt; stream.tail.is_none());
+}
+
+// Demands that nothing is kept for a suspension before it is forced, and then what it gave.
+fn expect_kept<N: Nodes<St>, St: Store>(
+    rt: &(impl Abort + Alloc<A = Global>),
+    program: &Program,
+    id: &N::Id,
+    nodes: &mut N,
+) -> Result<(), Fail>
+    requires table { IsTableOf program.now (N.table nodes.old) }
+    requires belongs { (N.table nodes.old).belongs id.now }
+    requires room { top ((N.table nodes.old).tree id.now) ≤ 2 ^ 62 }
+{
+    let alloc = rt.alloc();
+    let copy = nodes.again(id)?;
+    assert!(rt; nodes.found(alloc, id)?.is_none());
+    let stream = force(alloc, program, id, nodes)?;
+    expect_one(rt, &stream);
+    let found = nodes.found(alloc, &copy)?.ok_or("nothing is kept")?;
+    expect_one(rt, &found);
+    Ok(())
+}
+
+#[test]
+fn what_was_forced_is_kept(rt: HostRuntime) -> Result<(), Fail> {
+    let program = small_program(rt.alloc())?;
+    let mut nodes: PlainNodes<PlainStore> = small_table(rt.alloc(), &program);
+    let id = suspended_call(rt.alloc(), &program, &mut nodes)?;
+    expect_kept(&rt, &program, &id, &mut nodes)
+}
+
+// A suspension that waits for another one, with nothing behind it.
+fn around<N: Nodes<St>, St: Store>(
+    alloc: Global,
+    inner: N::Id,
+    nodes: &mut N,
+) -> Result<N::Id, Memory>
+    requires belongs { (N.table nodes.old).belongs inner }
+    requires room { top ((N.table nodes.old).tree inner) ≤ 2 ^ 62 }
+    ensures belongs { IfOk result (N.table nodes.new).belongs }
+    ensures room { IfOk result (λ id. top ((N.table nodes.new).tree id) ≤ 2 ^ 62) }
+    ensures same { (N.table nodes.new).program ≡ (N.table nodes.old).program }
+{
+    let id = nodes.suspend(Thunk::Swap {
+        heads: ListOf::new(alloc),
+        tail: None,
+        inner,
+    })?;
+    Ok(id)
+}
+
+// So many suspensions around one.
+fn nested<N: Nodes<St>, St: Store>(
+    alloc: Global,
+    inner: N::Id,
+    count: u32,
+    nodes: &mut N,
+) -> Result<N::Id, Memory>
+    requires belongs { (N.table nodes.old).belongs inner }
+    requires room { top ((N.table nodes.old).tree inner) ≤ 2 ^ 62 }
+    ensures belongs { IfOk result (N.table nodes.new).belongs }
+    ensures room { IfOk result (λ id. top ((N.table nodes.new).tree id) ≤ 2 ^ 62) }
+    ensures same { (N.table nodes.new).program ≡ (N.table nodes.old).program }
+{
+    let mut id = inner;
+    for _ in 0..count {
+        id = around(alloc, id, nodes)?;
+    }
+    Ok(id)
+}
+
+#[test]
+fn a_deep_suspension_is_forced(rt: HostRuntime) -> Result<(), Fail> {
+    let alloc = rt.alloc();
+    let program = small_program(alloc)?;
+    let mut nodes: PlainNodes<PlainStore> = small_table(alloc, &program);
+    let inner = suspended_call(alloc, &program, &mut nodes)?;
+    let id = nested(alloc, inner, 100_000, &mut nodes)?;
+    expect_kept(&rt, &program, &id, &mut nodes)
+}
