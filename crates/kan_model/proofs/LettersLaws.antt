@@ -116,23 +116,6 @@ puts_atom old new x t put is_atom = rw (put, stack-push) (is_atom (stack_terms o
 pub last_off : {A : Type 0} (r : Option A) (x : A) (old new : List A) → r ≡ Some x → old ≡ new ++ option_to_list r → old ≡ new ++ x ∷ []
 last_off r x old new e h = h ∙ ap (λ o. new ++ option_to_list o) e
 
--- terms to be joined are there
-pub top_there : (old : List Term) → IsSome (join_two (stack_terms old)) → 0 < length old
-top_there [] two = absurd (true≢false (sym two))
-top_there (t ∷ ts) two = omega arith
-
-pub next_there : (old rest : List Term) (a : Term) → old ≡ rest ++ a ∷ [] → IsSome (join_two (stack_terms old)) → 0 < length rest
-next_there old [] a split two = absurd (none (subst (λ ts. IsSome (join_two (stack_terms ts))) split two))
-  where
-    none : IsSome (join_two (tree a ∷ [])) → ⊥
-    none two = true≢false (sym two)
-next_there old (t ∷ ts) a split two = omega arith
-
--- the one term of a stack is on its top
-pub last_there : (old : List Term) → IsSome (only_one (Some (stack_terms old))) → 0 < length old
-last_there [] one = absurd (true≢false (sym one))
-last_there (t ∷ ts) one = omega arith
-
 pub last_is : (old rest : List Term) (t : Term) → old ≡ rest ++ t ∷ [] → IsSome (only_one (Some (stack_terms old))) → only_one (Some (stack_terms old)) ≡ Some (tree t)
 last_is old rest t split one = by (stack_terms rest) (ap only_one (ap Some (ap stack_terms split ∙ stack-push rest t)))
   where
@@ -142,12 +125,6 @@ last_is old rest t split one = by (stack_terms rest) (ap only_one (ap Some (ap s
       where
         none : IsSome {T = Tm} None → ⊥
         none one = true≢false (sym one)
-
--- what is left when all letters are taken
-pub built_there : (letters whole : List Letter) (old : List Term) →
-    letters ≡ [] → built_from letters (stack_terms old) ≡ built_from whole [] → IsSome (term_of whole) → 0 < length old
-built_there letters whole old none kept spells =
-    last_there old (subst IsSome (ap only_one (sym kept ∙ ap (λ xs. built_from xs (stack_terms old)) none)) spells)
 
 pub built_last : (letters whole : List Letter) (old rest : List Term) (t : Term) →
     letters ≡ [] → built_from letters (stack_terms old) ≡ built_from whole [] → IsSome (term_of whole) → old ≡ rest ++ t ∷ [] → term_of whole ≡ Some (tree t)

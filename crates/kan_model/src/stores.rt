@@ -6,7 +6,7 @@ ghost use Rattle.kan_model.specs.Stores.Store as facts;
 ghost use Rattle.kan_model.specs.Stores.Kept.{is_kept};
 ghost use Rattle.kan_model.specs.Programs.Scope.{is_counted, sides_below};
 ghost use Rattle.kan_model.specs.Stores.Prims.{equation, prim as primitive};
-ghost use Rattle.kan_model.specs.Stores.Calls.{Gives, WalksTo, IsFree, kind_at, AreTags, AreDifferences, answer, differences, is_equation};
+ghost use Rattle.kan_model.specs.Stores.Calls.{Gives, WalksTo, IsFree, kind_at, AreTags, AreDifferences, answer, differences};
 
 use crate::prims::{Asserted, Kind};
 use kan_terms::{Memory, PairLists, Tags, Term};
@@ -32,18 +32,19 @@ pub trait Store: Sized + Drop {
         requires { (meaning self.now).counter + count ≤ 2 ^ 63 }
         ensures { IfOk result (λ made. meaning made ≡ facts.with_fresh (meaning self.now) count) };
 
+    /// What `fresh` gives, made of this store itself.
+    fn fresh_owned(self, alloc: Global, count: u32) -> Result<Self, Memory>
+        requires { (meaning self).counter + count ≤ 2 ^ 63 }
+        ensures { IfOk result (λ made. meaning made ≡ facts.with_fresh (meaning self) count) };
+
     /// The store with one more primitive, and None exactly where that isn't kept.
     fn assert(&self, alloc: Global, prim: &Asserted) -> Result<Option<Self>, Memory>
         requires below { sides_below (meaning self.now).counter (primitive prim.now) ≡ true }
-        // Until the other primitives are built.
-        requires equation { is_equation (primitive prim.now) ≡ true }
         ensures { IfOk result (λ made. Gives (facts.with_prim (meaning self.now) (primitive prim.now)) (option_map meaning made)) };
 
     /// What `assert` gives, made of this store itself: in place where nobody else holds it.
     fn assert_owned(self, alloc: Global, prim: &Asserted) -> Result<Option<Self>, Memory>
         requires below { sides_below (meaning self).counter (primitive prim.now) ≡ true }
-        // Until the other primitives are built.
-        requires equation { is_equation (primitive prim.now) ≡ true }
         ensures { IfOk result (λ made. Gives (facts.with_prim (meaning self) (primitive prim.now)) (option_map meaning made)) };
 
     /// An equal store.

@@ -8,7 +8,7 @@ use Rattle.std.proofs.lemmas.List.Folds.{list_all-append, list_all-map}
 use Rattle.std.proofs.lemmas.Option.{slice_get-map, slice_get_within}
 use Rattle.kan_terms.specs.Tree.{Tree}
 use Rattle.kan_model.specs.Programs.Goals.{Template, Goal, Primitive, Relation}
-use Rattle.kan_model.specs.Programs.Scope.{height, is_low, all_below, sides_below, in_scope, takes, calls_there, body_in_scope, is_closed}
+use Rattle.kan_model.specs.Programs.Scope.{height, is_low, all_below, sides_below, in_scope, takes, calls_there, body_in_scope}
 use Rattle.kan_model.specs.Programs.Measures.{slots, most_slots, sides_slots, goal_slots, noted_height}
 use Rattle.kan_model.specs.Programs.Calls.{call_there, entry_takes}
 use Rattle.kan_model.specs.Programs.Tables.{GoalEntry, RelationEntry, Tables, template_at, goal_at, templates_of, goals_of, goal_of, goals_after, arguments_at, program_of, is_grown, is_goal_grown, goals_grown, are_closed}
@@ -200,13 +200,6 @@ tests-say tables qs low calls bodies_fit grown is_low_test is_calls_test is_bodi
     moved true false c false e = refl
     moved false b c true e = refl
     moved false b c false e = refl
-
--- with no query, less may be open
-pub open-none : (tables : Tables) (qs : List ℕ) → are_closed tables qs ≡ true → are_closed tables [] ≡ true
-open-none tables qs h =
-    let (there, rest) = and_parts (list_all (λ g. nat_lt g (length tables.goals)) qs) (is_closed (templates_of tables.terms) (program_of tables) (map (goal_at (goals_of tables)) qs)) h in
-    let (three, last) = and_parts (list_all is_low (templates_of tables.terms) && list_all (calls_there (program_of tables).relations) (program_of tables).goals && list_all body_in_scope (program_of tables).relations) (list_all (in_scope 1) (map (goal_at (goals_of tables)) qs)) rest in
-    and_from _ _ refl (and_from _ _ three refl)
 
 -- what a row's slots say of its goal, where there is such a row
 pub row-uses : {R : Type 0} (f : R → ℕ) (rows : List R) (gs : List Goal) (at n : ℕ) (found : Option R) → map f rows ≡ map goal_slots gs → found ≡ slice_get rows at →

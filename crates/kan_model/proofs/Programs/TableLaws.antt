@@ -9,7 +9,7 @@ use Rattle.std.proofs.lemmas.Option.{unwrap_or-slice_get}
 use Rattle.std.proofs.Math.ListN.{get_or-append}
 use Rattle.kan_terms.specs.Tree.{Tree}
 use Rattle.kan_model.specs.Programs.Goals.{Template, Goal, Primitive}
-use Rattle.kan_model.specs.Programs.Tables.{TermEntry, GoalEntry, RelationEntry, Tables, template_at, template_of, templates_after, templates_of, goal_of, goals_after, goals_of, arguments_at, is_term_grown, terms_grown, is_goal_grown, goals_grown, is_grown, with_term, with_argument, with_goal, with_relation}
+use Rattle.kan_model.specs.Programs.Tables.{TermEntry, GoalEntry, RelationEntry, Tables, template_at, template_of, templates_after, templates_of, goal_of, goals_after, goals_of, arguments_at, is_term_grown, terms_grown, is_goal_grown, goals_grown, is_grown, with_term, with_argument, with_goal}
 
 -- the templates of a table with one entry more
 pub templates-more : (ts : List Template) (es : List TermEntry) (e : TermEntry) →
@@ -244,12 +244,3 @@ grown-with_goal tables e h last =
       relations = bodies-more _ _ (longer tables.goals e) tables.relations old.relations;
     })
 
-pub grown-with_relation : (tables : Tables) (r : RelationEntry) → is_grown tables ≡ true → r.body < length tables.goals → is_grown (with_relation tables r) ≡ true
-grown-with_relation tables r h last =
-    let old = grown-parts tables h in
-    grown-from (with_relation tables r) (record {
-      terms = old.terms;
-      arguments = old.arguments;
-      goals = goals_grown-more tables (with_relation tables r) 0 tables.goals (omega arith) (omega arith) old.goals;
-      relations = all-last (λ q. nat_lt q.body (length tables.goals)) tables.relations r old.relations (lt-ltb r.body _ last);
-    })

@@ -31,7 +31,3 @@ taken_text table t = flat_map (answer_line table) t.stores ++ summary_line (leng
 -- the output of runs at a fuel, run after run
 abbrev pub runs_output : Table → Program → ℕ → List Query → List ℕ
 runs_output table program fuel = flat_map (λ q. taken_text table (take_query program fuel q))
-
--- the one line of a refused text: the number of the refusal, the offset and what it is
-abbrev pub error_line : ℕ → ℕ → List ℕ → List ℕ
-error_line number at text = line (codes "error " ++ decimal_text number ++ codes " at " ++ decimal_text at ++ codes ": " ++ text)
