@@ -356,12 +356,20 @@ moved_listed bound old new moved = subst (λ n. Brought bound (listed_in old) (g
 pub moved_watchable : (bound : Pairs) (t : Table) → All (is_watchable bound) t → are_watchable bound (listed_in t) ≡ true
 moved_watchable bound t all = all_gathered (is_watchable bound) (at t) t.next all
 
-pub none_recheck : {X : Type 0} (bound : Pairs) (t : Table) → HasIdentical bound t → (◌≡◌ {A = Option X} None None) ↔ (list_any (is_identical bound) (listed_in t) ≡ true)
-none_recheck bound t there = (λ e. identical_listed bound t there, λ i. refl)
+-- what looking again at all gives
+module _ (bound : Pairs) (h : HasNoCycle bound) (old new : Table) (differ : Bool) (ds : List Disequality) (is : listed_in old ≡ ds) (moved : MovedTo bound (is_watchable bound) old new differ) where
+  pub recheck_none : {X : Type 0} → differ ≡ false → (◌≡◌ {A = Option X} None None) ↔ (list_any (is_identical bound) ds ≡ true)
+  recheck_none off = (λ e. subst (λ es. list_any (is_identical bound) es ≡ true) is (identical_listed bound old (subst (MovedTo bound (is_watchable bound) old new) off moved)), λ i. refl)
 
-pub some_recheck : {X : Type 0} (x : X) (bound : Pairs) → HasNoCycle bound → (old new : Table) → MovedTo bound (is_watchable bound) old new true → (Some x ≡ None) ↔ (list_any (is_identical bound) (listed_in old) ≡ true)
-some_recheck x bound h old new (moved, all) = (λ e. cc, λ i. absurd (true≢false (sym i ∙ identical_brought bound (grown bound h) (listed_in old) (listed_in new) (moved_listed bound old new moved)
-    ∙ none_passes (is_watchable bound) (is_identical bound) (watchable_differs_grown bound (grown bound h)) (listed_in new) (moved_watchable bound new all))))
+  pub recheck_brought : differ ≡ true → Brought bound ds (listed_in new)
+  recheck_brought on = subst (λ es. Brought bound es (listed_in new)) is (moved_listed bound old new (subst (MovedTo bound (is_watchable bound) old new) on moved).0)
+
+  pub recheck_watchable : differ ≡ true → are_watchable bound (listed_in new) ≡ true
+  recheck_watchable on = moved_watchable bound new (subst (MovedTo bound (is_watchable bound) old new) on moved).1
+
+  pub recheck_some : {X : Type 0} (x : X) → differ ≡ true → (Some x ≡ None) ↔ (list_any (is_identical bound) ds ≡ true)
+  recheck_some x on = (λ e. cc, λ i. absurd (true≢false (sym i ∙ identical_brought bound (grown bound h) ds (listed_in new) (recheck_brought on)
+      ∙ none_passes (is_watchable bound) (is_identical bound) (watchable_differs_grown bound (grown bound h)) (listed_in new) (recheck_watchable on))))
 
 -- the last number of a list that is left
 below_more : (w : Watched) (left : ℕ) → 0 < left → numbers_below w left ≡ numbers_below w (left - 1) ++ or_nothing (found number_list w.numbers (left - 1))
