@@ -1,4 +1,6 @@
+pub mod AddLaws
 pub mod BroughtLaws
+mod Examples
 pub mod ListLaws
 pub mod MovedLaws
 pub mod ReadingLaws

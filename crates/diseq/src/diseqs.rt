@@ -14,6 +14,7 @@ ghost use Rattle.diseq.specs.Adding.{Adds};
 ghost use Rattle.diseq.specs.Disequalities.{Brought, is_identical};
 ghost use Rattle.diseq.specs.Watching.{are_watchable};
 
+use crate::solving::adds_nothing;
 use crate::table::Table;
 use kan_terms::{Bindings, Memory, PairLists, Term, TermPair, TermPairs};
 use std::alloc::Global;
@@ -116,7 +117,7 @@ impl Diseqs {
 
     /// What `add` gives, made of these disequalities themselves: in place where nobody else holds
     /// them.
-    #[tactic(auto, using(crate::proofs::MovedLaws::adds_always, crate::proofs::MovedLaws::adds_one, crate::proofs::MovedLaws::none_identical, crate::proofs::MovedLaws::some_always, crate::proofs::MovedLaws::some_differs))]
+    #[tactic(auto, using(crate::proofs::AddLaws::adds_always, crate::proofs::AddLaws::adds_one))]
     pub fn add_owned<B: Bindings>(
         self,
         alloc: Global,
@@ -133,7 +134,7 @@ impl Diseqs {
         match difference(alloc, left, right, bindings)? {
             None => Ok(Some(self)),
             Some(added) => {
-                if added.is_empty() {
+                if adds_nothing(&added) {
                     return Ok(None);
                 }
                 Ok(Some(self.with(alloc, added)?))

@@ -2,11 +2,11 @@ use Rattle.std.proofs.Common.{◌≡◌, rules, [], ◌∷◌, map, Some, subst}
 use Rattle.kan_terms.specs.Terms.{sides, tree}
 use Rattle.unify_core.specs.Solutions.{equation}
 use Rattle.unify_core.specs.Unifying.{Unifying}
-use Rattle.diseq.proofs.MovedLaws.{none_identical, some_always, some_differs}
+use Rattle.diseq.proofs.AddLaws.{none_identical, some_always, some_differs}
 use Rattle.diseq.proofs.diseqs.Diseqs.add_owned.Goals as goal
 
-pub returns-then-is_empty-clause-none : goal.returns-then-is_empty-clause-none
-returns-then-is_empty-clause-none g c =
+pub returns-then-adds_nothing-clause-none : goal.returns-then-adds_nothing-clause-none
+returns-then-adds_nothing-clause-none g c =
     let empty : c.in-Some.added ≡ [] = search rules in
     none_identical (g.B.Bindings.pairs c.args.bindings.now) (equation (tree c.args.left.now) (tree c.args.right.now) ∷ []) c.requires
     (subst (λ ps. Unifying (g.B.Bindings.pairs c.args.bindings.now) (equation (tree c.args.left.now) (tree c.args.right.now) ∷ []) (Some (map sides ps))) empty (rw c.in-Some.is at c.in_ok-difference.ensures))
