@@ -7,7 +7,8 @@ ghost use Rattle.kan_terms.specs.Tree.{Tree};
 ghost use Rattle.kan_tree.specs.Found.{found};
 ghost use Rattle.unify_core.specs.Cycles.{HasNoCycle};
 ghost use Rattle.diseq.specs.Tables.{All, AllWatched, MovedTo, Replacing, Resolved, Seen};
-ghost use Rattle.diseq.specs.Tables.{WatchingOther, at, is_fine, is_settled, number_list, or_nothing};
+ghost use Rattle.diseq.specs.Tables.{WatchingOther, at, is_fine, is_settled};
+ghost use Rattle.diseq.specs.Tables.{number_list, or_nothing};
 ghost use Rattle.diseq.specs.Watching.{is_watchable, is_watched_by};
 
 use crate::entries::{Entry, Watched};
