@@ -1,4 +1,5 @@
 pub mod AbsentLaws
+pub mod OneByOneLaws
 pub mod TagLaws
 pub mod TagSteps
 pub mod TypeLaws
