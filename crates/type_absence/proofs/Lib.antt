@@ -1,4 +1,5 @@
 pub mod AbsentLaws
+mod Examples
 pub mod OneByOneLaws
 pub mod TagLaws
 pub mod TagSteps
