@@ -1,17 +1,12 @@
 -- What is left after a pull, and what the table keeps.
-use Rattle.std.proofs.Common.{◌≡◌, ℕ, zero, suc, ◌+◌, ◌-◌, ◌^◌, ◌≤◌, Bool, true, false, List, [], ◌∷◌, ◌++◌, refl, sym, ◌∙◌, ap, ap₂, subst, arith}
-use Rattle.std.specs.Prelude.{Option, Some, None, IfSome, ◌&&◌}
-use Rattle.std.specs.List.{list_all}
-use Rattle.std.proofs.Math.Bool.{and_assoc, and-true}
-use Rattle.std.proofs.lemmas.List.Folds.{list_all-append}
-use Rattle.kan_model.specs.Programs.Goals.{Primitive, Goal, Template, Program}
+use Rattle.std.proofs.Common.{◌≡◌, ℕ, zero, suc, ◌+◌, ◌-◌, ◌^◌, ◌≤◌, false, List, [], sym, ◌∙◌, ap, ap₂, subst, arith}
+use Rattle.std.specs.Prelude.{Option, Some, None, IfSome}
+use Rattle.kan_model.specs.Programs.Goals.{Program}
 use Rattle.kan_model.specs.Stores.Store as facts
 use Rattle.kan_model.specs.Streams.Stream as model
 use Rattle.kan_model.specs.Streams.Running.{force}
 use Rattle.kan_model.specs.Streams.Taking.{take, with_pull}
-use Rattle.kan_model.specs.Programs.Tables.{GoalEntry, Tables, goal_of, goals_after, templates_of, program_of}
 use Rattle.kan_model.specs.Streams.Bounds.{top}
-use Rattle.stream_core.specs.BuiltGoals.{is_built}
 use Rattle.stream_core.specs.declared.plain_nodes.PlainId.{PlainId}
 use Rattle.kan_search.specs.Suspensions.{LeavesRoom, pulled_stream}
 use Rattle.kan_search.specs.Waiting.{is_reached}
@@ -41,38 +36,3 @@ pub room-after : (tree : PlainId → model.Thunk) (t : model.Thunk) (tail : Opti
     (id : PlainId) → tail ≡ Some id → LeavesRoom (pulls + 1) (tree id)
 room-after tree t tail pulls more room id is =
     let high : top (tree id) ≤ top t + 2 ^ 21 = subst (λ o. IfSome o (λ next. top (tree next) ≤ top t + 2 ^ 21)) is more in omega (arith, high, room)
-
--- whether a goal is built, as its entry tells
-abbrev goal_is_built : Goal → Bool
-goal_is_built (Goal.prim (Primitive.same a b)) = true
-goal_is_built (Goal.prim p) = false
-goal_is_built g = true
-
-entry-is-built : (ts : List Template) (args : List ℕ) (gs : List Goal) (e : GoalEntry) → goal_is_built (goal_of ts args gs e) ≡ is_built e
-entry-is-built ts args gs GoalEntry.succeed = refl
-entry-is-built ts args gs GoalEntry.fail = refl
-entry-is-built ts args gs (GoalEntry.same a b) = refl
-entry-is-built ts args gs (GoalEntry.differ a b) = refl
-entry-is-built ts args gs (GoalEntry.symbol a) = refl
-entry-is-built ts args gs (GoalEntry.number a) = refl
-entry-is-built ts args gs (GoalEntry.text a) = refl
-entry-is-built ts args gs (GoalEntry.absent tag a) = refl
-entry-is-built ts args gs (GoalEntry.both g h) = refl
-entry-is-built ts args gs (GoalEntry.either g h) = refl
-entry-is-built ts args gs (GoalEntry.fresh k g) = refl
-entry-is-built ts args gs (GoalEntry.later g) = refl
-entry-is-built ts args gs (GoalEntry.call r at k) = refl
-
-goals-are-built : (ts : List Template) (args : List ℕ) (gs : List Goal) (es : List GoalEntry) → list_all goal_is_built (goals_after ts args gs es) ≡ (list_all goal_is_built gs && list_all is_built es)
-goals-are-built ts args gs [] = sym (and-true (list_all goal_is_built gs))
-goals-are-built ts args gs (e ∷ es) =
-    let g = goal_of ts args gs e in
-    goals-are-built ts args (gs ++ g ∷ []) es
-    ∙ ap (λ b. b && list_all is_built es) (list_all-append goal_is_built gs (g ∷ []))
-    ∙ and_assoc (list_all goal_is_built gs) (list_all goal_is_built (g ∷ [])) (list_all is_built es)
-    ∙ ap (λ b. list_all goal_is_built gs && (b && list_all is_built es)) (and-true (goal_is_built g) ∙ entry-is-built ts args gs e)
-
--- whether all is built can be told from the program that tables stand for
-pub built-alike : (t u : Tables) → program_of u ≡ program_of t → list_all is_built t.goals ≡ true → list_all is_built u.goals ≡ true
-built-alike t u same built =
-    sym (goals-are-built (templates_of u.terms) u.arguments [] u.goals) ∙ ap (λ p. list_all goal_is_built p.goals) same ∙ goals-are-built (templates_of t.terms) t.arguments [] t.goals ∙ built

@@ -2,7 +2,7 @@
 #![tactic(auto)]
 
 mod batch;
-mod heads;
+mod limit;
 mod pulling;
 mod searching;
 

@@ -9,11 +9,10 @@ ghost use Rattle.stream_core.specs.PlainTables.{plain_table, program_of};
 ghost use Rattle.stream_core.specs.Tables.{IsTableOf, Grows};
 ghost use Rattle.kan_search.specs.Suspensions.{tree_of, IsOf, LeavesRoom, pulled_stream};
 
-use crate::heads::reversed;
 use kan_model::{Env, Store};
 use kan_terms::Memory;
 use std::alloc::Global;
-use stream_core::{PlainId, PlainNodes, Stream, force, run_goal};
+use stream_core::{PlainId, PlainNodes, Stream, force, reversed, run_goal};
 
 // Stores of a stream, the next one last, and how it goes on behind them.
 #[derive(Drop)]
@@ -50,7 +49,7 @@ pub(crate) fn start<'a, St: Store>(
     let program = nodes.program();
     let env = Env::start(alloc, 0)?;
     let none = St::empty(alloc)?;
-    let store = none.fresh(alloc, 1)?;
+    let store = none.fresh_owned(alloc, 1)?;
     let stream = run_goal(alloc, program, goal, &env, store, nodes)?;
     let pulled = turned(alloc, stream)?;
     Ok(pulled)

@@ -1,21 +1,19 @@
 //! Searches, which take the answers of a run's stream.
 
 ghost use Rattle.std.specs.Prelude.{◌≡◌, ◌+◌, ◌≤◌, true, IfSome};
-ghost use Rattle.std.specs.List.{list_all};
 ghost use Rattle.std.specs.Option.{ForSome};
 ghost use Rattle.kan_model.specs.Programs.Scope.{is_small};
 ghost use Rattle.kan_model.specs.Programs.Closed as programs;
-ghost use Rattle.stream_core.specs.BuiltGoals.{is_built};
 ghost use Rattle.stream_core.specs.PlainTables.{program_of};
 ghost use Rattle.kan_search.specs.Suspensions.{tree_of, IsOf, LeavesRoom};
 
 use crate::batch::{Batch, Ended, Next};
-use crate::heads::{is_reached, less_one, put_last};
+use crate::limit::{is_reached, less_one};
 use crate::pulling::{Pulled, pull, start};
 use kan_model::{Program, Query, Store};
 use kan_terms::{ListOf, Memory};
 use std::alloc::Global;
-use stream_core::{PlainId, PlainNodes, Stores};
+use stream_core::{PlainId, PlainNodes, Stores, put_last};
 
 // How many answers a batch has at most.
 const GREATEST_BATCH: usize = 1024;
@@ -40,7 +38,6 @@ pub struct Search<'a, St: Store> {
     // Whether memory was wanting, so that nothing is known of what is left.
     spent: bool,
     ghost small: { is_small (programs.meaning (program_of nodes)) ≡ true },
-    ghost built: { list_all is_built (programs.tables (program_of nodes)).goals ≡ true },
     ghost belongs: { ∥ IfSome tail (IsOf St.meaning nodes) ∥₁ },
     ghost room: { ForSome tail (λ id. LeavesRoom pulls (tree_of St.meaning nodes id)) },
     ghost few: { pulls + fuel ≤ 1000000 },
@@ -67,8 +64,6 @@ impl<'a, St: Store> Search<'a, St> {
     ) -> Result<Search<'a, St>, Memory>
         requires closed { are_closed (programs.tables program.now) (query.now.goal ∷ []) ≡ true }
         requires small { is_small (programs.meaning program.now) ≡ true }
-        // Until the other constraints are built.
-        requires built { list_all is_built (programs.tables program.now).goals ≡ true }
         requires fuel { 1 ≤ fuel × (fuel ≤ 1000000) }
         requires round { 1 ≤ round × (round ≤ 65536) }
         ensures left { IfOk result (λ search. left St.meaning search ≡ take_query

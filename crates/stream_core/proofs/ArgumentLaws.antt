@@ -7,6 +7,9 @@ use Rattle.kan_terms.specs.Tree.{Tree, Tm}
 use Rattle.kan_terms.specs.Terms.{tree}
 use Rattle.kan_terms.specs.declared.terms.Term.{Term}
 use Rattle.kan_model.specs.Programs.Goals.{Primitive, Template}
+use Rattle.kan_model.specs.declared.prims.Kind.{Kind}
+use Rattle.kan_model.specs.declared.prims.Kind.TheVariants.{Symbol, Number, Text}
+use Rattle.stream_core.specs.AtomicGoals.{of_kind}
 use Rattle.kan_model.specs.Stores.Store.{Store, with_prim, with_fresh}
 use Rattle.kan_model.specs.Stores.Kept.{is_kept}
 use Rattle.kan_model.specs.Streams.Stream.{Stream, Thunk, one, empty}
@@ -37,6 +40,12 @@ instance-below n env (Tree.pair a b) h = and_from _ _ (instance-below n env a h)
 
 pub sides-are-below : (n : ℕ) (a b x y : Tm) → x ≡ a → y ≡ b → all_below n a ≡ true → all_below n b ≡ true → sides_below n (Primitive.same x y) ≡ true
 sides-are-below n a b x y left right h k = rw (left, right) (and_from _ _ h k)
+
+-- a primitive of a type is over its one side
+pub kind-below : (n : ℕ) (kind : Kind) (t : Tm) → sides_below n (of_kind kind t) ≡ all_below n t
+kind-below n Symbol t = refl
+kind-below n Number t = refl
+kind-below n Text t = refl
 
 assert-by : (st : Store) (p : Primitive Tm) (b : Bool) → is_kept (with_prim st p) ≡ b → assert st p ≡ elim b [ true ↦ one (with_prim st p) | false ↦ empty ]
 assert-by st p b is = ap (λ c. elim c as (λ x. Stream) [ true ↦ one (with_prim st p) | false ↦ empty ]) is

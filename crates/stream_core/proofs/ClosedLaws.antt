@@ -15,7 +15,7 @@ use Rattle.kan_model.proofs.Programs.TableLaws.{grown-parts, goals-length}
 use Rattle.kan_model.specs.Programs.Nodes.{goal_entry}
 use Rattle.kan_model.specs.declared.nodes.GoalNode.{GoalNode}
 use Rattle.kan_model.specs.declared.nodes.GoalNode.TheVariants.{Succeed, Fail, Same, Differ, Symbol, Number, Text, Absent, Both, Either, Fresh, Later, Call}
-use Rattle.stream_core.specs.BuiltGoals.{is_built, is_atomic}
+use Rattle.stream_core.specs.AtomicGoals.{is_atomic, ends_at_once}
 use Rattle.stream_core.specs.CallArguments.{ArgumentsPlaced}
 use Rattle.stream_core.specs.Tasks.{Each}
 use Rattle.stream_core.proofs.HeadLaws.{Each-like, Each-append}
@@ -165,34 +165,51 @@ goal-placed p n (d ∷ es) zero e grown is =
     subst (ArgumentsPlaced p) same (entry-placed p n d (and_parts (is_goal_grown (programs.tables p) n d) (goals_grown (programs.tables p) (suc n) es) grown).0)
 goal-placed p n (d ∷ es) (suc i) e grown is = goal-placed p (suc n) es i e (and_parts (is_goal_grown (programs.tables p) n d) (goals_grown (programs.tables p) (suc n) es) grown).1 is
 
--- a goal that is built and runs no others is atomic
-pub is-atomic : (node : GoalNode) → is_built (goal_entry node) ≡ true → ((g h : ℕ) → node ≡ Both g h → ⊥) → ((g h : ℕ) → node ≡ Either g h → ⊥) → ((k g : ℕ) → node ≡ Fresh k g → ⊥) → is_atomic (goal_entry node) ≡ true
-is-atomic Succeed built b e f = refl
-is-atomic Fail built b e f = refl
-is-atomic (Same x y) built b e f = refl
-is-atomic (Differ x y) built b e f = cc
-is-atomic (Symbol x) built b e f = cc
-is-atomic (Number x) built b e f = cc
-is-atomic (Text x) built b e f = cc
-is-atomic (Absent tag x) built b e f = cc
-is-atomic (Both g h) built b e f = absurd (b g h refl)
-is-atomic (Either g h) built b e f = absurd (e g h refl)
-is-atomic (Fresh k g) built b e f = absurd (f k g refl)
-is-atomic (Later g) built b e f = refl
-is-atomic (Call r at k) built b e f = refl
+-- a goal that is none of the three that run others is atomic
+pub is-atomic : (node : GoalNode) → ((g h : ℕ) → node ≡ Both g h → ⊥) → ((g h : ℕ) → node ≡ Either g h → ⊥) → ((k g : ℕ) → node ≡ Fresh k g → ⊥) → is_atomic (goal_entry node) ≡ true
+is-atomic Succeed b e f = refl
+is-atomic Fail b e f = refl
+is-atomic (Same x y) b e f = refl
+is-atomic (Differ x y) b e f = refl
+is-atomic (Symbol x) b e f = refl
+is-atomic (Number x) b e f = refl
+is-atomic (Text x) b e f = refl
+is-atomic (Absent tag x) b e f = refl
+is-atomic (Both g h) b e f = absurd (b g h refl)
+is-atomic (Either g h) b e f = absurd (e g h refl)
+is-atomic (Fresh k g) b e f = absurd (f k g refl)
+is-atomic (Later g) b e f = refl
+is-atomic (Call r at k) b e f = refl
 
--- an atomic goal is one of five kinds
-pub not-atomic : (node : GoalNode) → is_atomic (goal_entry node) ≡ true → (node ≡ Succeed → ⊥) → (node ≡ Fail → ⊥) → ((a b : ℕ) → node ≡ Same a b → ⊥) → ((g : ℕ) → node ≡ Later g → ⊥) → ((r at k : ℕ) → node ≡ Call r at k → ⊥) → ⊥
-not-atomic Succeed h s f e l c = s refl
-not-atomic Fail h s f e l c = f refl
-not-atomic (Same x y) h s f e l c = e x y refl
-not-atomic (Differ x y) h s f e l c = cc
-not-atomic (Symbol x) h s f e l c = cc
-not-atomic (Number x) h s f e l c = cc
-not-atomic (Text x) h s f e l c = cc
-not-atomic (Absent tag x) h s f e l c = cc
-not-atomic (Both g k) h s f e l c = cc
-not-atomic (Either g k) h s f e l c = cc
-not-atomic (Fresh k g) h s f e l c = cc
-not-atomic (Later g) h s f e l c = l g refl
-not-atomic (Call r at k) h s f e l c = c r at k refl
+-- an atomic goal that doesn't wait ends at once
+pub at-once : (node : GoalNode) → is_atomic (goal_entry node) ≡ true → ((g : ℕ) → node ≡ Later g → ⊥) → ((r at k : ℕ) → node ≡ Call r at k → ⊥) → ends_at_once (goal_entry node) ≡ true
+at-once Succeed h l c = h
+at-once Fail h l c = h
+at-once (Same x y) h l c = h
+at-once (Differ x y) h l c = h
+at-once (Symbol x) h l c = h
+at-once (Number x) h l c = h
+at-once (Text x) h l c = h
+at-once (Absent tag x) h l c = h
+at-once (Both g k) h l c = h
+at-once (Either g k) h l c = h
+at-once (Fresh k g) h l c = h
+at-once (Later g) h l c = absurd (l g refl)
+at-once (Call r at k) h l c = absurd (c r at k refl)
+
+-- a goal that ends at once succeeds, fails or is a primitive
+pub not-at-once : (node : GoalNode) → ends_at_once (goal_entry node) ≡ true → (node ≡ Succeed → ⊥) → (node ≡ Fail → ⊥) → ((a b : ℕ) → node ≡ Same a b → ⊥) → ((a b : ℕ) → node ≡ Differ a b → ⊥) →
+    ((a : ℕ) → node ≡ Symbol a → ⊥) → ((a : ℕ) → node ≡ Number a → ⊥) → ((a : ℕ) → node ≡ Text a → ⊥) → ((tag a : ℕ) → node ≡ Absent tag a → ⊥) → ⊥
+not-at-once Succeed ends s f e d y n t a = s refl
+not-at-once Fail ends s f e d y n t a = f refl
+not-at-once (Same x z) ends s f e d y n t a = e x z refl
+not-at-once (Differ x z) ends s f e d y n t a = d x z refl
+not-at-once (Symbol x) ends s f e d y n t a = y x refl
+not-at-once (Number x) ends s f e d y n t a = n x refl
+not-at-once (Text x) ends s f e d y n t a = t x refl
+not-at-once (Absent tag x) ends s f e d y n t a = a tag x refl
+not-at-once (Both g h) ends s f e d y n t a = cc
+not-at-once (Either g h) ends s f e d y n t a = cc
+not-at-once (Fresh k g) ends s f e d y n t a = cc
+not-at-once (Later g) ends s f e d y n t a = cc
+not-at-once (Call r at k) ends s f e d y n t a = cc

@@ -76,7 +76,7 @@ module _ {I : Type 0} where
 
   -- a table is of its program still
   pub table_stays : (R : Told I → Told I → Type 0) (p : code.Program) (t u : Table I) → GrowsBy R t u → IsTableOf p t → IsTableOf p u
-  table_stays R p t u grew is = record { program = grew.program ∙ is.program; small = is.small; built = is.built }
+  table_stays R p t u grew is = record { program = grew.program ∙ is.program; small = is.small }
 
   -- the way up from where a stream is kept: the ids that are left lead there, and each for which a stream was kept has one for what is inside
   pub record KeptUpTo (belonged : I → Type 0) (whole : I) (ids : List I) (was is : Told I) : Type 0 where

@@ -1,4 +1,4 @@
-pub mod BuiltGoals
+pub mod AtomicGoals
 pub mod Suspensions
 pub mod Tables
 pub mod Tasks

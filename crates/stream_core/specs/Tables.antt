@@ -1,13 +1,11 @@
 -- What a table of suspensions stands for, and how calls change it.
 use Rattle.std.specs.Prelude.{◌≡◌, ◌⊎◌, ℕ, Bool, true, false, Option, Some, None, IfSome}
-use Rattle.std.specs.List.{list_all}
 use Rattle.kan_model.specs.Programs.Goals.{Program}
 use Rattle.kan_model.specs.Programs.Scope.{is_small}
 use Rattle.kan_model.specs.Programs.Closed as programs
 use Rattle.kan_model.specs.Stores.Store as facts
 use Rattle.kan_model.specs.Streams.Stream as model
 use Rattle.kan_model.specs.declared.program.Program as code
-use Rattle.stream_core.specs.BuiltGoals.{is_built}
 use Rattle.stream_core.specs.Suspensions.{goal_in, stream, thunk, StreamBelongs, ThunkBelongs, Stays, ForceOf}
 use Rattle.stream_core.specs.declared.streams.Thunk.{Thunk}
 use Rattle.stream_core.specs.declared.streams.Stream.{Stream}
@@ -96,8 +94,7 @@ module _ {I St : Type 0} where
   abbrev pub IsForce : Table I → (St → facts.Store) → model.Thunk → Stream I St → Type 0
   IsForce t means suspension s = ForceOf t.belongs t.tree means t.program suspension s
 
--- the table's suspensions are of a program of the code, which is small and whose goals are built
+-- the table's suspensions are of a program of the code, which is small
 pub record IsTableOf {I : Type 0} (p : code.Program) (t : Table I) : Type 0 where
   pub program : t.program ≡ programs.meaning p
   pub small : is_small (programs.meaning p) ≡ true
-  pub built : list_all is_built (programs.tables p).goals ≡ true

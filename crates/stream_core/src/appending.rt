@@ -11,8 +11,8 @@ use kan_model::Store;
 use kan_terms::{ListOf, Memory};
 use std::alloc::Global;
 
-// Adds a store at the end of a list.
-pub(crate) fn put_last<St: Drop>(stores: &mut Stores<St>, store: St) -> Result<(), Memory>
+/// Adds a store at the end of a list.
+pub fn put_last<St: Drop>(stores: &mut Stores<St>, store: St) -> Result<(), Memory>
     ensures { OnOk result (stores.new ≡ stores.old ++ store ∷ []) }
 {
     match stores.push(store) {
@@ -21,16 +21,13 @@ pub(crate) fn put_last<St: Drop>(stores: &mut Stores<St>, store: St) -> Result<(
     }
 }
 
-// The stores of a list, the last one first.
-pub(crate) fn reversed<St: Drop>(
-    alloc: Global,
-    mut stores: Stores<St>,
-) -> Result<Stores<St>, Memory>
-    ensures { IfOk result (λ turned. turned ≡ reverse stores) }
+/// The stores of a list, the last one first.
+pub fn reversed<St: Drop>(alloc: Global, mut stores: Stores<St>) -> Result<Vec<St>, Memory>
+    ensures { IfOk result (λ turned. turned.items ≡ reverse stores) }
 {
-    let mut turned = ListOf::new(alloc);
+    let mut turned = Vec::new(alloc);
     while let Some(store) = stores.pop() {
-        put_last(&mut turned, store)?;
+        turned.push(store)?;
     }
     Ok(turned)
 }

@@ -35,7 +35,7 @@ fn name_pair<St: Store>(alloc: Global, term: Term, store: St) -> Result<(Term, S
         (St.meaning made.1 ≡ named_store (St.meaning store) (tree term))) }
 {
     let var = store.counter();
-    let wider = store.fresh(alloc, 1)?;
+    let wider = store.fresh_owned(alloc, 1)?;
     match wider.assert_owned(alloc, &Prim::Same(Term::Var(var), term))? {
         Some(longer) => Ok((Term::Var(var), longer)),
         None => unreachable!(),

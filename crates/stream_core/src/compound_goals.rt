@@ -77,17 +77,17 @@ pub(crate) fn split_fresh<St: Store>(
     count: u32,
     body: u32,
     env: &Env,
-    store: &St,
+    store: St,
     tasks: &mut Vec<Task<St>>,
 ) -> Result<(), Memory>
-    requires { (St.meaning store.now).counter + count ≤ 2 ^ 63 }
+    requires { (St.meaning store).counter + count ≤ 2 ^ 63 }
     ensures { OnOk result ((goal : ℕ → Goal) → stack (task St.meaning goal) tasks.new.items
         ≡ pending.Task.run_at (goal body)
-        (terms_of env.now ++ variables (St.meaning store.now).counter count)
-        (with_fresh (St.meaning store.now) count) ∷ stack (task St.meaning goal) tasks.old.items) }
+        (terms_of env.now ++ variables (St.meaning store).counter count)
+        (with_fresh (St.meaning store) count) ∷ stack (task St.meaning goal) tasks.old.items) }
 {
     let env = env.extend(alloc, store.counter(), count)?;
-    let store = store.fresh(alloc, count)?;
+    let store = store.fresh_owned(alloc, count)?;
     tasks.push(Task::Run {
         goal: body,
         env,

@@ -3,6 +3,7 @@
 #![tactic(auto)]
 
 mod appending;
+mod asserting;
 mod atomic_goals;
 mod call_goals;
 mod compound_goals;
@@ -14,7 +15,7 @@ mod running;
 mod streams;
 mod tasks;
 
-pub use appending::append;
+pub use appending::{append, put_last, reversed};
 pub use forcing::force;
 pub use nodes::Nodes;
 pub use plain_nodes::{PlainId, PlainNodes};

@@ -10,7 +10,6 @@ ghost use Rattle.kan_model.specs.Programs.Scope.{width, all_below, in_scope};
 ghost use Rattle.kan_model.specs.Programs.Nodes.{goal_entry};
 ghost use Rattle.kan_model.specs.Programs.Environments.{terms_of};
 ghost use Rattle.kan_model.specs.Programs.Closed as programs;
-ghost use Rattle.stream_core.specs.BuiltGoals.{is_built};
 ghost use Rattle.stream_core.specs.CallArguments.{ArgumentsPlaced};
 ghost use Rattle.stream_core.specs.CounterBounds.{TailFits, FitsAsBound};
 ghost use Rattle.stream_core.specs.Suspensions.{going_on};
@@ -32,10 +31,8 @@ use std::alloc::Global;
 
 // The node of a goal, and the one that fails past the end of the table.
 fn node_at(program: &Program, goal: u32) -> GoalNode
-    requires { list_all is_built (programs.tables program.now).goals ≡ true }
     ensures is { programs.goal program.now goal ≡ programs.entry_goal program.now
         (goal_entry result) }
-    ensures built { is_built (goal_entry result) ≡ true }
     ensures placed { ArgumentsPlaced program.now (goal_entry result) }
 {
     match program.goal(goal) {
@@ -73,7 +70,7 @@ fn run_node<N: Nodes<St>, St: Store>(
     match node {
         GoalNode::Both(first, second) => split_both(alloc, first, second, env, store, tasks),
         GoalNode::Either(left, right) => split_either(alloc, left, right, env, store, tasks),
-        GoalNode::Fresh(count, body) => split_fresh(alloc, count, body, &env, &store, tasks),
+        GoalNode::Fresh(count, body) => split_fresh(alloc, count, body, &env, store, tasks),
         _ => {
             let stream = atomic_stream(alloc, program, node, env, store, nodes)?;
             values.push(stream)?;

@@ -5,7 +5,7 @@ use Rattle.kan_model.specs.Programs.Scope.{calls_there}
 use Rattle.kan_model.specs.Programs.Environments.{terms_of}
 use Rattle.kan_model.specs.Programs.Closed as programs
 use Rattle.stream_core.specs.Tasks.{IsOf}
-use Rattle.stream_core.proofs.ClosedLaws.{program-closed, not-atomic}
+use Rattle.stream_core.proofs.ClosedLaws.{program-closed, at-once}
 use Rattle.stream_core.proofs.atomic_goals.atomic_stream.Goals as goal
 
 pub paused-requires-clause-is : goal.paused-requires-clause-is
@@ -22,6 +22,5 @@ call_stream-requires-clause-there g c =
     subst (λ n. calls_there (programs.meaning p).relations (programs.entry_goal p (goal_entry n)) ≡ true) c.in-Call.is
     (closed.calls (programs.entry_goal p (goal_entry c.args.node)) c.requires.is.0)
 
-pub unreachable-requires : goal.unreachable-requires
-unreachable-requires g c =
-    not-atomic c.args.node c.requires.atomic c.in_default.not-Succeed c.in_default.not-Fail c.in_default.not-Same c.in_default.not-Later c.in_default.not-Call
+pub stores_at_once-requires-clause-ends : goal.stores_at_once-requires-clause-ends
+stores_at_once-requires-clause-ends g c = at-once c.args.node c.requires.atomic c.in_default.not-Later c.in_default.not-Call

@@ -3,9 +3,10 @@ use Rattle.kan_model.proofs.Solving.FreshLaws.{fresh_is_kept}
 use Rattle.stream_core.proofs.ArgumentLaws.{named-below, not-kept}
 use Rattle.stream_core.proofs.call_goals.name_pair.Goals as goal
 
-pub assert_owned-requires-clause-below : goal.assert_owned-requires-clause-below
-assert_owned-requires-clause-below g c =
-    named-below (g.St.Store.meaning c.args.store) (g.St.Store.meaning c.in_ok-wider.wider) c.counter-var.result (tree c.args.term) c.in_ok-wider.ensures c.counter-var.ensures c.requires.below
+pub assert_owned-requires : goal.assert_owned-requires
+assert_owned-requires g c = record {
+  below = named-below (g.St.Store.meaning c.args.store) (g.St.Store.meaning c.in_ok-wider.wider) c.counter-var.result (tree c.args.term) c.in_ok-wider.ensures c.counter-var.ensures c.requires.below;
+}
 
 pub unreachable-requires : goal.unreachable-requires
 unreachable-requires g c =

@@ -5,8 +5,7 @@ use Rattle.kan_model.specs.Programs.Nodes.{goal_entry}
 use Rattle.kan_model.specs.Programs.Closed as programs
 use Rattle.kan_model.proofs.Programs.EntryLaws.{goal-found, goal_found}
 use Rattle.kan_model.proofs.Programs.TableLaws.{grown-parts}
-use Rattle.stream_core.specs.BuiltGoals.{is_built}
-use Rattle.stream_core.proofs.ClosedLaws.{all-at, goal-placed}
+use Rattle.stream_core.proofs.ClosedLaws.{goal-placed}
 use Rattle.stream_core.proofs.running.node_at.Goals as goal
 
 pub returns-in-Some-clause-is : goal.returns-in-Some-clause-is
@@ -14,11 +13,6 @@ returns-in-Some-clause-is c =
     let p = c.args.program.now in
     goal-found (programs.tables p) c.args.goal _ p.draft.grown c.goal.ensures
     ∙ ap (λ r. goal_found (programs.templates p) (programs.tables p).arguments (programs.goals p) (option_map goal_entry (option_copied r))) c.in-Some.is
-
-pub returns-in-Some-clause-built : goal.returns-in-Some-clause-built
-returns-in-Some-clause-built c =
-    let p = c.args.program.now in
-    all-at is_built (programs.tables p).goals c.args.goal _ c.requires (sym c.goal.ensures ∙ ap (λ r. option_map goal_entry (option_copied r)) c.in-Some.is)
 
 pub returns-in-Some-clause-placed : goal.returns-in-Some-clause-placed
 returns-in-Some-clause-placed c =

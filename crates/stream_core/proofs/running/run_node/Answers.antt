@@ -46,7 +46,7 @@ returns-in_ok-push-in_default g c =
     }
 
 pub atomic_stream-requires-clause-atomic : goal.atomic_stream-requires-clause-atomic
-atomic_stream-requires-clause-atomic g c = is-atomic c.node_at-node.result c.node_at-node.ensures.built c.in_default.not-Both c.in_default.not-Either c.in_default.not-Fresh
+atomic_stream-requires-clause-atomic g c = is-atomic c.node_at-node.result c.in_default.not-Both c.in_default.not-Either c.in_default.not-Fresh
 
 pub atomic_stream-requires-clause-is : goal.atomic_stream-requires-clause-is
 atomic_stream-requires-clause-is g c =

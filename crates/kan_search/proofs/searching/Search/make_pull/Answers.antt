@@ -3,7 +3,7 @@ use Rattle.kan_model.specs.Programs.Closed as programs
 use Rattle.kan_model.specs.Programs.Scope.{is_small}
 use Rattle.kan_search.specs.Suspensions.{tree_of}
 use Rattle.kan_search.proofs.KnownLaws.{tail-known, tail-stays, room-stays}
-use Rattle.kan_search.proofs.PullLaws.{built-alike, left-pulled, room-before, room-after}
+use Rattle.kan_search.proofs.PullLaws.{left-pulled, room-before, room-after}
 use Rattle.kan_search.proofs.searching.Search.make_pull.Goals as goal
 
 pub pull-requires-clause-belongs : goal.pull-requires-clause-belongs
@@ -16,10 +16,6 @@ pull-requires-clause-room g c =
 pub invariant_of-self-clause-small : goal.invariant_of-self-clause-small
 invariant_of-self-clause-small g c = ap is_small c.pull.ensures.grows.program ∙ c.args.self.now.small
 
-pub invariant_of-self-clause-built : goal.invariant_of-self-clause-built
-invariant_of-self-clause-built g c =
-    built-alike (programs.tables c.args.self.now.nodes.program.now) (programs.tables c.pull.new.nodes.program.now) c.pull.ensures.grows.program c.args.self.now.built
-
 pub invariant_of-self-clause-belongs : goal.invariant_of-self-clause-belongs
 invariant_of-self-clause-belongs g c = ∣ c.in-Ok.ensures.belong ∣₁
 
@@ -29,10 +25,6 @@ invariant_of-self-clause-room g c =
 
 pub invariant_of-self-in-Err-clause-small : goal.invariant_of-self-in-Err-clause-small
 invariant_of-self-in-Err-clause-small g c = ap is_small c.pull.ensures.grows.program ∙ c.args.self.now.small
-
-pub invariant_of-self-in-Err-clause-built : goal.invariant_of-self-in-Err-clause-built
-invariant_of-self-in-Err-clause-built g c =
-    built-alike (programs.tables c.args.self.now.nodes.program.now) (programs.tables c.pull.new.nodes.program.now) c.pull.ensures.grows.program c.args.self.now.built
 
 pub invariant_of-self-in-Err-clause-belongs : goal.invariant_of-self-in-Err-clause-belongs
 invariant_of-self-in-Err-clause-belongs g c = tail-stays g.St.Store.meaning c.args.self.now.nodes c.pull.new.nodes c.args.self.now.tail c.pull.ensures.grows.ids c.args.self.now.belongs
@@ -48,4 +40,4 @@ returns-in-Ok-clause-pulled g c =
     c.requires.wanted.given c.requires.tail c.requires.wanted.wanted c.requires.wanted.fuelled c.pull.ensures.grows.program c.in-Ok.ensures.made
 
 pub pull-requires-clause-table : goal.pull-requires-clause-table
-pull-requires-clause-table g c = record { program = refl; small = c.args.self.now.small; built = c.args.self.now.built }
+pull-requires-clause-table g c = record { program = refl; small = c.args.self.now.small }

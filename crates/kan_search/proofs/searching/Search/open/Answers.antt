@@ -1,21 +1,14 @@
 use Rattle.std.proofs.Common.{◌∙◌, ap, ap₂, subst, refl}
-use Rattle.std.specs.List.{list_all}
-use Rattle.stream_core.specs.BuiltGoals.{is_built}
 use Rattle.std.specs.Prelude.{IfSome}
 use Rattle.kan_model.specs.Programs.Closed as programs
 use Rattle.kan_model.specs.Streams.Running.{start}
 use Rattle.kan_model.specs.Programs.Scope.{is_small}
 use Rattle.kan_model.specs.Streams.Taking.{take}
 use Rattle.kan_search.specs.Suspensions.{LeavesRoom, tree_of}
-use Rattle.kan_search.proofs.PullLaws.{built-alike}
 use Rattle.kan_search.proofs.searching.Search.open.Goals as goal
 
 pub invariant_of-result-clause-small : goal.invariant_of-result-clause-small
 invariant_of-result-clause-small g c = ap is_small (c.start.ensures.grows.program ∙ ap programs.meaning c.new-nodes.ensures.program) ∙ c.requires.small
-
-pub invariant_of-result-clause-built : goal.invariant_of-result-clause-built
-invariant_of-result-clause-built g c =
-    built-alike (programs.tables c.args.program.now) (programs.tables c.start.new.nodes.program.now) (c.start.ensures.grows.program ∙ ap programs.meaning c.new-nodes.ensures.program) c.requires.built
 
 pub invariant_of-result-clause-belongs : goal.invariant_of-result-clause-belongs
 invariant_of-result-clause-belongs g c = ∣ c.in_ok-pulled.ensures.belong ∣₁
@@ -32,5 +25,4 @@ pub start-requires-clause-table : goal.start-requires-clause-table
 start-requires-clause-table g c = record {
   program = refl;
   small = ap (λ p. is_small (programs.meaning p)) c.new-nodes.ensures.program ∙ c.requires.small;
-  built = ap (λ p. list_all is_built (programs.tables p).goals) c.new-nodes.ensures.program ∙ c.requires.built;
 }

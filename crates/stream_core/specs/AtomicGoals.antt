@@ -1,0 +1,25 @@
+-- Which goals run no others, and which of them have all their stores at once.
+use Rattle.std.specs.Prelude.{Bool, true, false}
+use Rattle.kan_model.specs.Programs.Goals.{Primitive}
+use Rattle.kan_model.specs.Programs.Tables.{GoalEntry}
+use Rattle.kan_model.specs.declared.prims.Kind.{Kind}
+use Rattle.kan_model.specs.declared.prims.Kind.TheVariants.{Symbol, Number, Text}
+
+-- the goal runs no others
+abbrev pub is_atomic : GoalEntry → Bool
+is_atomic (GoalEntry.both g h) = false
+is_atomic (GoalEntry.either g h) = false
+is_atomic (GoalEntry.fresh k g) = false
+is_atomic _ = true
+
+-- the stream of the goal ends with its stores: it succeeds, fails or is a primitive
+abbrev pub ends_at_once : GoalEntry → Bool
+ends_at_once (GoalEntry.later g) = false
+ends_at_once (GoalEntry.call r at k) = false
+ends_at_once e = is_atomic e
+
+-- the primitive that a term is of a type
+abbrev pub of_kind : {X : Type 0} → Kind → X → Primitive X
+of_kind Symbol a = Primitive.symbol a
+of_kind Number a = Primitive.number a
+of_kind Text a = Primitive.text a
