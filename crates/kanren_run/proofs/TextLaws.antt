@@ -1,12 +1,10 @@
 -- What becomes of a text: its program, or its refusal.
-use Rattle.std.proofs.Common.{◌≡◌, ℕ, Bool, true, false, List, [], ◌∷◌, map, None, Result, Ok, Err, refl, sym, ap, subst, ◌∙◌}
+use Rattle.std.proofs.Common.{◌≡◌, ℕ, Bool, true, false, List, [], map, None, Result, Ok, Err, refl, sym, ap, subst, ◌∙◌}
 use Rattle.std.specs.Prelude.{Some}
 use Rattle.std.specs.List.{list_all}
 use Rattle.std.specs.Str.{is_utf8, chars}
 use Rattle.std.proofs.lemmas.Bool.{and_parts}
 use Rattle.kan_terms.specs.Table.{Table, no_names}
-use Rattle.kan_model.specs.Programs.Closed as programs
-use Rattle.kan_model.specs.Programs.Tables.{GoalEntry}
 use Rattle.kan_grammar.specs.declared.dialect.Dialect.TheVariants.{Book}
 use Rattle.kan_grammar.specs.Data.Faults.{run, read_tokens, read_text, fault}
 use Rattle.kan_grammar.specs.Data.Tokens.{tokens, tokens_from}
@@ -19,9 +17,8 @@ use Rattle.sexpr.specs.declared.data.Datum.{Datum}
 use Rattle.sexpr.specs.declared.data.ReadError.{ReadError}
 use Rattle.sexpr.specs.declared.data.ReadError.TheVariants as reading
 use Rattle.sexpr.proofs.ReplyLaws.{replies_as_read}
-use Rattle.stream_core.specs.BuiltGoals.{is_built}
 use Rattle.goal_syntax.specs.Compiling.Compiles.{Compiles, IsCompiled, fault_found, relations_meant, queries_meant}
-use Rattle.goal_syntax.specs.Building.Equations.{are_equational, is_equational_entry, are_equational_entries, is_equational_body, is_equational_query}
+use Rattle.goal_syntax.specs.Building.Equations.{are_equational, is_equational_body, is_equational_query}
 use Rattle.goal_syntax.specs.declared.refusal.SyntaxError.{SyntaxError}
 use Rattle.goal_syntax.specs.declared.refusal.SyntaxError.TheVariants as syntax
 use Rattle.goal_syntax.specs.declared.compiler.Compiled.{Compiled}
@@ -61,27 +58,6 @@ reading_refused text names x at number is read =
 pub numbered_from : (text : List ℕ) (old new : Table) → old ≡ no_names → new ≡ with_text_names old text → new ≡ with_text_names no_names text
 numbered_from text old new is numbered = numbered ∙ ap (λ t. with_text_names t text) is
 
-entry_built : (e : GoalEntry) → is_equational_entry e ≡ true → is_built e ≡ true
-entry_built GoalEntry.succeed alone = refl
-entry_built GoalEntry.fail alone = refl
-entry_built (GoalEntry.same a b) alone = refl
-entry_built (GoalEntry.differ a b) alone = alone
-entry_built (GoalEntry.symbol a) alone = alone
-entry_built (GoalEntry.number a) alone = alone
-entry_built (GoalEntry.text a) alone = alone
-entry_built (GoalEntry.absent tag a) alone = alone
-entry_built (GoalEntry.both g h) alone = refl
-entry_built (GoalEntry.either g h) alone = refl
-entry_built (GoalEntry.fresh k g) alone = refl
-entry_built (GoalEntry.later g) alone = refl
-entry_built (GoalEntry.call r at k) alone = refl
-
-entries_built : (es : List GoalEntry) → are_equational_entries es ≡ true → list_all is_built es ≡ true
-entries_built [] alone = refl
-entries_built (e ∷ es) alone =
-    let parts = and_parts (is_equational_entry e) (list_all is_equational_entry es) alone in
-    rw (entry_built e parts.0, entries_built es parts.1) refl
-
 -- what data that were compiled are answered with
 compiled_answer : (names : Table) (ds : List Datum) (text : List ℕ) (b : Bool) → reply [] text Book ≡ reply_to_data Book names [] (map (written names) ds) → fault_found names [] ds ≡ None →
     are_equational (relations_meant Book names [] ds) (queries_meant Book names [] ds) ≡ b →
@@ -106,7 +82,6 @@ data_come text old later ds c (Ok back) is read table compiled (same, alone) =
       can = record {
         closed = compiled.closed;
         small = compiled.small;
-        built = entries_built (programs.tables c.program).goals alone;
         bodies = ap (list_all is_equational_body) compiled.relations ∙ parts.0;
         goals = ap (list_all is_equational_query) compiled.queries_are ∙ parts.1;
       };

@@ -272,7 +272,6 @@ pub can-one : (program : declared.Program) (qs : List declared.Query) (i : ℕ) 
 can-one program qs i q within is can = record {
   closed = one_closed program qs i q within is can.closed;
   small = can.small;
-  built = can.built;
   bodies = can.bodies;
   goals = one_of is_equational_query (query_of program) qs i q within is can.goals;
 }

@@ -15,7 +15,6 @@ use Rattle.kan_model.specs.declared.program.Program.{Program}
 use Rattle.kan_model.specs.declared.nodes.Query.{Query}
 use Rattle.kan_terms.specs.Table.{Table}
 use Rattle.kan_model.specs.Answers.Output.{answer_line, summary_line}
-use Rattle.stream_core.specs.BuiltGoals.{is_built}
 use Rattle.goal_syntax.specs.Building.Equations.{is_equational_body, is_equational_query}
 use Rattle.kan_search.specs.Batches.{ending_of}
 use Rattle.kan_model.specs.Programs.Closed.{query_of}
@@ -78,6 +77,5 @@ WritesNext t before n p after m q old new (Err stop) = Stops (rest_text t n p be
 pub record CanRun (program : Program) (queries : List Query) : Type 0 where
   pub closed : are_closed (programs.tables program) (map goal_place queries) ≡ true
   pub small : is_small (programs.meaning program) ≡ true
-  pub built : list_all is_built (programs.tables program).goals ≡ true
   pub bodies : list_all is_equational_body (programs.meaning program).relations ≡ true
   pub goals : list_all is_equational_query (map (query_of program) queries) ≡ true

@@ -1,17 +1,15 @@
 //! Runs in the dialect in which every goal of fresh and conde suspends: their answers and pulls.
 
-ghost use Rattle.std.specs.Prelude.{◌≡◌, ◌<◌, ◌≤◌, ◌^◌, [], ◌∷◌, length, map, true};
-ghost use Rattle.std.specs.List.{list_all};
+ghost use Rattle.std.specs.Prelude.{◌≡◌, ◌≤◌, [], ◌∷◌, length, map, true};
 ghost use Rattle.kan_model.specs.Programs.Closed as programs;
-ghost use Rattle.kan_model.specs.Programs.Nodes.{goal_entry, goal_place};
+ghost use Rattle.kan_model.specs.Programs.Nodes.{goal_place};
 ghost use Rattle.kan_model.specs.Programs.Scope.{is_small};
 ghost use Rattle.kan_model.specs.Programs.Tables.{are_closed};
-ghost use Rattle.stream_core.specs.BuiltGoals.{is_built};
 
 use crate::programs::compiled;
 use goal_syntax::Compiled;
 use kan_grammar::Dialect;
-use kan_model::{GoalNode, Program, Query};
+use kan_model::{Program, Query};
 use kan_plain::PlainStore;
 use kan_search::Search;
 use kan_terms::{Memory, Names};
@@ -19,40 +17,10 @@ use std::alloc::Global;
 use std::process::Abort;
 use std::test::Fail;
 
-// Whether a goal is one that is run.
-fn is_run(node: GoalNode) -> bool
-    ensures { result ≡ is_built (goal_entry node) }
-{
-    !matches!(
-        node,
-        GoalNode::Differ(_, _)
-            | GoalNode::Symbol(_)
-            | GoalNode::Number(_)
-            | GoalNode::Text(_)
-            | GoalNode::Absent(_, _)
-    )
-}
-
-// Whether all goals of a program are run.
-fn are_run(program: &Program) -> bool
-    requires { length (programs.tables program.now).goals < 2 ^ 24 }
-    ensures { result ≡ list_all is_built (programs.tables program.now).goals }
-{
-    let mut at = 0;
-    while let Some(node) = program.goal(at) {
-        if !is_run(*node) {
-            return false;
-        }
-        at += 1;
-    }
-    true
-}
-
 // How many answers a run has in its first batch, and how many pulls it makes for them.
 fn searched(alloc: Global, program: &Program, query: &Query) -> Result<(usize, u64), Memory>
     requires closed { are_closed (programs.tables program.now) (query.now.goal ∷ []) ≡ true }
     requires small { is_small (programs.meaning program.now) ≡ true }
-    requires built { list_all is_built (programs.tables program.now).goals ≡ true }
 {
     let mut search: Search<PlainStore> = Search::open(alloc, program, query, 1000, 100)?;
     let batch = search.advance_alone(alloc)?;
@@ -64,9 +32,8 @@ fn searched_once(alloc: Global, made: &Compiled) -> Result<(usize, u64), Fail>
     requires closed { are_closed (programs.tables made.now.program)
         (map goal_place made.now.queries) ≡ true }
     requires small { is_small (programs.meaning made.now.program) ≡ true }
-    requires room { length (programs.tables made.now.program).goals < 2 ^ 24 }
 {
-    if made.queries.len() != 1 || !are_run(&made.program) {
+    if made.queries.len() != 1 {
         return Err(Fail::from("not one run"));
     }
     let Some(query) = made.queries.get(0) else {
