@@ -1,0 +1,6 @@
+pub mod ShapeLaws
+pub mod NamingLaws
+pub mod TextLaws
+pub mod WalkingLaws
+pub mod KindLaws
+pub mod FreeLaws

@@ -1,0 +1,14 @@
+//! Answers of stores: the query's term with its variables named, what is left of the constraints, and their text.
+#![tactic(auto)]
+
+mod answers;
+mod constraints;
+mod naming;
+mod printing;
+mod shaping;
+mod typing;
+mod walking;
+
+pub use answers::Answer;
+pub use constraints::print_answer;
+pub use shaping::{NamePair, NamePairs, Shape, Shapes};
