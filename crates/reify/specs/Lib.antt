@@ -5,3 +5,5 @@ pub mod Constraints
 pub mod Naming
 pub mod Walking
 pub mod Typing
+pub mod Ordering
+pub mod Absences

@@ -1,9 +1,11 @@
 //! Answers of stores: the query's term with its variables named, what is left of the constraints, and their text.
 #![tactic(auto)]
 
+mod absences;
 mod answers;
 mod constraints;
 mod naming;
+mod ordering;
 mod printing;
 mod shaping;
 mod typing;
