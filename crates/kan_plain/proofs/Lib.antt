@@ -1,3 +1,4 @@
-pub mod SolvingLaws
-pub mod SolvingSteps
+pub mod EachLaws
+pub mod KeepingLaws
+pub mod LookingLaws
 pub mod PlainLaws

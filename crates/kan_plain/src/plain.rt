@@ -1,19 +1,19 @@
 //! The plain store: the list of primitives as they were asserted, solved anew at each step.
 
 ghost use Rattle.std.specs.Prelude.{◌≡◌, ◌^◌, ◌≤◌, ◌++◌, ◌∷◌, [], true, map, IfOk, OnOk, IsTrue, option_map};
-ghost use Rattle.std.specs.List.{list_all};
 ghost use Rattle.kan_model.specs.Stores.Solve as spec;
 ghost use Rattle.kan_model.specs.Stores.Kept.{is_kept};
 ghost use Rattle.kan_model.specs.Programs.Scope.{is_counted};
-ghost use Rattle.kan_model.specs.Stores.Calls.{is_equation, is_answer, Gives};
+ghost use Rattle.kan_model.specs.Stores.Calls.{is_answer, Gives};
 ghost use Rattle.kan_model.specs.Stores.Store.{equations};
-ghost use Rattle.kan_model.specs.Stores.Prims.{prim as primitive};
-ghost use Rattle.kan_plain.specs.Solving.{replaced_by, on_stack};
-ghost use Rattle.kan_model.specs.Stores.Prims.{equation};
+ghost use Rattle.kan_model.specs.Stores.Prims.{equation, prim as primitive};
+ghost use Rattle.kan_solving.specs.Solving.{replaced_by, on_stack};
 
-use crate::solving::{Replaced, copied_answer, found, solve};
+use crate::keeping::holds_under;
+use crate::looking::{kind_of, list_differences, list_tags, looked};
 use kan_model::{Kind, Prim as Asserted, Store, copied};
-use kan_terms::{ListOf, Memory, PairLists, Tags, Term, TermPair};
+use kan_solving::{LeftFirst, Replaced, copied_answer, solve};
+use kan_terms::{Memory, PairLists, Tags, Term, TermPair};
 use std::alloc::Global;
 
 /// A store that keeps the list of its primitives and the answer of its equations.
@@ -25,7 +25,6 @@ pub struct PlainStore {
     ghost kept: { IsTrue (is_kept (record { prims = map primitive prims.items; counter = counter })) },
     ghost counted: { IsTrue (is_counted (record { prims = map primitive prims.items; counter = counter })) },
     ghost bounded: { counter ≤ 2 ^ 63 },
-    ghost equations_alone: { IsTrue (list_all is_equation (map primitive prims.items)) },
     ghost answered: { IsTrue (is_answer (map replaced_by answer.items) (spec.solve (equations (map primitive prims.items)))) },
 }
 
@@ -61,23 +60,33 @@ fn stack_equations(alloc: Global, prims: &[Asserted]) -> Result<Vec<TermPair>, M
     Ok(pending)
 }
 
+// The answer of the equations of primitives.
+fn answer_of(alloc: Global, prims: &[Asserted]) -> Result<Option<Vec<Replaced>>, Memory>
+    ensures { IfOk result (λ answer. option_map (λ made. map replaced_by made.items) answer ≡ spec.solve (equations (map primitive prims.now))) }
+{
+    let pending = stack_equations(alloc, prims)?;
+    solve(alloc, pending, &LeftFirst)
+}
+
 impl PlainStore {
     // The store of these primitives, where they are kept.
     fn of(alloc: Global, prims: Vec<Asserted>, counter: u64) -> Result<Option<PlainStore>, Memory>
         requires counted { is_counted (record { prims = map primitive prims.items; counter = counter }) ≡ true }
         requires bounded { counter ≤ 2 ^ 63 }
-        requires equations_alone { list_all is_equation (map primitive prims.items) ≡ true }
         ensures { IfOk result (λ made. Gives (record { prims = map primitive prims.items; counter = counter }) (option_map (λ store. record { prims = map primitive store.prims.items; counter = store.counter }) made)) }
     {
-        let pending = stack_equations(alloc, &prims)?;
-        Ok(match solve(alloc, pending)? {
-            None => None,
-            Some(answer) => Some(PlainStore {
-                prims,
-                counter,
-                answer,
-            }),
-        })
+        let Some(answer) = answer_of(alloc, &prims)? else {
+            return Ok(None);
+        };
+        let holds = holds_under(alloc, &answer, &prims)?;
+        if !holds {
+            return Ok(None);
+        }
+        Ok(Some(PlainStore {
+            prims,
+            counter,
+            answer,
+        }))
     }
 }
 
@@ -110,6 +119,10 @@ impl Store for PlainStore {
         })
     }
 
+    fn fresh_owned(self, alloc: Global, count: u32) -> Result<PlainStore, Memory> {
+        self.fresh(alloc, count)
+    }
+
     fn assert(&self, alloc: Global, prim: &Asserted) -> Result<Option<PlainStore>, Memory> {
         let mut prims = copied(alloc, &self.prims)?;
         prims.push(prim.again()?)?;
@@ -129,21 +142,20 @@ impl Store for PlainStore {
     }
 
     fn walk<'a>(&'a self, term: &'a Term) -> &'a Term {
-        match term {
-            Term::Var(var) => found(&self.answer, *var).unwrap_or(term),
-            _ => term,
-        }
+        looked(&self.answer, term)
     }
 
-    fn kind(&self, _var: u64) -> Option<Kind> {
-        None
+    fn kind(&self, var: u64) -> Option<Kind> {
+        kind_of(&self.answer, &self.prims, var)
     }
 
-    fn tags(&self, alloc: Global, _var: u64) -> Result<Tags, Memory> {
-        Ok(ListOf::new(alloc))
+    fn tags(&self, alloc: Global, var: u64) -> Result<Tags, Memory> {
+        let tags = list_tags(alloc, &self.answer, &self.prims, var)?;
+        Ok(tags)
     }
 
     fn differences(&self, alloc: Global) -> Result<PairLists, Memory> {
-        Ok(ListOf::new(alloc))
+        let lists = list_differences(alloc, &self.prims)?;
+        Ok(lists)
     }
 }

@@ -1,10 +1,8 @@
 use Rattle.std.proofs.Common.{◌≡◌, ◌+◌, ◌∙◌, ap, map, arith}
-use Rattle.std.specs.List.{list_all}
 use Rattle.kan_model.specs.Stores.Kept.{is_kept}
 use Rattle.kan_model.specs.Programs.Scope.{is_counted}
-use Rattle.kan_model.specs.Stores.Calls.{is_equation}
 use Rattle.kan_model.specs.Stores.Prims.{prim as primitive}
-use Rattle.kan_plain.specs.Solving.{replaced_by}
+use Rattle.kan_solving.specs.Solving.{replaced_by}
 use Rattle.kan_plain.proofs.PlainLaws.{moved_test, moved_answer, counted_more}
 use Rattle.kan_plain.proofs.plain.PlainStoreStore.fresh.Goals as goal
 
@@ -15,6 +13,5 @@ invariant_of-result c =
       kept = moved_test (λ ps. is_kept (record { prims = ps; counter = c.args.self.now.counter })) _ _ same c.args.self.now.kept;
       counted = moved_test (λ ps. is_counted (record { prims = ps; counter = c.args.self.now.counter + c.from.result })) _ _ same (counted_more c.args.self.now.counter c.from.result (map primitive c.args.self.now.prims.items) c.args.self.now.counted);
       bounded = omega (arith, c.requires, c.from.ensures);
-      equations_alone = moved_test (list_all is_equation) _ _ same c.args.self.now.equations_alone;
       answered = moved_answer _ _ _ _ same (c.in_ok-copied_answer.ensures ∙ ap (map replaced_by) c.deref-2.ensures.value) c.args.self.now.answered;
     }

@@ -1,0 +1,14 @@
+use Rattle.std.proofs.Common.{map}
+use Rattle.kan_model.specs.Stores.Prims.{prim as primitive}
+use Rattle.kan_plain.specs.Looking.{tag_at}
+use Rattle.kan_plain.proofs.EachLaws.{listed_more, all_listed}
+use Rattle.kan_solving.specs.Solving.{replaced_by}
+use Rattle.kan_plain.proofs.looking.list_tags.Goals as goal
+
+pub loop-prim-preserved : goal.loop-prim-preserved
+loop-prim-preserved c =
+    listed_more primitive (tag_at (map replaced_by c.args.answer.now) c.args.var) _ _ c.prim-item.result _ _ c.loop-prim-test.true c.prim-item.is
+    c.loop-prim.invariant c.in_ok-push_tag.ensures
+
+pub returns : goal.returns
+returns c = all_listed primitive (tag_at (map replaced_by c.args.answer.now) c.args.var) _ _ _ c.loop-prim-test.false c.loop-prim.invariant

@@ -1,6 +1,0 @@
-use Rattle.kan_terms.specs.Terms.{tree}
-use Rattle.kan_plain.proofs.SolvingSteps.{stacked-apply}
-use Rattle.kan_plain.proofs.solving.substitute.Goals as goal
-
-pub returns-clause-left : goal.returns-clause-left
-returns-clause-left c = stacked-apply c.args.last.var (tree c.args.last.by) _ _ c.in_ok-after.ensures

@@ -1,0 +1,2 @@
+pub mod SolvingLaws
+pub mod SolvingSteps
