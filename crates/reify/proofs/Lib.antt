@@ -4,3 +4,5 @@ pub mod TextLaws
 pub mod WalkingLaws
 pub mod KindLaws
 pub mod FreeLaws
+pub mod OrderLaws
+pub mod AbsenceLaws

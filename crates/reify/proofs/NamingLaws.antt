@@ -32,7 +32,7 @@ stands_in-filter : (x v : ℕ) (ys : List ℕ) → eqb v x ≡ false → stands_
 stands_in-filter x v [] other = refl
 stands_in-filter x v (y ∷ ys) other = stands_in_kept (eqb x y) x v y ys other refl (stands_in-filter x v ys other)
 
-eqb-flip : (x v : ℕ) (b : Bool) → eqb v x ≡ b → eqb x v ≡ b
+pub eqb-flip : (x v : ℕ) (b : Bool) → eqb v x ≡ b → eqb x v ≡ b
 eqb-flip x v true e = eq-eqb x v (sym (eqb-true v x e))
 eqb-flip x v false e = ne_eqb x v (λ same. absurd (true≢false (sym (eq-eqb v x (sym same)) ∙ e)))
 
@@ -55,7 +55,7 @@ once_step true x v E same = once_here (stands_in E v) x v E same refl
 once_step false x v E other = once_there (stands_in E v) x v E other refl
 
 -- a list with one variable more, each once
-each_once-push : (xs : List ℕ) (v : ℕ) → each_once eqb (xs ++ v ∷ []) ≡ with_variable (each_once eqb xs) v
+pub each_once-push : (xs : List ℕ) (v : ℕ) → each_once eqb (xs ++ v ∷ []) ≡ with_variable (each_once eqb xs) v
 each_once-push [] v = refl
 each_once-push (x ∷ xs) v = ap (λ ys. x ∷ filter (λ z. not (eqb x z)) ys) (each_once-push xs v) ∙ once_step (eqb v x) x v (each_once eqb xs) refl
 
