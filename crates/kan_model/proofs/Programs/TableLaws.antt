@@ -243,4 +243,3 @@ grown-with_goal tables e h last =
       goals = goals_grown-more tables (with_goal tables e) 0 (tables.goals ++ e ∷ []) (omega arith) (omega arith) (goals_grown-last tables 0 tables.goals e old.goals (rw (zero-add (length tables.goals)) last));
       relations = bodies-more _ _ (longer tables.goals e) tables.relations old.relations;
     })
-

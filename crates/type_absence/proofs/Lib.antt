@@ -1,0 +1,4 @@
+pub mod AbsentLaws
+pub mod TagLaws
+pub mod TagSteps
+pub mod TypeLaws
