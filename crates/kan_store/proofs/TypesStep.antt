@@ -12,8 +12,9 @@ use Rattle.unify_core.specs.Walking.{Pairs, walked, full}
 use Rattle.unify_core.specs.Solutions.{AddedTo}
 use Rattle.unify_core.proofs.Grown.{Grown}
 use Rattle.unify_core.proofs.WalkLaws.{full-walked, walked-end}
-use Rattle.kan_store.specs.Types.{Types, same_kind, no_other, may_have, with_type, MovesTypes}
+use Rattle.type_absence.specs.Types.{Types, same_kind, no_other, may_have, with_type, MovesTypes}
 use Rattle.kan_store.specs.Moving.{TypesMove}
+use Rattle.kan_store.specs.InStep.{TypesInStep}
 use Rattle.kan_store.proofs.KeptParts.{Among, typing, has_type-from, has_type-asked, Allowed, OneType}
 use Rattle.kan_store.proofs.AddedLaws.{unbound-before, added-free, added-bound, bound-added, full-onward, full-bound, full-free}
 
@@ -80,22 +81,22 @@ leaf-decided t y = elim (variable-or t) [
     by v is true e = inl (is ∙ ap Tree.leaf (eqb-true v y e))
     by v is false e = inr (λ same. (let one : Tree.leaf v ≡ Tree.leaf y = sym is ∙ same in let equal : v ≡ y = cc in true≢false (sym (eq-eqb v y equal) ∙ e)))
 
--- one move: w is what the term walks to
-module _ (old : Types) (x : ℕ) (w : Tm) (mid : Types) (moves : MovesTypes old (old x) w (Some mid)) where
-  gives : (k : Kind) → old x ≡ Some k → (may_have old k w ≡ true) × ((v : ℕ) → mid v ≡ with_type old k w v)
-  gives k has = subst (λ o. MovesTypes old o w (Some mid)) has moves
+-- one type, if there is one, that goes over to a term; w is what the term walks to
+module _ (old : Types) (o : Option Kind) (w : Tm) (mid : Types) (moves : MovesTypes old o w (Some mid)) where
+  gives : (k : Kind) → o ≡ Some k → (may_have old k w ≡ true) × ((v : ℕ) → mid v ≡ with_type old k w v)
+  gives k has = subst (λ c. MovesTypes old c w (Some mid)) has moves
 
   pub move_elsewhere : (y : ℕ) → (w ≡ Tree.leaf y → ⊥) → mid y ≡ old y
-  move_elsewhere y other = by (old x) refl
+  move_elsewhere y other = by o refl
     where
-      by : (o : Option Kind) → old x ≡ o → mid y ≡ old y
-      by None e = let same : (v : ℕ) → mid v ≡ old v = subst (λ o. MovesTypes old o w (Some mid)) e moves in same y
+      by : (c : Option Kind) → o ≡ c → mid y ≡ old y
+      by None e = let same : (v : ℕ) → mid v ≡ old v = subst (λ c. MovesTypes old c w (Some mid)) e moves in same y
       by (Some k) e = (gives k e).1 y ∙ with_type-other old k w y other
 
-  pub move_puts : (y : ℕ) (k : Kind) → old x ≡ Some k → w ≡ Tree.leaf y → mid y ≡ Some k
+  pub move_puts : (y : ℕ) (k : Kind) → o ≡ Some k → w ≡ Tree.leaf y → mid y ≡ Some k
   move_puts y k has is = (gives k has).1 y ∙ with_type-here old k w y is
 
-  pub move_may : (k : Kind) → old x ≡ Some k → may_be k w ≡ true
+  pub move_may : (k : Kind) → o ≡ Some k → may_be k w ≡ true
   move_may k has = by w (gives k has).0
     where
       by : (u : Tm) → may_have old k u ≡ true → may_be k u ≡ true
@@ -115,42 +116,42 @@ module _ (old : Types) (x : ℕ) (w : Tm) (mid : Types) (moves : MovesTypes old 
   pub move_keeps : (y : ℕ) (k : Kind) → old y ≡ Some k → mid y ≡ Some k
   move_keeps y k has = elim (leaf-decided w y) [
     | inr other ↦ move_elsewhere y other ∙ has
-    | inl is ↦ by is (old x) refl
+    | inl is ↦ by is o refl
   ]
     where
-      by : w ≡ Tree.leaf y → (o : Option Kind) → old x ≡ o → mid y ≡ Some k
-      by is None e = let same : (v : ℕ) → mid v ≡ old v = subst (λ o. MovesTypes old o w (Some mid)) e moves in same y ∙ has
+      by : w ≡ Tree.leaf y → (c : Option Kind) → o ≡ c → mid y ≡ Some k
+      by is None e = let same : (v : ℕ) → mid v ≡ old v = subst (λ c. MovesTypes old c w (Some mid)) e moves in same y ∙ has
       by is (Some l) e =
           let may : no_other l (old y) ≡ true = subst (λ u. may_have old l u ≡ true) is (gives l e).0 in
           let known : same_kind l k ≡ true = subst (λ o. no_other l o ≡ true) has may in
           move_puts y l e is ∙ ap Some (same_kind-true l k known)
 
-  pub move_cases : (y : ℕ) (k : Kind) → mid y ≡ Some k → (old y ≡ Some k) ⊎ ((old x ≡ Some k) × (w ≡ Tree.leaf y))
+  pub move_cases : (y : ℕ) (k : Kind) → mid y ≡ Some k → (old y ≡ Some k) ⊎ ((o ≡ Some k) × (w ≡ Tree.leaf y))
   move_cases y k has = elim (leaf-decided w y) [
     | inr other ↦ inl (sym (move_elsewhere y other) ∙ has)
-    | inl is ↦ by is (old x) refl
+    | inl is ↦ by is o refl
   ]
     where
-      by : w ≡ Tree.leaf y → (o : Option Kind) → old x ≡ o → (old y ≡ Some k) ⊎ ((old x ≡ Some k) × (w ≡ Tree.leaf y))
-      by is None e = let same : (v : ℕ) → mid v ≡ old v = subst (λ o. MovesTypes old o w (Some mid)) e moves in inl (sym (same y) ∙ has)
+      by : w ≡ Tree.leaf y → (c : Option Kind) → o ≡ c → (old y ≡ Some k) ⊎ ((o ≡ Some k) × (w ≡ Tree.leaf y))
+      by is None e = let same : (v : ℕ) → mid v ≡ old v = subst (λ c. MovesTypes old c w (Some mid)) e moves in inl (sym (same y) ∙ has)
       by is (Some l) e = let both : Some l ≡ Some k = sym (move_puts y l e is) ∙ has in inr (e ∙ both, is)
 
 -- a move that can't be made
-abbrev pub Stuck : Types → ℕ → Tm → Type 0
-Stuck old x w = (k : Kind) × (old x ≡ Some k) × ((may_be k w ≡ false) ⊎ ((y : ℕ) × (l : Kind) × (w ≡ Tree.leaf y) × (old y ≡ Some l) × (same_kind k l ≡ false)))
+abbrev pub Stuck : Types → Option Kind → Tm → Type 0
+Stuck old o w = (k : Kind) × (o ≡ Some k) × ((may_be k w ≡ false) ⊎ ((y : ℕ) × (l : Kind) × (w ≡ Tree.leaf y) × (old y ≡ Some l) × (same_kind k l ≡ false)))
 
-pub move_stuck : (old : Types) (x : ℕ) (w : Tm) → MovesTypes old (old x) w None → Stuck old x w
-move_stuck old x w moves = by (old x) refl
+pub move_stuck : (old : Types) (o : Option Kind) (w : Tm) → MovesTypes old o w None → Stuck old o w
+move_stuck old o w moves = by o refl
   where
-    by : (o : Option Kind) → old x ≡ o → Stuck old x w
-    by None e = absurd (subst (λ o. MovesTypes old o w None) e moves)
+    by : (c : Option Kind) → o ≡ c → Stuck old o w
+    by None e = absurd (subst (λ c. MovesTypes old c w None) e moves)
     by (Some k) e = (k, e, elim (variable-or w) [
       | inr other ↦ inl (sym (may_have-other old k w other) ∙ can't)
       | inl (y, is) ↦ inr (other_type y is (old y) refl)
     ])
       where
         can't : may_have old k w ≡ false
-        can't = subst (λ o. MovesTypes old o w None) e moves
+        can't = subst (λ c. MovesTypes old c w None) e moves
 
         other_type : (y : ℕ) → w ≡ Tree.leaf y → (o : Option Kind) → old y ≡ o → (y : ℕ) × (l : Kind) × (w ≡ Tree.leaf y) × (old y ≡ Some l) × (same_kind k l ≡ false)
         other_type y is None f = absurd (true≢false (subst (λ o. no_other k o ≡ false) f (subst (λ u. may_have old k u ≡ false) is can't)))
@@ -168,7 +169,7 @@ module _ (new : Pairs) (g : Grown new) where
   pub moves_keep : (old : Types) (more : List (Tm × Tm)) (r : Option Types) → TypesMove new old more r → (final : Types) → r ≡ Some final → (v : ℕ) (k : Kind) → old v ≡ Some k → final v ≡ Some k
   moves_keep old more r (TypesMove.all_moved {new = made} same) final is v k has = let one : made ≡ final = cc in subst (λ f. f v ≡ Some k) one (same v ∙ has)
   moves_keep old more r (TypesMove.moved_one {mid = mid} {x = x} {t = t} {more = rest} one d) final is v k has =
-      moves_keep mid rest r d final is v k (move_keeps old x (walked new t) mid one v k has)
+      moves_keep mid rest r d final is v k (move_keeps old (old x) (walked new t) mid one v k has)
   moves_keep old more r (TypesMove.not_moved one) final is v k has = cc
 
   pub moves_put : (old : Types) (more : List (Tm × Tm)) (r : Option Types) → TypesMove new old more r → (final : Types) → r ≡ Some final → (x : ℕ) (t : Tm) → Among (Tree.leaf x, t) more →
@@ -179,10 +180,10 @@ module _ (new : Pairs) (g : Grown new) where
       let same : y ≡ x = cc in
       let term : u ≡ t = ap (λ p. p.1) e in
       let at : old y ≡ Some k = ap old same ∙ has in
-      (λ v walks. moves_keep mid rest r d final is v k (move_puts old y (walked new u) mid one v k at (ap (walked new) term ∙ walks)),
-        subst (λ w. may_be k (walked new w) ≡ true) term (move_may old y (walked new u) mid one k at))
+      (λ v walks. moves_keep mid rest r d final is v k (move_puts old (old y) (walked new u) mid one v k at (ap (walked new) term ∙ walks)),
+        subst (λ w. may_be k (walked new w) ≡ true) term (move_may old (old y) (walked new u) mid one k at))
   moves_put old more r (TypesMove.moved_one {mid = mid} {x = y} {t = u} {more = rest} one d) final is x t (inr a) k has =
-      moves_put mid rest r d final is x t a k (move_keeps old y (walked new u) mid one x k has)
+      moves_put mid rest r d final is x t a k (move_keeps old (old y) (walked new u) mid one x k has)
   moves_put old more r (TypesMove.not_moved one) final is x t a k has = cc
 
   -- where a type comes from: it was there, or a variable brought it
@@ -190,13 +191,13 @@ module _ (new : Pairs) (g : Grown new) where
   From old more v k = (old v ≡ Some k) ⊎ ((x : ℕ) × (t : Tm) × Among (Tree.leaf x, t) more × (old x ≡ Some k) × (walked new t ≡ Tree.leaf v))
 
   from_before : (old mid : Types) (x : ℕ) (t : Tm) (rest : List (Tm × Tm)) → MovesTypes old (old x) (walked new t) (Some mid) → Bounds rest → (v : ℕ) (k : Kind) → From mid rest v k → From old ((Tree.leaf x, t) ∷ rest) v k
-  from_before old mid x t rest one bounds v k (inl has) = elim (move_cases old x (walked new t) mid one v k has) [
+  from_before old mid x t rest one bounds v k (inl has) = elim (move_cases old (old x) (walked new t) mid one v k has) [
     | inl there ↦ inl there
     | inr (at, walks) ↦ inr (x, t, inl refl, at, walks)
   ]
   from_before old mid x t rest one bounds v k (inr (y, u, a, has, walks)) =
       let (w, bound) = bounds y u a in
-      inr (y, u, inr a, sym (move_elsewhere old x (walked new t) mid one y (λ is. apart t y w bound is)) ∙ has, walks)
+      inr (y, u, inr a, sym (move_elsewhere old (old x) (walked new t) mid one y (λ is. apart t y w bound is)) ∙ has, walks)
 
   pub moves_from : (old : Types) (more : List (Tm × Tm)) (r : Option Types) → TypesMove new old more r → Bounds more → (final : Types) → r ≡ Some final → (v : ℕ) (k : Kind) → final v ≡ Some k → From old more v k
   moves_from old more r (TypesMove.all_moved {new = made} same) bounds final is v k has = let one : made ≡ final = cc in inl (sym (same v) ∙ subst (λ f. f v ≡ Some k) (sym one) has)
@@ -217,19 +218,15 @@ module _ (new : Pairs) (g : Grown new) where
       by : Stops mid rest → Stops old ((Tree.leaf x, t) ∷ rest)
       by (y, u, k, a, has, why) =
           let (w, bound) = bounds y u (inr a) in
-          (y, u, k, inr a, sym (move_elsewhere old x (walked new t) mid one y (λ is. apart t y w bound is)) ∙ has, elim why [
+          (y, u, k, inr a, sym (move_elsewhere old (old x) (walked new t) mid one y (λ is. apart t y w bound is)) ∙ has, elim why [
             | inl atom ↦ inl atom
             | inr (z, l, walks, from, differ) ↦ inr (z, l, walks, from_before old mid x t rest one (λ y u a. bounds y u (inr a)) z l from, differ)
           ])
-  moves_stop old more r (TypesMove.not_moved {x = x} {t = t} one) bounds is = by (move_stuck old x (walked new t) one)
+  moves_stop old more r (TypesMove.not_moved {x = x} {t = t} one) bounds is = by (move_stuck old (old x) (walked new t) one)
     where
-      by : Stuck old x (walked new t) → Stops old more
+      by : Stuck old (old x) (walked new t) → Stops old more
       by (k, has, inl atom) = (x, t, k, inl refl, has, inl atom)
       by (k, has, inr (y, l, walks, there, differ)) = (x, t, k, inl refl, has, inr (y, l, walks, inl there, differ))
-
--- the types of variables that aren't bound are those that the store's primitives give them
-abbrev pub TypesInStep : Pairs → Types → Replacement → List (Primitive Tm) → Type 0
-TypesInStep bound types s ps = (v : ℕ) → bound_to v bound ≡ None → (k : Kind) → (types v ≡ Some k → has_type k s ps v ≡ true) × (has_type k s ps v ≡ true → types v ≡ Some k)
 
 -- each type that is asked may be
 abbrev pub TypesAllowed : Replacement → List (Primitive Tm) → Type 0
@@ -241,7 +238,7 @@ types_allowed s ps allowed Number a among = allowed (Primitive.number a) among
 types_allowed s ps allowed Text a among = allowed (Primitive.text a) among
 
 -- an atom of a type is the same under any bindings, and what isn't one isn't one
-may_be-onward : (k : Kind) (bound : Pairs) (t : Tm) → ((v : ℕ) → t ≡ Tree.leaf v → ⊥) → may_be k (full bound t) ≡ may_be k t
+pub may_be-onward : (k : Kind) (bound : Pairs) (t : Tm) → ((v : ℕ) → t ≡ Tree.leaf v → ⊥) → may_be k (full bound t) ≡ may_be k t
 may_be-onward k bound (Tree.leaf v) other = absurd (other v refl)
 may_be-onward k bound (Tree.sym s) other = refl
 may_be-onward k bound (Tree.str s) other = refl
@@ -252,12 +249,12 @@ may_be-onward Symbol bound (Tree.pair a b) other = refl
 may_be-onward Number bound (Tree.pair a b) other = refl
 may_be-onward Text bound (Tree.pair a b) other = refl
 
-leaf_may : (k : Kind) (v : ℕ) → may_be k (Tree.leaf v) ≡ true
+pub leaf_may : (k : Kind) (v : ℕ) → may_be k (Tree.leaf v) ≡ true
 leaf_may Symbol v = refl
 leaf_may Number v = refl
 leaf_may Text v = refl
 
-full-variable : (bound : Pairs) (t : Tm) (v : ℕ) → full bound t ≡ Tree.leaf v → (u : ℕ) × (t ≡ Tree.leaf u)
+pub full-variable : (bound : Pairs) (t : Tm) (v : ℕ) → full bound t ≡ Tree.leaf v → (u : ℕ) × (t ≡ Tree.leaf u)
 full-variable bound (Tree.leaf u) v h = (u, refl)
 full-variable bound (Tree.sym s) v h = cc
 full-variable bound (Tree.str s) v h = cc
@@ -265,6 +262,13 @@ full-variable bound (Tree.num n) v h = cc
 full-variable bound (Tree.truth b) v h = cc
 full-variable bound Tree.nil v h = cc
 full-variable bound (Tree.pair a b) v h = cc
+
+-- what a term walks to may be of a type where its full value may
+pub may_be-full : (k : Kind) (bound : Pairs) (w : Tm) → ((v : ℕ) → w ≡ Tree.leaf v → bound_to v bound ≡ None) → may_be k (full bound w) ≡ may_be k w
+may_be-full k bound w free = elim (variable-or w) [
+  | inl (v, is) ↦ ap (may_be k) (ap (full bound) is ∙ full-free bound v (free v is)) ∙ leaf_may k v ∙ sym (ap (may_be k) is ∙ leaf_may k v)
+  | inr other ↦ may_be-onward k bound w other
+]
 
 module _ (bound new : Pairs) (added : List (Tm × Tm)) (g : Grown bound) (h : Grown new) (put : AddedTo bound added new)
     (s r : Replacement) (makes : (t : Tm) → full bound t ≡ apply s t) (onward : (t : Tm) → full new t ≡ apply r t) (ps : List (Primitive Tm)) where
@@ -340,13 +344,7 @@ module _ (bound new : Pairs) (added : List (Tm × Tm)) (g : Grown bound) (h : Gr
           by u was (Some t) e =
               let in_added = bound-added bound added new put u t (was_free a u was) e in
               let may = (moves_put new h old added (Some final) moves final refl u t in_added k (at u k a among was)).1 in
-              subst (λ w. may_be k w ≡ true) (sym (ap (full new) was ∙ full-bound new h u t e ∙ sym (full-walked new h t))) (full_may (walked new t) (λ v walks. walked-end new h t v walks) may)
-            where
-              full_may : (w : Tm) → ((v : ℕ) → w ≡ Tree.leaf v → bound_to v new ≡ None) → may_be k w ≡ true → may_be k (full new w) ≡ true
-              full_may w free may = elim (variable-or w) [
-                | inl (v, is) ↦ subst (λ t. may_be k t ≡ true) (sym (ap (full new) is ∙ full-free new v (free v is))) (leaf_may k v)
-                | inr other ↦ may_be-onward k new w other ∙ may
-              ]
+              subst (λ w. may_be k w ≡ true) (sym (ap (full new) was ∙ full-bound new h u t e ∙ sym (full-walked new h t))) (may_be-full k new (walked new t) (λ v walks. walked-end new h t v walks) ∙ may)
 
   -- where the moves stop, the store isn't kept
   pub types_stop : (old : Types) → TypesInStep bound old s ps → TypesMove new old added None → TypesAllowed r ps → OneType r ps → ⊥

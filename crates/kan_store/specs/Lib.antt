@@ -1,5 +1,7 @@
 pub mod PrimsCode
-pub mod Types
-pub mod Tags
-pub mod Absent
 pub mod Moving
+pub mod Disequalities
+pub mod Watching
+pub mod Laws
+pub mod Asked
+pub mod InStep

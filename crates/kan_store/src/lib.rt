@@ -2,5 +2,7 @@
 #![tactic(auto)]
 
 mod history;
+mod moving;
 
 pub use history::History;
+pub use moving::{move_tags, move_types};
