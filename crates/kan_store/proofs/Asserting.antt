@@ -23,8 +23,8 @@ use Rattle.unify_core.proofs.CycleLaws.{grown}
 use Rattle.unify_core.proofs.WalkLaws.{full-walked, walked-end}
 use Rattle.type_absence.specs.Types.{Types, GivesTypes, same_kind}
 use Rattle.type_absence.specs.Absent.{TagsOf, GivesTag, GivesTags}
-use Rattle.kan_store.specs.Disequalities.{Disequality, Brought, is_identical}
-use Rattle.kan_store.specs.Watching.{are_watchable}
+use Rattle.diseq.specs.Disequalities.{Disequality, Brought, is_identical}
+use Rattle.diseq.specs.Watching.{are_watchable}
 use Rattle.kan_store.specs.Asked.{asked}
 use Rattle.kan_store.specs.InStep.{InStep, TypesInStep, TagsInStep}
 use Rattle.kan_store.specs.Moving.{TypesMove, TagsMove}
@@ -33,7 +33,7 @@ use Rattle.kan_store.proofs.KeptParts.{Among, among-left, among-last, among-case
 use Rattle.kan_store.proofs.TypesStep.{TypesAllowed, types_allowed, types_step, types_stop, move_keeps, move_puts, move_may, move_cases, move_stuck, Stuck, variable-or, same_kind-same, may_be-full, full-variable}
 use Rattle.kan_store.proofs.TagsStep as of_tags
 use Rattle.kan_store.proofs.TagsStep.{TagsAllowed, tags_step, tags_stop}
-use Rattle.kan_store.specs.Laws.{BringingGoesOn}
+use Rattle.diseq.specs.Laws.{BringingGoesOn}
 use Rattle.type_absence.specs.Tags.{is_listed, has_any}
 use Rattle.kan_store.proofs.AddedLaws.{full-free, full-onward}
 use Rattle.kan_store.proofs.DiffersStep.{DiffersAllowed, differs_allowed, differs_fail}

@@ -15,8 +15,8 @@ use Rattle.unify_core.specs.Walking.{Pairs, full}
 use Rattle.type_absence.specs.Tags.{is_listed}
 use Rattle.type_absence.specs.Types.{Types}
 use Rattle.type_absence.specs.Absent.{TagsOf}
-use Rattle.kan_store.specs.Disequalities.{Disequality, Brought}
-use Rattle.kan_store.specs.Watching.{are_watchable}
+use Rattle.diseq.specs.Disequalities.{Disequality, Brought}
+use Rattle.diseq.specs.Watching.{are_watchable}
 use Rattle.kan_store.specs.Asked.{asked}
 
 -- the types of variables that aren't bound are those that the store's primitives give them

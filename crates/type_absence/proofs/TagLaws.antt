@@ -17,7 +17,7 @@ pub keep_listed : (tag : ℕ) (tags : List ℕ) → is_listed tag tags ≡ true 
 keep_listed = where_listed
 
 -- the tags of two lists
-listed-append : (tag : ℕ) (xs ys : List ℕ) → is_listed tag (xs ++ ys) ≡ (is_listed tag xs || is_listed tag ys)
+pub listed-append : (tag : ℕ) (xs ys : List ℕ) → is_listed tag (xs ++ ys) ≡ (is_listed tag xs || is_listed tag ys)
 listed-append tag [] ys = refl
 listed-append tag (x ∷ xs) ys = by (eqb x tag) (listed-append tag xs ys)
   where

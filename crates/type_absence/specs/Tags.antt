@@ -1,5 +1,5 @@
 -- Lists of tags, in which each stands once.
-use Rattle.std.specs.Prelude.{ℕ, Bool, false, ◌||◌, eqb, List, [], ◌∷◌, ◌++◌, if◌then◌else◌}
+use Rattle.std.specs.Prelude.{ℕ, Bool, true, false, ◌&&◌, ◌||◌, not, eqb, List, [], ◌∷◌, ◌++◌, if◌then◌else◌}
 use Rattle.kan_terms.specs.Tree.{Tree, has_symbol}
 
 -- a tag is in the list
@@ -20,3 +20,8 @@ with_tags (tag ∷ more) tags = with_tags more (with_tag tag tags)
 abbrev pub has_any : {V : Type 0} → List ℕ → Tree V → Bool
 has_any [] t = false
 has_any (tag ∷ more) t = has_symbol tag t || has_any more t
+
+-- each tag is in the list once
+abbrev pub is_once : List ℕ → Bool
+is_once [] = true
+is_once (tag ∷ more) = not (is_listed tag more) && is_once more
