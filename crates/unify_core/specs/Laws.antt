@@ -1,13 +1,13 @@
 -- What walking and full values are, and what ties bindings in which nothing is replaced to the solver's replacement.
-use Rattle.std.specs.Prelude.{◌≡◌, ◌↔◌, ℕ, true, List, Option, Some, None}
+use Rattle.std.specs.Prelude.{◌≡◌, ◌↔◌, ℕ, true, List, map, Option, Some, None}
 use Rattle.kan_terms.specs.Tree.{Tree, Tm, Gd, occurs}
 use Rattle.kan_terms.specs.Bound.{bound_to}
 use Rattle.kan_model.specs.Stores.Store.{Equation}
 use Rattle.kan_model.specs.Stores.Solve.{Replacement, apply, solve}
-use Rattle.kan_model.specs.Stores.Unifiers.{Factors}
+use Rattle.kan_model.specs.Stores.Unifiers.{Factors, Unifies}
 use Rattle.unify_core.specs.Walking.{Pairs, walked, full}
 use Rattle.unify_core.specs.Cycles.{HasNoCycle}
-use Rattle.unify_core.specs.Solutions.{IsSolution, bindings_solved}
+use Rattle.unify_core.specs.Solutions.{IsSolution, AddedTo, bindings_solved, equation}
 use Rattle.unify_core.specs.Unifying.{Unifying}
 
 -- a term is no bound variable
@@ -36,3 +36,21 @@ BindingsReplace = (bound : Pairs) → HasNoCycle bound → (s : Replacement) × 
 pub record AddsOne : Type 0 where
   pub comes_to_end : (bound : Pairs) (es : List Equation) → HasNoCycle bound → (added : Option (List (Tm × Tm))) × Unifying bound es added
   pub is_one : (bound : Pairs) (es : List Equation) (added other : Option (List (Tm × Tm))) → Unifying bound es added → Unifying bound es other → added ≡ other
+
+-- added pairs as equations
+abbrev pub added_equations : List (Tm × Tm) → List Equation
+added_equations = map (λ pair. equation pair.0 pair.1)
+
+-- beside the bindings, what is added has exactly the solutions of the equations; where there is no unifier, the equations have no solution
+abbrev pub AddedSolve : Type 0 → Type 0
+AddedSolve V =
+    ((bound : Pairs) (es : List Equation) (added : List (Tm × Tm)) → HasNoCycle bound → Unifying bound es (Some added) →
+    (f : ℕ → Tree V) → IsSolution f bound → Unifies f es ↔ Unifies f (added_equations added))
+    × ((bound : Pairs) (es : List Equation) → HasNoCycle bound → Unifying bound es None → (f : ℕ → Tree V) → IsSolution f bound → Unifies f es → ⊥)
+
+-- this holds for terms and for ground terms, and what is added can be put in front of the bindings one after the other, which makes no cycle
+pub record AddsSolutions : Type 0 where
+  pub of_terms : AddedSolve ℕ
+  pub of_ground : AddedSolve ⊥
+  pub can_be_put : (bound : Pairs) (es : List Equation) (added : List (Tm × Tm)) → HasNoCycle bound → Unifying bound es (Some added) →
+      (new : Pairs) × AddedTo bound added new × HasNoCycle new

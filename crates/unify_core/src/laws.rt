@@ -1,6 +1,6 @@
 //! Laws of the definitions. Each function has its law for its contract, and does nothing.
 
-ghost use Rattle.unify_core.specs.Laws.{AddsOne, BindingsReplace, FullValues, WalksToEnd};
+ghost use Rattle.unify_core.specs.Laws.{AddsOne, AddsSolutions, BindingsReplace, FullValues, WalksToEnd};
 
 /// Walking follows bound variables to the end.
 #[tactic(auto, using(crate::proofs::CentralLaw::walks_to_end))]
@@ -26,4 +26,10 @@ pub fn bindings_are_a_replacement()
 #[tactic(auto, using(crate::proofs::OneAnswer::adds_one))]
 pub fn unification_adds_one_list()
     ensures { AddsOne }
+{}
+
+/// What unification adds has, beside the bindings, the solutions of the equations.
+#[tactic(auto, using(crate::proofs::AddedLaws::adds_solutions))]
+pub fn added_pairs_have_the_solutions()
+    ensures { AddsSolutions }
 {}

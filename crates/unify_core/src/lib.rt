@@ -7,5 +7,5 @@ mod unifying;
 mod walking;
 
 pub use occurring::occurs;
-pub use unifying::{Unified, unify};
+pub use unifying::{Unified, unify, unify_owned, would_add};
 pub use walking::walk;

@@ -2,14 +2,16 @@
 
 ghost use Rattle.std.specs.Prelude.{◌≡◌, ◌↔◌, ◌++◌, [], ◌∷◌, ℕ, map, IfOk, IfSome, None};
 ghost use Rattle.std.specs.Option.{option_map};
+ghost use Rattle.kan_model.specs.Stores.Prims.{equation as pair_equation};
 ghost use Rattle.kan_model.specs.Stores.Solve as solver;
 ghost use Rattle.kan_terms.specs.Terms.{sides, tree};
 ghost use Rattle.kan_terms.specs.Tree.{Gd, fill};
 ghost use Rattle.unify_core.specs.Cycles.{HasNoCycle};
-ghost use Rattle.unify_core.specs.Lent.{Binds, Fresh, Parts, StepTo, equation_of, lent_sides};
+ghost use Rattle.unify_core.specs.Lent.{Binds, Parts, StepTo, equation_of, lent_sides};
 ghost use Rattle.unify_core.specs.Lent.{waiting_equations, with_lent};
 ghost use Rattle.unify_core.specs.Solutions.{AddedTo, IsSolution, bindings_solved, equation};
 ghost use Rattle.unify_core.specs.Unifying.{Unifying, met, same_atoms, taken_apart};
+ghost use Rattle.unify_core.specs.Walking.{Pairs};
 
 use crate::occurring::{is_inside, is_variable};
 use crate::walking::{Lent, walk_on};
@@ -126,26 +128,21 @@ fn step<'a, B: Bindings>(
     take_apart(left, right, waiting)
 }
 
-// The bindings that make two terms the same, in the order in which they are made.
+// The bindings that make the sides of all waiting equations the same, in the order in which they
+// are made.
 fn lend_bindings<'a, B: Bindings>(
     alloc: Global,
-    left: &'a Term,
-    right: &'a Term,
+    waiting: &mut Vec<Sides<'a>>,
     bindings: &'a B,
 ) -> Result<Option<Vec<Lent<'a>>>, Memory>
     requires { HasNoCycle (B.pairs bindings.now) }
     ensures { IfOk result
-        (λ found. Unifying (B.pairs bindings.now) (equation (tree left.now) (tree right.now) ∷ [])
+        (λ found. Unifying (B.pairs bindings.now) (waiting_equations waiting.old.items)
         (option_map (λ lent. lent_sides lent.items) found)) }
 {
     let mut lent = Vec::new(alloc);
-    let mut waiting = Vec::new(alloc);
-    let both = Sides { left, right };
-    if !step(alloc, both, bindings, &mut lent, &mut waiting)? {
-        return Ok(None);
-    }
     while let Some(next) = waiting.pop() {
-        let goes_on = step(alloc, next, bindings, &mut lent, &mut waiting)?;
+        let goes_on = step(alloc, next, bindings, &mut lent, waiting)?;
         if !goes_on {
             return Ok(None);
         }
@@ -153,33 +150,126 @@ fn lend_bindings<'a, B: Bindings>(
     Ok(Some(lent))
 }
 
-// Makes bindings of those that were lent.
-fn take_over<'a, B: Bindings>(
-    alloc: Global,
-    bindings: &B,
-    lent: &[Lent<'a>],
-) -> Result<Unified<B>, Memory>
-    requires { Fresh (B.pairs bindings.now) lent.now }
-    ensures made { IfOk result (λ made. B.pairs made.bindings ≡
-        with_lent lent.now (B.pairs bindings.now)) }
-    ensures added { IfOk result (λ made. map sides made.added ≡ lent_sides lent.now) }
+// Lent bindings as pairs of terms.
+fn owned<'a>(alloc: Global, lent: &[Lent<'a>]) -> Result<TermPairs, Memory>
+    ensures { IfOk result (λ made. map sides made ≡ lent_sides lent.now) }
 {
-    let mut made = bindings.again()?;
-    let mut added = TermPairs::new(alloc);
+    let mut made = TermPairs::new(alloc);
     for one in lent {
-        made = made.bind_owned(one.var, one.term)?;
         let pair = TermPair {
             first: Term::Var(one.var),
             rest: one.term.again()?,
         };
-        if added.push(pair).is_err() {
+        if made.push(pair).is_err() {
             return Err(Memory);
         }
     }
-    Ok(Unified {
-        bindings: made,
-        added,
-    })
+    Ok(made)
+}
+
+// Puts pairs on a stack of equations, the first one on top.
+fn wait_for_pairs<'a>(alloc: Global, pairs: &'a [TermPair]) -> Result<Vec<Sides<'a>>, Memory>
+    ensures { IfOk result
+        (λ waiting. waiting_equations waiting.items ≡ map pair_equation pairs.now) }
+{
+    let mut waiting = Vec::with_capacity(alloc, pairs.len())?;
+    let mut left = pairs.len();
+    while left > 0 {
+        left -= 1;
+        let pair = &pairs[left];
+        waiting.push(Sides {
+            left: &pair.first,
+            right: &pair.rest,
+        })?;
+    }
+    Ok(waiting)
+}
+
+/// What unification of the sides of all pairs, the first pair first, would add to bindings; None
+/// where there is no unifier. It makes no bindings.
+pub fn would_add<B: Bindings>(
+    alloc: Global,
+    pairs: &[TermPair],
+    bindings: &B,
+) -> Result<Option<TermPairs>, Memory>
+    requires { HasNoCycle (B.pairs bindings.now) }
+    ensures { IfOk result
+        (λ found. Unifying (B.pairs bindings.now) (map pair_equation pairs.now)
+        (option_map (λ made. map sides made) found)) }
+{
+    let mut waiting = wait_for_pairs(alloc, pairs)?;
+    match lend_bindings(alloc, &mut waiting, bindings)? {
+        None => Ok(None),
+        Some(lent) => Ok(Some(owned(alloc, &lent)?)),
+    }
+}
+
+// What unification of two terms would add to bindings.
+fn added_by<B: Bindings>(
+    alloc: Global,
+    left: &Term,
+    right: &Term,
+    bindings: &B,
+) -> Result<Option<TermPairs>, Memory>
+    requires { HasNoCycle (B.pairs bindings.now) }
+    ensures { IfOk result
+        (λ found. Unifying (B.pairs bindings.now) (equation (tree left.now) (tree right.now) ∷ [])
+        (option_map (λ made. map sides made) found)) }
+{
+    let mut waiting = Vec::new(alloc);
+    waiting.push(Sides { left, right })?;
+    match lend_bindings(alloc, &mut waiting, bindings)? {
+        None => Ok(None),
+        Some(lent) => Ok(Some(owned(alloc, &lent)?)),
+    }
+}
+
+// Binds what unification added, one after the other.
+fn bind_all<B: Bindings>(bindings: B, added: &[TermPair]) -> Result<B, Memory>
+    requires { (new : Pairs) × AddedTo (B.pairs bindings) (map sides added.now) new }
+    ensures { IfOk result
+        (λ made. AddedTo (B.pairs bindings) (map sides added.now) (B.pairs made)) }
+{
+    let mut made = bindings;
+    for pair in added {
+        let Term::Var(var) = &pair.first else {
+            unreachable!()
+        };
+        made = made.bind_owned(*var, &pair.rest)?;
+    }
+    Ok(made)
+}
+
+/// What `unify` gives, made of the bindings themselves: in place where nobody else holds them.
+pub fn unify_owned<B: Bindings>(
+    alloc: Global,
+    left: &Term,
+    right: &Term,
+    bindings: B,
+) -> Result<Option<Unified<B>>, Memory>
+    requires { HasNoCycle (B.pairs bindings) }
+    ensures added { IfOk result (λ found. IfSome found
+        (λ made. AddedTo (B.pairs bindings) (map sides made.added) (B.pairs made.bindings))) }
+    ensures no_cycle { IfOk result (λ found. IfSome found
+        (λ made. HasNoCycle (B.pairs made.bindings))) }
+    ensures solutions { IfOk result (λ found. IfSome found (λ made. (f : ℕ → Gd) →
+        IsSolution f (B.pairs made.bindings) ↔
+        (IsSolution f (B.pairs bindings) ×
+        (fill f (tree left.now) ≡ fill f (tree right.now))))) }
+    ensures in_order { IfOk result
+        (λ found. Unifying (B.pairs bindings) (equation (tree left.now) (tree right.now) ∷ [])
+        (option_map (λ made. map sides made.added) found)) }
+    ensures none { IfOk result (λ found. (found ≡ None) ↔
+        (solver.solve (bindings_solved (B.pairs bindings) ++
+        equation (tree left.now) (tree right.now) ∷ []) ≡ None)) }
+{
+    match added_by(alloc, left, right, &bindings)? {
+        None => Ok(None),
+        Some(added) => {
+            let bindings = bind_all(bindings, added.items())?;
+            Ok(Some(Unified { bindings, added }))
+        }
+    }
 }
 
 /// Bindings under which two terms are the same, and which have exactly the solutions that this
@@ -206,8 +296,5 @@ pub fn unify<B: Bindings>(
         (solver.solve (bindings_solved (B.pairs bindings.now) ++
         equation (tree left.now) (tree right.now) ∷ []) ≡ None)) }
 {
-    match lend_bindings(alloc, left, right, bindings)? {
-        None => Ok(None),
-        Some(lent) => Ok(Some(take_over(alloc, bindings, &lent)?)),
-    }
+    unify_owned(alloc, left, right, bindings.again()?)
 }

@@ -1,4 +1,4 @@
-use Rattle.std.proofs.Common.{rules, ◌∙◌, sym, arith}
+use Rattle.std.proofs.Common.{sym, arith}
 use Rattle.kan_terms.specs.Terms.{tree}
 use Rattle.unify_core.specs.Lent.{with_lent}
 use Rattle.unify_core.proofs.NewLaws.{none_in_full, new_apart}

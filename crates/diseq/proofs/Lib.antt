@@ -1,0 +1,5 @@
+pub mod BroughtLaws
+pub mod ListLaws
+pub mod MovedLaws
+pub mod TableLaws
+pub mod WatchLaws

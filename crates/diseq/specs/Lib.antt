@@ -1,0 +1,5 @@
+pub mod Code
+pub mod Disequalities
+pub mod Laws
+pub mod Tables
+pub mod Watching

@@ -1,0 +1,8 @@
+//! Disequalities over triangular bindings: each is kept as the bindings that would make it false,
+//! and is looked at again only where the variable of the first of them may have changed.
+#![tactic(auto)]
+
+mod entries;
+pub mod laws;
+mod solving;
+mod table;

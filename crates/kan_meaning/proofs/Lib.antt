@@ -1,0 +1,5 @@
+pub mod Grounds
+pub mod KeptLaws
+pub mod OwnValues
+pub mod SolutionLaws
+pub mod SolvedLaws

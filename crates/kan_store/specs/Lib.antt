@@ -1,0 +1,4 @@
+pub mod PrimsCode
+pub mod Moving
+pub mod Asked
+pub mod InStep

@@ -1,0 +1,8 @@
+//! The solved store: bindings, types, absences and disequalities in step with what was asserted.
+#![tactic(auto)]
+
+mod history;
+mod moving;
+
+pub use history::History;
+pub use moving::{move_tags, move_types};

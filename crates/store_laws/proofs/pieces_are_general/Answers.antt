@@ -1,0 +1,6 @@
+-- The law of General.
+use Rattle.store_laws.proofs.General.{composed_is_general}
+use Rattle.store_laws.proofs.pieces_are_general.Goals as goal
+
+pub returns : goal.returns
+returns c = composed_is_general
