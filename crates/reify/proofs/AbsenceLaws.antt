@@ -1,5 +1,5 @@
 -- The tags that were found are those of the answer's absences.
-use Rattle.std.proofs.Common.{◌≡◌, ◌≢◌, ◌↔◌, ℕ, suc, ◌+◌, ◌<◌, ◌≤◌, Bool, true, false, ◌&&◌, ◌||◌, not, eqb, nat_lt, List, [], ◌∷◌, ◌++◌, length, map, filter, get_or, take, refl, sym, ◌∙◌, ap, ap₂, append-nil, append_assoc, arith, true≢false, inl, inr, Contains, unwrap_or, Option, subst}
+use Rattle.std.proofs.Common.{◌≡◌, ◌≢◌, ◌↔◌, ℕ, zero, suc, ◌+◌, ◌<◌, ◌≤◌, Bool, true, false, ◌&&◌, ◌||◌, not, eqb, nat_lt, List, [], ◌∷◌, ◌++◌, length, map, filter, get_or, take, refl, sym, ◌∙◌, ap, ap₂, append-nil, append_assoc, arith, true≢false, inl, inr, Contains, unwrap_or, Option, subst}
 use Rattle.std.specs.Prelude.{if◌then◌else◌}
 use Rattle.std.specs.List.{list_all, list_any, concat, AllPairs}
 use Rattle.std.specs.Cmp.{IsEquivalence}
@@ -76,6 +76,18 @@ as_many test [] [] h = refl
 as_many test [] (l ∷ lists) h = absurd h
 as_many test (w ∷ vs) [] h = absurd h
 as_many test (w ∷ vs) (l ∷ lists) (h, hs) = ap suc (as_many test vs lists hs)
+
+pub few_lists : (test : ℕ → ℕ → Bool) (vs ws : List ℕ) (i n : ℕ) (lists : List (List ℕ)) → TagLists test (take i vs) lists → ws ≡ vs → length ws < n → length lists < n
+few_lists test vs ws i n lists are same few =
+    let many : length lists ≡ length (take i vs) = as_many test (take i vs) lists are in
+    let part : length (take i vs) ≤ length vs = at_most i vs in
+    let long : length ws ≡ length vs = ap length same in
+    omega (arith, many, part, long, few)
+  where
+    at_most : (k : ℕ) (xs : List ℕ) → length (take k xs) ≤ length xs
+    at_most zero xs = omega arith
+    at_most (suc k) [] = omega arith
+    at_most (suc k) (x ∷ xs) = let ih = at_most k xs in omega (arith, ih)
 
 -- the tags of one list more
 pub joined_step : (lists : List (List ℕ)) (i : ℕ) (ts tags more : List ℕ) → i < length lists → ts ≡ get_or lists i ts → tags ≡ concat (take i lists) → more ≡ tags ++ ts → more ≡ concat (take (i + 1) lists)

@@ -7,3 +7,4 @@ pub mod Walking
 pub mod Typing
 pub mod Ordering
 pub mod Absences
+pub mod Forms

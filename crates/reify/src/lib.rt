@@ -4,6 +4,7 @@
 mod absences;
 mod answers;
 mod constraints;
+mod forms;
 mod naming;
 mod ordering;
 mod printing;
