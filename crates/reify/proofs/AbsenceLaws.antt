@@ -132,7 +132,7 @@ same_bools true b f g = sym (f refl)
 same_bools false true f g = g refl
 same_bools false false f g = refl
 
-listed_is : (ts : List ℕ) (tag : ℕ) (b : Bool) → Contains ts tag ↔ (b ≡ true) → stands_in ts tag ≡ b
+pub listed_is : (ts : List ℕ) (tag : ℕ) (b : Bool) → Contains ts tag ↔ (b ≡ true) → stands_in ts tag ≡ b
 listed_is ts tag b same = same_bools (stands_in ts tag) b (λ h. same.0 (Contains-from_any eqb-true tag ts h)) (λ h. list_any-from_Contains equal_numbers tag ts (same.1 h))
 
 -- the names of a tag are those of the variables that pass the test
@@ -164,7 +164,7 @@ some_names p n (v ∷ vs) = by (p v) (some_names p (suc n) vs)
     by false ih = ih
 
 -- a tag that is kept out is one of the primitives' tags
-tag_there : (s : Replacement) (tag v : ℕ) (ps : List (Primitive Tm)) → list_any (keeps_out s tag v) ps ≡ true → stands_in (tags_of ps) tag ≡ true
+pub tag_there : (s : Replacement) (tag v : ℕ) (ps : List (Primitive Tm)) → list_any (keeps_out s tag v) ps ≡ true → stands_in (tags_of ps) tag ≡ true
 tag_there s tag v [] h = absurd (true≢false (sym h))
 tag_there s tag v (Primitive.absent t a ∷ ps) h = elim (or_cases (eqb tag t && occurs v (apply s a)) (list_any (keeps_out s tag v) ps) h) [
   | inl first ↦ or_left (eqb tag t) (stands_in (tags_of ps) tag) (and_parts (eqb tag t) (occurs v (apply s a)) first).0

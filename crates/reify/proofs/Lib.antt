@@ -6,3 +6,6 @@ pub mod KindLaws
 pub mod FreeLaws
 pub mod OrderLaws
 pub mod AbsenceLaws
+pub mod RankLaws
+pub mod FittingLaws
+pub mod KeepLaws

@@ -8,3 +8,7 @@ pub mod Typing
 pub mod Ordering
 pub mod Absences
 pub mod Forms
+pub mod Fitting
+pub mod Keeping
+pub mod Choosing
+pub mod Writing

@@ -3,14 +3,18 @@
 
 mod absences;
 mod answers;
+mod choosing;
 mod constraints;
+mod fitting;
 mod forms;
+mod keeping;
 mod naming;
 mod ordering;
 mod printing;
 mod shaping;
 mod typing;
 mod walking;
+mod writing;
 
 pub use answers::Answer;
 pub use constraints::print_answer;

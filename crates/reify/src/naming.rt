@@ -1,7 +1,7 @@
 //! The names of variables.
 
 ghost use Rattle.std.specs.Prelude.{◌≡◌, ◌<◌, ◌^◌, [], length, map, eqb, IfOk};
-ghost use Rattle.kan_model.specs.Answers.Order.{each_once, place_of};
+ghost use Rattle.kan_model.specs.Answers.Order.{each_once, place_of, stands_in};
 ghost use Rattle.reify.specs.Naming.{name_in, number_of, shape_in, variables_of, with_letter, with_variable};
 
 use crate::shaping::{Shape, Shapes};
@@ -81,8 +81,15 @@ impl Naming {
         }
     }
 
-    // The name of a variable, or how many names there are.
-    fn place(&self, var: u64) -> u32
+    /// Whether a variable has a name.
+    pub(crate) fn stands(&self, var: u64) -> bool
+        ensures { result ≡ stands_in self.now var }
+    {
+        self.name(var).is_some()
+    }
+
+    /// The name of a variable, or how many names there are.
+    pub(crate) fn place(&self, var: u64) -> u32
         ensures { result ≡ place_of self.now var }
     {
         match self.name(var) {

@@ -12,8 +12,8 @@ use kan_model::{Kind, Store};
 use kan_terms::Memory;
 use std::alloc::Global;
 
-// Whether a type is the one that was found.
-fn is_kind(kind: Kind, found: Option<Kind>) -> bool
+/// Whether a type is the one that was found.
+pub(crate) fn is_kind(kind: Kind, found: Option<Kind>) -> bool
     ensures { result ≡ kind_test kind found }
 {
     match kind {
