@@ -9,3 +9,4 @@ pub mod AbsenceLaws
 pub mod RankLaws
 pub mod FittingLaws
 pub mod KeepLaws
+pub mod ChooseLaws

@@ -71,8 +71,8 @@ fn is_same_form(alloc: Global, one: &[Replaced], other: &[Replaced]) -> Result<b
     if one.len() != other.len() {
         return Ok(false);
     }
-    for (pair, twin) in one.iter().zip(other.iter()) {
-        let same = is_same_pair(alloc, pair, twin)?;
+    for at in 0..one.len() {
+        let same = is_same_pair(alloc, &one[at], &other[at])?;
         if !same {
             return Ok(false);
         }

@@ -2,6 +2,7 @@
 #![tactic(auto)]
 
 mod absences;
+mod answering;
 mod answers;
 mod choosing;
 mod constraints;
@@ -16,6 +17,7 @@ mod typing;
 mod walking;
 mod writing;
 
+pub use answering::answer_of;
 pub use answers::Answer;
 pub use constraints::print_answer;
 pub use shaping::{NamePair, NamePairs, Shape, Shapes};
