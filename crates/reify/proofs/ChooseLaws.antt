@@ -24,7 +24,7 @@ use Rattle.reify.specs.declared.writing.Written.{Written}
 use Rattle.reify.specs.Shapes.{spelling, tree_of, spells, all_whole, named_pair}
 use Rattle.reify.specs.Naming.{shape_in}
 use Rattle.reify.specs.Choosing.{is_new}
-use Rattle.reify.specs.Writing.{pair_in_names, pairs_of, IsWritten, AllWritten, pairs_alone_of, texts_in_order}
+use Rattle.reify.specs.Writing.{pair_in_names, pairs_of, IsWritten, AllWritten, pairs_alone_of, texts_in_order, only}
 use Rattle.reify.proofs.ShapeLaws.{tree_of-spelling, one_spelled}
 use Rattle.reify.proofs.NamingLaws.{shape_spelling}
 
@@ -133,15 +133,17 @@ module _ {X : Type 0} (f : X → model.Replacement) (vs : List ℕ) (forms : Lis
   with_more : chosen whole (map f (take (i + 1) forms)) ≡ chosen whole (map f (take i forms)) ++ (if test then f x ∷ [] else [])
   with_more = ap (chosen whole) one_more_form ∙ chosen-more whole (map f (take i forms)) (f x) (not (is_weaker whole (f x))) refl
 
-  pub form_left : test ≡ false → map pairs_of old ≡ map (form_in_names vs) (chosen whole (map f (take i forms))) → map pairs_of old ≡ map (form_in_names vs) (chosen whole (map f (take (i + 1) forms)))
-  form_left e before = before ∙ ap (map (form_in_names vs)) (sym (with_more ∙ ap (λ b. chosen whole (map f (take i forms)) ++ (if b then f x ∷ [] else [])) e ∙ append-nil (chosen whole (map f (take i forms)))))
+  only_is : (b : Bool) → (if b then f x ∷ [] else []) ≡ only b (f x)
+  only_is true = refl
+  only_is false = refl
 
-  pub form_put : (w : Written) → test ≡ true → map pairs_of old ≡ map (form_in_names vs) (chosen whole (map f (take i forms))) → pairs_of w ≡ form_in_names vs (f x) → new ≡ old ++ w ∷ [] →
+  pub form_step : (b : Bool) (u : model.Replacement) → b ≡ (not (is_weaker whole u) && is_new (map f (take i forms)) u) → u ≡ f x →
+      map pairs_of old ≡ map (form_in_names vs) (chosen whole (map f (take i forms))) → map pairs_of new ≡ map pairs_of old ++ map (form_in_names vs) (only b u) →
       map pairs_of new ≡ map (form_in_names vs) (chosen whole (map f (take (i + 1) forms)))
-  form_put w e before named put =
-      ap (map pairs_of) put ∙ map-append pairs_of old (w ∷ []) ∙ ap₂ (λ l r. l ++ r ∷ []) before named
-      ∙ sym (map-append (form_in_names vs) (chosen whole (map f (take i forms))) (f x ∷ []))
-      ∙ ap (map (form_in_names vs)) (sym (with_more ∙ ap (λ b. chosen whole (map f (take i forms)) ++ (if b then f x ∷ [] else [])) e))
+  form_step b u is_test same before put =
+      put ∙ ap₂ (λ l r. l ++ map (form_in_names vs) r) before (ap₂ only (is_test ∙ ap (λ v. not (is_weaker whole v) && is_new (map f (take i forms)) v) same) same ∙ sym (only_is test))
+      ∙ sym (map-append (form_in_names vs) (chosen whole (map f (take i forms))) (if test then f x ∷ [] else []))
+      ∙ ap (map (form_in_names vs)) (sym with_more)
 
 pub written_more : (table : Table) (old : List Written) (w : Written) → AllWritten table old → IsWritten table w → AllWritten table (old ++ w ∷ [])
 written_more table [] w h k = (k, tt)

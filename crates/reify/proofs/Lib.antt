@@ -10,3 +10,4 @@ pub mod RankLaws
 pub mod FittingLaws
 pub mod KeepLaws
 pub mod ChooseLaws
+pub mod AnswerLaws
