@@ -1,5 +1,5 @@
 -- Forms that are chosen, and their texts.
-use Rattle.std.proofs.Common.{◌≡◌, ℕ, zero, suc, ◌+◌, ◌<◌, ◌≤◌, Bool, true, false, ◌&&◌, ◌||◌, not, eqb, List, [], ◌∷◌, ◌++◌, length, map, filter, get_or, take, drop, drop-cons, drop_of_length-le, reverse, refl, sym, ◌∙◌, ap, ap₂, append-nil, append_assoc, arith, true≢false}
+use Rattle.std.proofs.Common.{◌≡◌, ℕ, zero, suc, ◌+◌, ◌<◌, ◌≤◌, Bool, true, false, ◌&&◌, ◌||◌, not, eqb, List, [], ◌∷◌, ◌++◌, length, map, filter, get_or, take, drop, drop-cons, drop_of_length-le, reverse, refl, sym, ◌∙◌, ap, ap₂, append-nil, append_assoc, arith, true≢false, subst}
 use Rattle.std.specs.Prelude.{if◌then◌else◌, string_bytes}
 use Rattle.std.specs.List.{list_all, list_any}
 use Rattle.std.proofs.lemmas.Bool.{and_from, and_parts, eqb-true, both_ways, not_from_false}
@@ -148,6 +148,9 @@ module _ {X : Type 0} (f : X → model.Replacement) (vs : List ℕ) (forms : Lis
 pub written_more : (table : Table) (old : List Written) (w : Written) → AllWritten table old → IsWritten table w → AllWritten table (old ++ w ∷ [])
 written_more table [] w h k = (k, tt)
 written_more table (v ∷ old) w (h, hs) k = (h, written_more table old w hs k)
+
+pub written_put : (table : Table) (old : List Written) (w : Written) (new : List Written) → new ≡ old ++ w ∷ [] → IsWritten table w → AllWritten table old → AllWritten table new
+written_put table old w new put k h = subst (AllWritten table) (sym put) (written_more table old w h k)
 
 -- a term in names
 pub term_named : (vs : List ℕ) (t : Tm) (letters : List Letter) (shapes : List Shape) → letters ≡ letters_of.spelling t → shapes ≡ map (shape_in vs) letters → shapes ≡ spelling (in_names vs t)
