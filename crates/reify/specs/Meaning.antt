@@ -3,10 +3,10 @@ use Rattle.std.specs.Prelude.{ℕ, List, map}
 use Rattle.std.specs.Borrow.{Bor}
 use Rattle.kan_model.specs.Answers.Answer as model
 use Rattle.reify.specs.Shapes.{tree_of, named_pair}
-use Rattle.reify.specs.declared.answers.Kept.{Kept}
+use Rattle.reify.specs.declared.answers.Absence.{Absence}
 use Rattle.reify.specs.declared.answers.Answer.{Answer}
 
-abbrev pub absence : Kept → model.Absence
+abbrev pub absence : Absence → model.Absence
 absence kept = record { tag = kept.tag; names = kept.names.items }
 
 abbrev pub lent_absence : ℕ × Bor (List ℕ) → model.Absence

@@ -18,7 +18,9 @@ use std::alloc::Global;
 
 /// The answer of a store: the value of variable 0, and what is left of the constraints.
 pub fn answer_of<St: Store>(alloc: Global, store: &St, names: &Names) -> Result<Answer, Memory>
-    requires named { list_all (λ tag. nat_lt tag (length names.now.symbols)) (tags_of (St.meaning store.now).prims) ≡ true }
+    requires named { list_all
+        (λ tag. nat_lt tag (length names.now.symbols)) (tags_of (St.meaning store.now).prims)
+        ≡ true }
     ensures { IfOk result (λ answer. meaning answer ≡ answer_of names.now (St.meaning store.now)) }
 {
     let letters = spell_in(alloc, store, &Term::Var(0))?;

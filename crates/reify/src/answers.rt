@@ -8,7 +8,7 @@ use crate::shaping::{NamePairs, Shape, Shapes};
 
 /// A tag with the names in which it must not stand.
 #[derive(Drop)]
-pub(crate) struct Kept {
+pub(crate) struct Absence {
     pub(crate) tag: u32,
     pub(crate) names: Vec<u32>,
 }
@@ -21,7 +21,7 @@ pub struct Answer {
     pub(crate) numbers: Vec<u32>,
     pub(crate) symbols: Vec<u32>,
     pub(crate) strings: Vec<u32>,
-    pub(crate) absences: Vec<Kept>,
+    pub(crate) absences: Vec<Absence>,
     ghost one: { IsTrue (spells 1 term) },
     ghost whole: { IsTrue (list_all all_whole disequalities.items) },
 }
@@ -42,7 +42,8 @@ impl Answer {
 
     /// The disequality at an index, in printed order. It takes no memory.
     pub fn disequality(&self, at: usize) -> Option<&NamePairs>
-        ensures { option_map (λ pairs. map named_pair pairs.now) result ≡ slice_get (meaning self.now).disequalities at }
+        ensures { option_map (λ pairs. map named_pair pairs.now) result
+            ≡ slice_get (meaning self.now).disequalities at }
     {
         self.disequalities.get(at)
     }
@@ -68,7 +69,8 @@ impl Answer {
         &self.strings
     }
 
-    /// The tag at an index with the names in which it must not stand, in printed order. It takes no memory.
+    /// The tag at an index with the names in which it must not stand, in printed order. It takes no
+    /// memory.
     pub fn absence(&self, at: usize) -> Option<(u32, &[u32])>
         ensures { option_map lent_absence result ≡ slice_get (meaning self.now).absences at }
     {

@@ -13,7 +13,8 @@ use std::alloc::Global;
 
 // Whether a form makes a variable and what replaces it identical.
 fn makes_equal(alloc: Global, form: &[Replaced], pair: &Replaced) -> Result<bool, Memory>
-    ensures { IfOk result (λ equal. equal ≡ made_equal (map replaced_by form.now) (replaced_by pair.now)) }
+    ensures { IfOk result (λ equal. equal
+        ≡ made_equal (map replaced_by form.now) (replaced_by pair.now)) }
 {
     let left = apply(alloc, form, &Term::Var(pair.var))?;
     let right = apply(alloc, form, &pair.by)?;
@@ -23,7 +24,8 @@ fn makes_equal(alloc: Global, form: &[Replaced], pair: &Replaced) -> Result<bool
 
 // Whether a disequality implies another one, by their forms.
 fn implies(alloc: Global, form: &[Replaced], other: &[Replaced]) -> Result<bool, Memory>
-    ensures { IfOk result (λ implied. implied ≡ implies (map replaced_by form.now) (map replaced_by other.now)) }
+    ensures { IfOk result (λ implied. implied
+        ≡ implies (map replaced_by form.now) (map replaced_by other.now)) }
 {
     for pair in form {
         let equal = makes_equal(alloc, other, pair)?;
@@ -36,7 +38,8 @@ fn implies(alloc: Global, form: &[Replaced], other: &[Replaced]) -> Result<bool,
 
 // Whether a disequality implies another one and isn't implied by it.
 fn is_stronger(alloc: Global, other: &[Replaced], form: &[Replaced]) -> Result<bool, Memory>
-    ensures { IfOk result (λ stronger. stronger ≡ is_stronger (map replaced_by form.now) (map replaced_by other.now)) }
+    ensures { IfOk result (λ stronger. stronger
+        ≡ is_stronger (map replaced_by form.now) (map replaced_by other.now)) }
 {
     let implied = implies(alloc, other, form)?;
     let back = implies(alloc, form, other)?;
@@ -45,7 +48,8 @@ fn is_stronger(alloc: Global, other: &[Replaced], form: &[Replaced]) -> Result<b
 
 // Whether one of the forms is stronger than a form.
 fn is_weaker(alloc: Global, forms: &[Vec<Replaced>], form: &[Replaced]) -> Result<bool, Memory>
-    ensures { IfOk result (λ weaker. weaker ≡ is_weaker (map form_of forms.now) (map replaced_by form.now)) }
+    ensures { IfOk result (λ weaker. weaker
+        ≡ is_weaker (map form_of forms.now) (map replaced_by form.now)) }
 {
     for other in forms {
         let stronger = is_stronger(alloc, other, form)?;
@@ -66,7 +70,8 @@ fn is_same_pair(alloc: Global, one: &Replaced, other: &Replaced) -> Result<bool,
 
 // Whether two forms are the same.
 fn is_same_form(alloc: Global, one: &[Replaced], other: &[Replaced]) -> Result<bool, Memory>
-    ensures { IfOk result (λ same. same ≡ same_form (map replaced_by one.now) (map replaced_by other.now)) }
+    ensures { IfOk result (λ same. same
+        ≡ same_form (map replaced_by one.now) (map replaced_by other.now)) }
 {
     if one.len() != other.len() {
         return Ok(false);
@@ -101,7 +106,8 @@ pub(crate) fn is_chosen(
     form: &[Replaced],
 ) -> Result<bool, Memory>
     requires { at < length forms.now }
-    ensures { IfOk result (λ chosen. chosen ≡ (not (is_weaker (map form_of forms.now) (map replaced_by form.now))
+    ensures { IfOk result (λ chosen. chosen
+        ≡ (not (is_weaker (map form_of forms.now) (map replaced_by form.now))
         && is_new (map form_of (take at forms.now)) (map replaced_by form.now))) }
 {
     let weaker = is_weaker(alloc, forms, form)?;

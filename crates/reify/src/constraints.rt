@@ -3,12 +3,14 @@
 ghost use Rattle.std.specs.Prelude.{◌≡◌, ◌++◌, ◌&&◌, true, map, OnOk, IfOk, codes, string_bytes};
 ghost use Rattle.std.specs.List.{flat_map, list_all};
 ghost use Rattle.kan_model.specs.Answers.Text.{name_text, with_spaces};
-ghost use Rattle.kan_model.specs.Answers.AnswerText.{absence_text, answer_text, constraint_texts, difference_text, names_texts, pair_text, where_text};
+ghost use Rattle.kan_model.specs.Answers.AnswerText.{absence_text, answer_text, constraint_texts};
+ghost use Rattle.kan_model.specs.Answers.AnswerText.{difference_text, names_texts, pair_text};
+ghost use Rattle.kan_model.specs.Answers.AnswerText.{where_text};
 ghost use Rattle.reify.specs.Shapes.{named_pair, spells, all_whole};
 ghost use Rattle.reify.specs.Meaning.{absence, meaning};
 ghost use Rattle.reify.specs.Constraints.{spaced, gap, is_nothing};
 
-use crate::answers::{Answer, Kept};
+use crate::answers::{Absence, Answer};
 use crate::printing::{print_name, print_shapes, print_symbol};
 use crate::shaping::{NamePair, NamePairs};
 use kan_terms::{Memory, Names};
@@ -26,7 +28,8 @@ fn separate(others: usize, text: &mut String) -> Result<(), Memory>
 
 // Names with a space between each two.
 fn print_names(listed: &[u32], text: &mut String) -> Result<(), Memory>
-    ensures { OnOk result (string_bytes text.new ≡ string_bytes text.old ++ with_spaces (map name_text listed.now)) }
+    ensures { OnOk result (string_bytes text.new
+        ≡ string_bytes text.old ++ with_spaces (map name_text listed.now)) }
 {
     for (at, name) in listed.iter().enumerate() {
         separate(at, text)?;
@@ -43,7 +46,8 @@ fn print_pair(
     text: &mut String,
 ) -> Result<(), Memory>
     requires { spells 1 pair.now.term ≡ true }
-    ensures { OnOk result (string_bytes text.new ≡ string_bytes text.old ++ pair_text names.now (named_pair pair.now)) }
+    ensures { OnOk result (string_bytes text.new
+        ≡ string_bytes text.old ++ pair_text names.now (named_pair pair.now)) }
 {
     text.push('(')?;
     print_name(pair.name, text)?;
@@ -61,7 +65,9 @@ fn print_pairs(
     text: &mut String,
 ) -> Result<(), Memory>
     requires { all_whole pairs.now ≡ true }
-    ensures { OnOk result (string_bytes text.new ≡ string_bytes text.old ++ with_spaces (map (pair_text names.now) (map named_pair pairs.now))) }
+    ensures { OnOk result (string_bytes text.new
+        ≡ string_bytes text.old
+        ++ with_spaces (map (pair_text names.now) (map named_pair pairs.now))) }
 {
     for (at, pair) in pairs.iter().enumerate() {
         separate(at, text)?;
@@ -78,7 +84,8 @@ pub(crate) fn print_difference(
     text: &mut String,
 ) -> Result<(), Memory>
     requires { all_whole pairs.now ≡ true }
-    ensures { OnOk result (string_bytes text.new ≡ string_bytes text.old ++ difference_text names.now (map named_pair pairs.now)) }
+    ensures { OnOk result (string_bytes text.new
+        ≡ string_bytes text.old ++ difference_text names.now (map named_pair pairs.now)) }
 {
     text.push_str("(=/= (")?;
     print_pairs(alloc, pairs.items(), names, text)?;
@@ -95,7 +102,9 @@ fn print_differences(
 ) -> Result<(), Memory>
     requires { list_all all_whole disequalities.now ≡ true }
     ensures { OnOk result (string_bytes text.new
-        ≡ string_bytes text.old ++ flat_map spaced (map (difference_text names.now) (map (map named_pair) disequalities.now))) }
+        ≡ string_bytes text.old
+        ++ flat_map spaced (map (difference_text names.now) (map (map named_pair)
+        disequalities.now))) }
 {
     for pairs in disequalities {
         text.push(' ')?;
@@ -106,7 +115,8 @@ fn print_differences(
 
 // A word with the names of which it is said, behind a space, and nothing where there are none.
 fn print_list(word: &str, listed: &[u32], text: &mut String) -> Result<(), Memory>
-    ensures { OnOk result (string_bytes text.new ≡ string_bytes text.old ++ flat_map spaced (names_texts word.now listed.now)) }
+    ensures { OnOk result (string_bytes text.new
+        ≡ string_bytes text.old ++ flat_map spaced (names_texts word.now listed.now)) }
 {
     if listed.is_empty() {
         return Ok(());
@@ -120,8 +130,9 @@ fn print_list(word: &str, listed: &[u32], text: &mut String) -> Result<(), Memor
 }
 
 // A tag with the names in which it must not stand.
-fn print_absence(kept: &Kept, names: &Names, text: &mut String) -> Result<(), Memory>
-    ensures { OnOk result (string_bytes text.new ≡ string_bytes text.old ++ absence_text names.now (absence kept.now)) }
+fn print_absence(kept: &Absence, names: &Names, text: &mut String) -> Result<(), Memory>
+    ensures { OnOk result (string_bytes text.new
+        ≡ string_bytes text.old ++ absence_text names.now (absence kept.now)) }
 {
     text.push_str("(absent ")?;
     print_symbol(kept.tag, names, text)?;
@@ -132,9 +143,10 @@ fn print_absence(kept: &Kept, names: &Names, text: &mut String) -> Result<(), Me
 }
 
 // Absences, each behind a space.
-fn print_absences(absences: &[Kept], names: &Names, text: &mut String) -> Result<(), Memory>
+fn print_absences(absences: &[Absence], names: &Names, text: &mut String) -> Result<(), Memory>
     ensures { OnOk result (string_bytes text.new
-        ≡ string_bytes text.old ++ flat_map spaced (map (absence_text names.now) (map absence absences.now))) }
+        ≡ string_bytes text.old
+        ++ flat_map spaced (map (absence_text names.now) (map absence absences.now))) }
 {
     for kept in absences {
         text.push(' ')?;
@@ -151,7 +163,8 @@ fn print_constraints(
     text: &mut String,
 ) -> Result<(), Memory>
     ensures { OnOk result (string_bytes text.new
-        ≡ string_bytes text.old ++ flat_map spaced (constraint_texts names.now (meaning answer.now))) }
+        ≡ string_bytes text.old
+        ++ flat_map spaced (constraint_texts names.now (meaning answer.now))) }
 {
     print_differences(alloc, &answer.disequalities, names, text)?;
     print_list("num", &answer.numbers, text)?;
@@ -169,8 +182,10 @@ fn is_nothing<T>(items: &[T]) -> bool
 
 // Whether no constraint remains.
 fn is_free(answer: &Answer) -> bool
-    ensures { result ≡ (is_nothing answer.now.disequalities.items && is_nothing answer.now.numbers.items
-        && is_nothing answer.now.symbols.items && is_nothing answer.now.strings.items && is_nothing answer.now.absences.items) }
+    ensures { result
+        ≡ (is_nothing answer.now.disequalities.items && is_nothing answer.now.numbers.items
+        && is_nothing answer.now.symbols.items && is_nothing answer.now.strings.items
+        && is_nothing answer.now.absences.items) }
 {
     is_nothing(&answer.disequalities)
         & is_nothing(&answer.numbers)
@@ -197,7 +212,8 @@ fn print_where(
     Ok(())
 }
 
-/// The text of an answer, without a line's end. A symbol without a name prints as nothing, and so does a string without
+/// The text of an answer, without a line's end. A symbol without a name prints as nothing, and so
+/// does a string without
 /// a text.
 pub fn print_answer(alloc: Global, answer: &Answer, names: &Names) -> Result<Vec<u8>, Memory>
     ensures { IfOk result (λ bytes. bytes.items ≡ answer_text names.now (meaning answer.now)) }

@@ -6,7 +6,8 @@ ghost use Rattle.kan_terms.specs.Terms.{tree};
 ghost use Rattle.kan_model.specs.Stores.Kept.{is_variable};
 ghost use Rattle.kan_model.specs.Stores.Calls.{IsFree};
 ghost use Rattle.kan_solving.specs.Solving.{replaced_by};
-ghost use Rattle.reify.specs.Fitting.{IsOver, agrees_at, fits, fits_at, is_symbol_letter, kind_allows, kinds_agree, tags_fit, types_fit};
+ghost use Rattle.reify.specs.Fitting.{IsOver, agrees_at, fits, fits_at, is_symbol_letter};
+ghost use Rattle.reify.specs.Fitting.{kind_allows, kinds_agree, tags_fit, types_fit};
 
 use crate::typing::is_kind;
 use kan_model::{Kind, Letter, Store, spell};
@@ -67,7 +68,8 @@ fn agrees<St: Store>(store: &St, kind: Option<Kind>, var: u64, other: &Replaced)
 // The same of all replaced variables.
 fn agrees_all<St: Store>(store: &St, kind: Option<Kind>, var: u64, form: &[Replaced]) -> bool
     requires { All (IsOver (St.meaning store.now)) form.now }
-    ensures { result ≡ list_all (agrees_at (St.meaning store.now) kind var) (map replaced_by form.now) }
+    ensures { result
+        ≡ list_all (agrees_at (St.meaning store.now) kind var) (map replaced_by form.now) }
 {
     for other in form {
         if !agrees(store, kind, var, other) {
@@ -81,7 +83,8 @@ fn agrees_all<St: Store>(store: &St, kind: Option<Kind>, var: u64, form: &[Repla
 fn types_fit<St: Store>(store: &St, form: &[Replaced], at: &Replaced) -> bool
     requires over { All (IsOver (St.meaning store.now)) form.now }
     requires here { IsOver (St.meaning store.now) at.now }
-    ensures { result ≡ types_fit (St.meaning store.now) (map replaced_by form.now) (replaced_by at.now) }
+    ensures { result
+        ≡ types_fit (St.meaning store.now) (map replaced_by form.now) (replaced_by at.now) }
 {
     let kind = store.kind(at.var);
     match &at.by {
@@ -109,7 +112,8 @@ fn stands(letters: &[Letter], tag: u32) -> bool
 
 // Whether no tag is among letters.
 fn none_stands(tags: &[u32], letters: &[Letter]) -> bool
-    ensures { result ≡ list_all (λ tag. not (list_any (is_symbol_letter tag) letters.now)) tags.now }
+    ensures { result
+        ≡ list_all (λ tag. not (list_any (is_symbol_letter tag) letters.now)) tags.now }
 {
     tags.iter().all(|tag| !stands(letters, *tag))
 }
@@ -134,7 +138,8 @@ fn fits_at<St: Store>(
 ) -> Result<bool, Memory>
     requires over { All (IsOver (St.meaning store.now)) form.now }
     requires here { IsOver (St.meaning store.now) at.now }
-    ensures { IfOk result (λ fit. fit ≡ fits_at (St.meaning store.now) (map replaced_by form.now) (replaced_by at.now)) }
+    ensures { IfOk result (λ fit. fit
+        ≡ fits_at (St.meaning store.now) (map replaced_by form.now) (replaced_by at.now)) }
 {
     let types = types_fit(store, form, at);
     let tags = tags_fit(alloc, store, at)?;

@@ -64,7 +64,8 @@ fn written<St: Store>(
     form: Vec<Replaced>,
 ) -> Result<Option<Vec<Replaced>>, Memory>
     requires { All (IsFree (St.meaning store.now)) naming.now }
-    ensures { IfOk result (λ made. option_map form_of made ≡ form_kept naming.now (St.meaning store.now) (form_of form)) }
+    ensures { IfOk result (λ made. option_map form_of made
+        ≡ form_kept naming.now (St.meaning store.now) (form_of form)) }
 {
     let named = is_form_named(alloc, naming, &form)?;
     if !named {
@@ -88,7 +89,8 @@ fn add_form<St: Store>(
 ) -> Result<(), Memory>
     requires { All (IsFree (St.meaning store.now)) naming.now }
     ensures { OnOk result (map form_of forms.new.items
-        ≡ map form_of forms.old.items ++ forms_meant naming.now (St.meaning store.now) (map equation pairs.now ∷ [])) }
+        ≡ map form_of forms.old.items
+        ++ forms_meant naming.now (St.meaning store.now) (map equation pairs.now ∷ [])) }
 {
     if let Some(form) = solved(alloc, store, naming, pairs)? {
         if let Some(made) = written(alloc, store, naming, form)? {
@@ -106,7 +108,8 @@ fn forms_in<St: Store>(
     lists: &[TermPairs],
 ) -> Result<Vec<Vec<Replaced>>, Memory>
     requires { All (IsFree (St.meaning store.now)) naming.now }
-    ensures { IfOk result (λ forms. map form_of forms.items ≡ forms_meant naming.now (St.meaning store.now) (map (map equation) lists.now)) }
+    ensures { IfOk result (λ forms. map form_of forms.items
+        ≡ forms_meant naming.now (St.meaning store.now) (map (map equation) lists.now)) }
 {
     let mut forms = Vec::new(alloc);
     for pairs in lists {
@@ -123,7 +126,8 @@ pub(crate) fn forms<St: Store>(
 ) -> Result<Vec<Vec<Replaced>>, Memory>
     requires { All (IsFree (St.meaning store.now)) naming.now }
     ensures { IfOk result (λ forms. map form_of forms.items
-        ≡ forms_of naming.now (St.meaning store.now) (answer (St.meaning store.now)) (St.meaning store.now).prims) }
+        ≡ forms_of naming.now (St.meaning store.now) (answer (St.meaning store.now))
+        (St.meaning store.now).prims) }
 {
     let lists = store.differences(alloc)?;
     let forms = forms_in(alloc, store, naming, lists.items())?;

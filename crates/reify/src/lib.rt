@@ -1,4 +1,5 @@
-//! Answers of stores: the query's term with its variables named, what is left of the constraints, and their text.
+//! Answers of stores: the query's term with its variables named, what is left of the constraints,
+//! and their text.
 #![tactic(auto)]
 
 mod absences;

@@ -2,7 +2,8 @@
 
 ghost use Rattle.std.specs.Prelude.{◌≡◌, ◌<◌, ◌^◌, [], length, map, eqb, IfOk};
 ghost use Rattle.kan_model.specs.Answers.Order.{each_once, place_of, stands_in};
-ghost use Rattle.reify.specs.Naming.{name_in, number_of, shape_in, variables_of, with_letter, with_variable};
+ghost use Rattle.reify.specs.Naming.{name_in, number_of, shape_in, variables_of, with_letter};
+ghost use Rattle.reify.specs.Naming.{with_variable};
 
 use crate::shaping::{Shape, Shapes};
 use kan_model::Letter;
@@ -31,7 +32,8 @@ impl Again for Name {
     }
 }
 
-/// The variables that have names, in the order of their names. There are fewer of them than the greatest number of a
+/// The variables that have names, in the order of their names. There are fewer of them than the
+/// greatest number of a
 /// name; more are taken for want of memory.
 #[derive(Drop)]
 pub(crate) struct Naming {
@@ -48,7 +50,8 @@ impl Model for Naming {
 
     ghost view = { λ naming. naming.variables.items };
 
-    ghost invariant = { λ naming. ((v : ℕ) → found number_of naming.names v ≡ name_in naming.variables.items v)
+    ghost invariant = { λ naming. ((v : ℕ) → found number_of naming.names v
+        ≡ name_in naming.variables.items v)
         × (length naming.variables.items < 2 ^ 32) };
 }
 

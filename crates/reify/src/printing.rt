@@ -39,7 +39,8 @@ fn print_number(number: i128, text: &mut String) -> Result<(), Memory>
 
 // The string that has a number.
 fn print_text(number: u32, names: &Names, text: &mut String) -> Result<(), Memory>
-    ensures { OnOk result (string_bytes text.new ≡ string_bytes text.old ++ string_text names.now number) }
+    ensures { OnOk result (string_bytes text.new
+        ≡ string_bytes text.old ++ string_text names.now number) }
 {
     print_string(text, names.string(number).unwrap_or(""))?;
     Ok(())
@@ -47,7 +48,8 @@ fn print_text(number: u32, names: &Names, text: &mut String) -> Result<(), Memor
 
 /// Adds the text of a symbol.
 pub(crate) fn print_symbol(number: u32, names: &Names, text: &mut String) -> Result<(), Memory>
-    ensures { OnOk result (string_bytes text.new ≡ string_bytes text.old ++ symbol_text names.now number) }
+    ensures { OnOk result (string_bytes text.new
+        ≡ string_bytes text.old ++ symbol_text names.now number) }
 {
     text.push_str(names.name(number).unwrap_or(""))?;
     Ok(())
@@ -55,7 +57,8 @@ pub(crate) fn print_symbol(number: u32, names: &Names, text: &mut String) -> Res
 
 // The text of a shape that is no pair.
 fn print_atom(shape: Shape, names: &Names, text: &mut String) -> Result<(), Memory>
-    ensures { OnOk result (string_bytes text.new ≡ string_bytes text.old ++ atom_text names.now shape) }
+    ensures { OnOk result (string_bytes text.new
+        ≡ string_bytes text.old ++ atom_text names.now shape) }
 {
     match shape {
         Shape::Pair => {}
@@ -72,7 +75,8 @@ fn print_atom(shape: Shape, names: &Names, text: &mut String) -> Result<(), Memo
 
 // The text of a shape as an element.
 fn print_element(shape: Shape, names: &Names, text: &mut String) -> Result<(), Memory>
-    ensures { OnOk result (string_bytes text.new ≡ string_bytes text.old ++ shape_text names.now Element shape) }
+    ensures { OnOk result (string_bytes text.new
+        ≡ string_bytes text.old ++ shape_text names.now Element shape) }
 {
     match shape {
         Shape::Pair => {
@@ -85,7 +89,8 @@ fn print_element(shape: Shape, names: &Names, text: &mut String) -> Result<(), M
 
 // The text of a shape behind an element: its list ends there, but for a pair.
 fn print_rest(shape: Shape, names: &Names, text: &mut String) -> Result<(), Memory>
-    ensures { OnOk result (string_bytes text.new ≡ string_bytes text.old ++ shape_text names.now Rest shape) }
+    ensures { OnOk result (string_bytes text.new
+        ≡ string_bytes text.old ++ shape_text names.now Rest shape) }
 {
     match shape {
         Shape::Pair => text.push(' ')?,
@@ -101,7 +106,8 @@ fn print_rest(shape: Shape, names: &Names, text: &mut String) -> Result<(), Memo
 
 // The text of a shape at a place.
 fn print_shape(shape: Shape, place: Place, names: &Names, text: &mut String) -> Result<(), Memory>
-    ensures { OnOk result (string_bytes text.new ≡ string_bytes text.old ++ shape_text names.now place shape) }
+    ensures { OnOk result (string_bytes text.new
+        ≡ string_bytes text.old ++ shape_text names.now place shape) }
 {
     match place {
         Place::Element => print_element(shape, names, text),
@@ -111,7 +117,8 @@ fn print_shape(shape: Shape, place: Place, names: &Names, text: &mut String) -> 
 
 // The places of what follows a shape, the next one at the end.
 fn follow(shape: Shape, places: &mut Vec<Place>) -> Result<(), Memory>
-    ensures { OnOk result (reverse places.new.items ≡ places_after shape (reverse places.old.items)) }
+    ensures { OnOk result (reverse places.new.items
+        ≡ places_after shape (reverse places.old.items)) }
 {
     if let Shape::Pair = shape {
         places.push(Place::Rest)?;
@@ -127,8 +134,10 @@ fn print_next(
     text: &mut String,
     places: &mut Vec<Place>,
 ) -> Result<(), Memory>
-    ensures { OnOk result ((more : List Shape) → string_bytes text.new ++ shapes_text names.now (reverse places.new.items) more
-        ≡ string_bytes text.old ++ shapes_text names.now (reverse places.old.items) (shape ∷ more)) }
+    ensures { OnOk result ((more : List Shape)
+        → string_bytes text.new ++ shapes_text names.now (reverse places.new.items) more
+        ≡ string_bytes text.old
+        ++ shapes_text names.now (reverse places.old.items) (shape ∷ more)) }
 {
     if let Some(place) = places.pop() {
         print_shape(shape, place, names, text)?;
@@ -144,7 +153,8 @@ pub(crate) fn print_shapes(
     names: &Names,
     text: &mut String,
 ) -> Result<(), Memory>
-    ensures { OnOk result (string_bytes text.new ≡ string_bytes text.old ++ shapes_text names.now (Element ∷ []) shapes.now) }
+    ensures { OnOk result (string_bytes text.new
+        ≡ string_bytes text.old ++ shapes_text names.now (Element ∷ []) shapes.now) }
 {
     let mut places = Vec::new(alloc);
     places.push(Place::Element)?;

@@ -26,7 +26,8 @@ pub(crate) fn is_kind(kind: Kind, found: Option<Kind>) -> bool
 // Whether a variable has a type.
 fn has<St: Store>(store: &St, kind: Kind, var: u64) -> bool
     requires { IsFree (St.meaning store.now) var }
-    ensures { result ≡ has_type kind (answer (St.meaning store.now)) (St.meaning store.now).prims var }
+    ensures { result
+        ≡ has_type kind (answer (St.meaning store.now)) (St.meaning store.now).prims var }
 {
     is_kind(kind, store.kind(var))
 }
@@ -51,7 +52,8 @@ pub(crate) fn names_of<St: Store>(
 ) -> Result<Vec<u32>, Memory>
     requires free { All (IsFree (St.meaning store.now)) naming.now }
     ensures { IfOk result (λ names. names.items
-        ≡ names_where (has_type kind (answer (St.meaning store.now)) (St.meaning store.now).prims) 0 naming.now) }
+        ≡ names_where (has_type kind (answer (St.meaning store.now)) (St.meaning store.now).prims) 0
+        naming.now) }
 {
     let mut names = Vec::new(alloc);
     for (at, var) in naming.variables().iter().enumerate() {

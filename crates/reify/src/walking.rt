@@ -14,7 +14,8 @@ use std::alloc::Global;
 // Puts the parts of a pair on a stack of waiting terms, the first part on top.
 fn wait_for_parts<'a>(term: &'a Term, waiting: &mut Vec<&'a Term>) -> Result<(), Memory>
     ensures { OnOk result ((s : Replacement) →
-        letter_of (tree term.now) ∷ waiting_under s waiting.new.items ≡ spelled_under s (tree term.now) ++ waiting_under s waiting.old.items) }
+        letter_of (tree term.now) ∷ waiting_under s waiting.new.items
+        ≡ spelled_under s (tree term.now) ++ waiting_under s waiting.old.items) }
 {
     if let Term::Pair(parts) = term {
         waiting.push(&parts.rest)?;
@@ -29,7 +30,8 @@ pub(crate) fn spell_in<St: Store>(
     store: &St,
     term: &Term,
 ) -> Result<Vec<Letter>, Memory>
-    ensures { IfOk result (λ letters. letters.items ≡ spelling (apply (answer (St.meaning store.now)) (tree term.now))) }
+    ensures { IfOk result (λ letters. letters.items
+        ≡ spelling (apply (answer (St.meaning store.now)) (tree term.now))) }
 {
     let mut letters = Vec::new(alloc);
     let mut waiting = Vec::new(alloc);
