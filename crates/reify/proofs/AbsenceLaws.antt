@@ -1,9 +1,9 @@
 -- The tags that were found are those of the answer's absences.
-use Rattle.std.proofs.Common.{◌≡◌, ◌≢◌, ◌↔◌, ℕ, zero, suc, ◌+◌, ◌<◌, ◌≤◌, Bool, true, false, ◌&&◌, ◌||◌, not, eqb, nat_lt, List, [], ◌∷◌, ◌++◌, length, map, filter, get_or, take, refl, sym, ◌∙◌, ap, ap₂, append-nil, append_assoc, arith, true≢false, inl, inr, Contains, unwrap_or, Option, subst}
+use Rattle.std.proofs.Common.{◌≡◌, ◌≢◌, ◌↔◌, ℕ, zero, suc, ◌+◌, ◌<◌, ◌≤◌, Bool, true, false, ◌&&◌, ◌||◌, not, eqb, nat_lt, List, [], ◌∷◌, ◌++◌, length, map, filter, get_or, take, refl, sym, ◌∙◌, ap, ap₂, append-nil, append_assoc, arith, true≢false, inl, inr, Contains, Option, subst}
 use Rattle.std.specs.Prelude.{if◌then◌else◌}
-use Rattle.std.specs.List.{list_all, list_any, concat, AllPairs}
+use Rattle.std.specs.List.{list_all, list_any, concat}
 use Rattle.std.specs.Cmp.{IsEquivalence}
-use Rattle.std.proofs.lemmas.Bool.{and_from, and_parts, or_cases, or_left, or_right, eqb-true, eq-eqb, eqb-false, ltb-true, lt-ltb, both_ways, cases_order, false_from_ne_true, not-true}
+use Rattle.std.proofs.lemmas.Bool.{and_parts, or_cases, or_left, or_right, eqb-true, eq-eqb, eqb-false, ltb-true, lt-ltb, cases_order, false_from_ne_true}
 use Rattle.std.proofs.lemmas.Option.{unwrap_or-slice_get}
 use Rattle.std.proofs.lemmas.List.{take_more, length-take-le}
 use Rattle.std.proofs.lemmas.List.Folds.{list_any-append, concat-append}
@@ -13,11 +13,11 @@ use Rattle.kan_terms.specs.Table.{Table, IsDistinct}
 use Rattle.kan_model.specs.Programs.Goals.{Primitive}
 use Rattle.kan_model.specs.Stores.Store.{Store}
 use Rattle.kan_model.specs.Stores.Solve.{Replacement, apply}
-use Rattle.kan_model.specs.Stores.Kept.{has_type, is_kept}
+use Rattle.kan_model.specs.Stores.Kept.{is_kept}
 use Rattle.kan_model.specs.Stores.Calls.{answer, kind_at, AreTags}
 use Rattle.kan_model.specs.declared.prims.Kind.{Kind}
-use Rattle.kan_model.specs.declared.prims.Kind.TheVariants.{Symbol, Number, Text}
-use Rattle.kan_model.specs.Answers.Order.{bytes_le, in_order, each_once, stands_in, put_in_order}
+use Rattle.kan_model.specs.declared.prims.Kind.TheVariants.{Number, Text}
+use Rattle.kan_model.specs.Answers.Order.{in_order, each_once, stands_in, put_in_order}
 use Rattle.kan_model.specs.Answers.Text.{symbol_text}
 use Rattle.kan_model.specs.Answers.InForm.{TextsDiffer}
 use Rattle.kan_model.specs.Answers.Answer.{Absence, keeps_out, has_absence, may_have_tag, tags_of, absence_of, has_names, tag_le, absences_of, names_where}

@@ -1,6 +1,6 @@
 -- The parts of the answer.
-use Rattle.std.proofs.Common.{◌≡◌, ℕ, List, map, eqb, ap, sym, ◌∙◌}
-use Rattle.kan_terms.specs.Tree.{Tree, Tm, leaves}
+use Rattle.std.proofs.Common.{◌≡◌, ℕ, List, map, eqb, ap, ◌∙◌}
+use Rattle.kan_terms.specs.Tree.{Tm}
 use Rattle.kan_terms.specs.Table.{Table}
 use Rattle.kan_model.specs.Stores.Store.{Store}
 use Rattle.kan_model.specs.Stores.Solve.{image}

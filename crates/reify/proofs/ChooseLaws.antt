@@ -1,20 +1,20 @@
 -- Forms that are chosen, and their texts.
-use Rattle.std.proofs.Common.{◌≡◌, ℕ, zero, suc, ◌+◌, ◌<◌, ◌≤◌, Bool, true, false, ◌&&◌, ◌||◌, not, eqb, List, [], ◌∷◌, ◌++◌, length, map, filter, get_or, take, drop, drop-cons, drop_of_length-le, reverse, refl, sym, ◌∙◌, ap, ap₂, append-nil, append_assoc, arith, true≢false, subst}
-use Rattle.std.specs.Prelude.{if◌then◌else◌, string_bytes}
+use Rattle.std.proofs.Common.{◌≡◌, ℕ, suc, ◌+◌, ◌<◌, ◌≤◌, Bool, true, false, ◌&&◌, ◌||◌, not, eqb, List, [], ◌∷◌, ◌++◌, length, map, filter, get_or, take, drop, drop-cons, drop_of_length-le, reverse, refl, sym, ◌∙◌, ap, ap₂, append-nil, append_assoc, arith, true≢false, subst}
+use Rattle.std.specs.Prelude.{if◌then◌else◌}
 use Rattle.std.specs.List.{list_all, list_any}
-use Rattle.std.proofs.lemmas.Bool.{and_from, and_parts, eqb-true, both_ways, not_from_false}
+use Rattle.std.proofs.lemmas.Bool.{and_from, and_parts, eqb-true}
 use Rattle.std.proofs.lemmas.List.{map-append, take_more, reverse-append, length-map}
 use Rattle.std.proofs.lemmas.List.Elements.{filter-append}
-use Rattle.std.proofs.lemmas.List.Folds.{list_any-append, list_all-append}
+use Rattle.std.proofs.lemmas.List.Folds.{list_all-append}
 use Rattle.kan_terms.proofs.TreeLaws.{term_eq-true}
-use Rattle.kan_terms.specs.Tree.{Tree, Tm, term_eq}
+use Rattle.kan_terms.specs.Tree.{Tm, term_eq}
 use Rattle.kan_terms.specs.Table.{Table}
 use Rattle.kan_model.specs.Terms.Letters as letters_of
 use Rattle.kan_model.specs.declared.letters.Letter.{Letter}
 use Rattle.kan_model.specs.Stores.Solve as model
 use Rattle.kan_model.specs.Answers.Order.{bytes_le, each_once, in_order, put_in_order}
-use Rattle.kan_model.specs.Answers.Answer.{NamedPair, same_pair, same_form, is_weaker, strongest, form_in_names, in_names}
-use Rattle.kan_model.specs.Answers.AnswerText.{difference_text, difference_le}
+use Rattle.kan_model.specs.Answers.Answer.{same_pair, same_form, is_weaker, form_in_names, in_names}
+use Rattle.kan_model.specs.Answers.AnswerText.{difference_le}
 use Rattle.kan_model.proofs.ListLaws.{Each, Each-in_order}
 use Rattle.kan_solving.specs.Solving.{replaced_by}
 use Rattle.kan_solving.specs.declared.solving.Replaced.{Replaced}
@@ -24,7 +24,7 @@ use Rattle.reify.specs.declared.writing.Written.{Written}
 use Rattle.reify.specs.Shapes.{spelling, tree_of, spells, all_whole, named_pair}
 use Rattle.reify.specs.Naming.{shape_in}
 use Rattle.reify.specs.Choosing.{is_new}
-use Rattle.reify.specs.Writing.{pair_in_names, pairs_of, IsWritten, AllWritten, pairs_alone_of, texts_in_order, only}
+use Rattle.reify.specs.Writing.{pairs_of, IsWritten, AllWritten, pairs_alone_of, texts_in_order, only}
 use Rattle.reify.proofs.ShapeLaws.{tree_of-spelling, one_spelled}
 use Rattle.reify.proofs.NamingLaws.{shape_spelling}
 

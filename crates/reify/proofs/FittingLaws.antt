@@ -1,5 +1,5 @@
 -- A form fits exactly where the rest of the store holds under the store's answer and the form.
-use Rattle.std.proofs.Common.{◌≡◌, ℕ, Bool, true, false, ◌&&◌, ◌||◌, not, eqb, List, [], ◌∷◌, map, filter, Option, Some, None, refl, sym, ◌∙◌, ap, ap₂, subst, true≢false, inl, inr}
+use Rattle.std.proofs.Common.{◌≡◌, ℕ, Bool, true, false, ◌&&◌, ◌||◌, not, eqb, List, [], ◌∷◌, filter, Option, Some, None, refl, sym, ◌∙◌, ap, ap₂, subst, true≢false, inl, inr}
 use Rattle.std.specs.Prelude.{if◌then◌else◌}
 use Rattle.std.specs.List.{list_all, list_any}
 use Rattle.std.proofs.lemmas.Bool.{and_from, and_parts, or_cases, or_left, or_right, or_parts, or_from, eqb-true, eq-eqb, both_ways, false_from_ne_true, not-true, not_from_false}
@@ -16,7 +16,7 @@ use Rattle.std.proofs.lemmas.List.Folds.{list_any-append}
 use Rattle.kan_model.specs.declared.prims.Kind.{Kind}
 use Rattle.kan_model.specs.declared.prims.Kind.TheVariants.{Symbol, Number, Text}
 use Rattle.kan_model.specs.Answers.Answer.{keeps_out, has_absence, tags_of, is_no_difference}
-use Rattle.kan_model.proofs.ListLaws.{Each, EachTwo, Each-like, Each-both, Each-filter, filter_passed, Each-from_list_all, list_all-from_Each}
+use Rattle.kan_model.proofs.ListLaws.{Each, Each-like, Each-both, Each-filter, filter_passed, Each-from_list_all, list_all-from_Each}
 use Rattle.kan_model.proofs.Solving.CompositionLaws.{compose_is_both}
 use Rattle.kan_model.proofs.Solving.ReplacedLaws.{applied_twice}
 use Rattle.kan_model.proofs.Solving.SolveLaws.{solve_by-Solves}

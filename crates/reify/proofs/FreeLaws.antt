@@ -1,10 +1,10 @@
 -- What a solved answer leaves stands for itself.
-use Rattle.std.proofs.Common.{◌≡◌, ℕ, Bool, true, false, eqb, List, [], ◌∷◌, ◌++◌, Some, sym, refl, ◌∙◌, ap}
+use Rattle.std.proofs.Common.{◌≡◌, ℕ, true, eqb, List, [], ◌∷◌, ◌++◌}
 use Rattle.std.specs.List.{All}
 use Rattle.std.proofs.lemmas.List.Elements.{All-cons, All-nil}
 use Rattle.kan_terms.specs.Tree.{Tree, Tm, fill, leaves}
 use Rattle.kan_model.specs.Stores.Store.{Store, equations}
-use Rattle.kan_model.specs.Stores.Solve.{image, apply, solve_store, left_first}
+use Rattle.kan_model.specs.Stores.Solve.{image, left_first}
 use Rattle.kan_model.specs.Stores.Kept.{is_kept}
 use Rattle.kan_model.specs.Stores.Calls.{answer, IsFree}
 use Rattle.kan_model.specs.Answers.Answer.{named_variables}

@@ -1,9 +1,9 @@
 -- The forms of the pairs that a store tells are those of its disequalities.
-use Rattle.std.proofs.Common.{◌≡◌, ℕ, zero, suc, ◌+◌, ◌<◌, ◌≤◌, Bool, true, false, ◌&&◌, not, eqb, List, [], ◌∷◌, ◌++◌, length, map, filter, get_or, take, drop, drop-cons, drop_of_length-le, reverse, Option, Some, None, is_some, option_map, refl, sym, ◌∙◌, ap, ap₂, subst, true≢false, arith, Contains, append_assoc}
+use Rattle.std.proofs.Common.{◌≡◌, ℕ, suc, ◌+◌, ◌<◌, ◌≤◌, Bool, true, false, ◌&&◌, List, [], ◌∷◌, ◌++◌, length, map, filter, get_or, take, drop, drop-cons, drop_of_length-le, reverse, Option, Some, None, is_some, option_map, refl, sym, ◌∙◌, ap, ap₂, subst, true≢false, arith, append_assoc}
 use Rattle.std.specs.Prelude.{if◌then◌else◌}
-use Rattle.std.specs.List.{list_all, list_any, All}
+use Rattle.std.specs.List.{list_all, All}
 use Rattle.std.specs.Option.{option_to_list}
-use Rattle.std.proofs.lemmas.Bool.{and_from, and_parts, eqb-true}
+use Rattle.std.proofs.lemmas.Bool.{and_parts, eqb-true}
 use Rattle.std.proofs.lemmas.List.{map-append, take_more, reverse-reverse}
 use Rattle.std.proofs.lemmas.List.Folds.{list_all-append}
 use Rattle.std.proofs.lemmas.List.Elements.{All-cons, All-nil}
@@ -15,23 +15,21 @@ use Rattle.kan_model.specs.Programs.Goals.{Primitive}
 use Rattle.kan_model.specs.Stores.Store.{Store, Equation}
 use Rattle.kan_model.specs.Stores.Solve as model
 use Rattle.kan_model.specs.Stores.Composition.{apply_sides, compose}
-use Rattle.kan_model.specs.Stores.Kept.{holds_under, holds_with, is_kept}
+use Rattle.kan_model.specs.Stores.Kept.{holds_with, is_kept}
 use Rattle.kan_model.specs.Stores.Prims.{equation}
-use Rattle.kan_model.specs.Stores.Calls.{answer, differences, can_unify, SaysTheSame, AreDifferences, IsFree}
+use Rattle.kan_model.specs.Stores.Calls.{answer, differences, SaysTheSame, AreDifferences, IsFree}
 use Rattle.kan_model.specs.Terms.Letters as letters_of
-use Rattle.kan_model.specs.declared.letters.Letter.{Letter}
 use Rattle.kan_model.specs.Answers.Order.{stands_in}
 use Rattle.kan_model.specs.Answers.Answer.{ranks_lower, solved_form, in_rank, all_named, can_be_equal, is_no_difference, if_written, and_form, forms_of}
 use Rattle.kan_solving.specs.Solving.{replaced_by, on_stack}
 use Rattle.kan_solving.specs.declared.solving.Replaced.{Replaced}
 use Rattle.kan_solving.proofs.SolvingSteps.{map-reverse}
-use Rattle.store_laws.specs.General.{IsGeneral}
 use Rattle.store_laws.proofs.General.{answer_is_general}
 use Rattle.store_laws.proofs.OneForm.{also_answered}
 use Rattle.store_laws.proofs.InRank.{difference_in_rank, named_in_rank}
 use Rattle.store_laws.proofs.CanBeEqual.{pairs_can_be_equal}
 use Rattle.reify.specs.Fitting.{IsFreeLeaf, IsOver, fits}
-use Rattle.reify.specs.Keeping.{form_kept, answer_kept, forms_meant, form_of, letter_named, is_named}
+use Rattle.reify.specs.Keeping.{answer_kept, forms_meant, letter_named, is_named}
 use Rattle.reify.proofs.KindLaws.{answer_holds}
 use Rattle.reify.proofs.FittingLaws.{fits_is}
 

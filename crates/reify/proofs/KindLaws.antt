@@ -1,12 +1,12 @@
 -- A variable of a kept store has one type at most, and the variables of its answer stand for themselves.
-use Rattle.std.proofs.Common.{◌≡◌, ℕ, Bool, true, false, ◌&&◌, not, eqb, List, [], ◌∷◌, Option, Some, None, sym, subst, refl, ◌∙◌, ap, inl, inr, unwrap_or}
+use Rattle.std.proofs.Common.{◌≡◌, ℕ, Bool, true, false, List, [], ◌∷◌, Option, Some, None, sym, subst, refl, ◌∙◌, ap, inl, inr, unwrap_or}
 use Rattle.std.specs.Prelude.{if◌then◌else◌}
 use Rattle.std.specs.List.{list_all, list_any}
-use Rattle.std.proofs.lemmas.Bool.{and_parts, or_cases, eqb-true, both_ways, false_from_ne_true, not-true, true≢false}
+use Rattle.std.proofs.lemmas.Bool.{and_parts, or_cases, eqb-true, both_ways, not-true, true≢false}
 use Rattle.kan_terms.specs.Tree.{Tree, Tm}
 use Rattle.kan_model.specs.Programs.Goals.{Primitive}
 use Rattle.kan_model.specs.Stores.Store.{Store}
-use Rattle.kan_model.specs.Stores.Solve.{Replacement, image, apply, solve_store}
+use Rattle.kan_model.specs.Stores.Solve.{Replacement, apply, solve_store}
 use Rattle.kan_model.specs.Stores.Kept.{allows, is_variable, gives_type, has_type, lacks_type, gives_one_type, holds_under, holds_with, is_kept}
 use Rattle.kan_model.specs.Stores.Calls.{answer, kind_at}
 use Rattle.reify.specs.Typing.{kind_test}

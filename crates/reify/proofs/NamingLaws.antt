@@ -1,15 +1,14 @@
 -- Names of variables, and the shapes of letters.
-use Rattle.std.proofs.Common.{◌≡◌, ℕ, suc, ◌+◌, ◌<◌, ◌≤◌, Bool, true, false, eqb, List, [], ◌∷◌, ◌++◌, length, map, filter, get_or, take, refl, sym, ◌∙◌, ap, ap₂, append-nil, arith, not, eqb-true, eq-eqb, ne_eqb, true≢false, Option, Some, None, option_map, subst}
+use Rattle.std.proofs.Common.{◌≡◌, ℕ, suc, ◌+◌, ◌<◌, Bool, true, false, eqb, List, [], ◌∷◌, ◌++◌, length, map, filter, get_or, take, refl, sym, ◌∙◌, ap, ap₂, append-nil, arith, not, eqb-true, eq-eqb, ne_eqb, true≢false, Option, Some, None, option_map, subst}
 use Rattle.std.specs.Prelude.{◌||◌, if◌then◌else◌}
 use Rattle.std.proofs.lemmas.List.Elements.{filter-append}
 use Rattle.std.proofs.lemmas.List.{map-append, take_more, length-take-le}
 use Rattle.kan_terms.specs.Tree.{Tree, Tm, leaves}
 use Rattle.kan_model.specs.Answers.Order.{each_once, place_of, stands_in}
-use Rattle.kan_model.specs.Answers.Answer.{in_names, named_variables, names_where}
+use Rattle.kan_model.specs.Answers.Answer.{in_names, names_where}
 use Rattle.kan_model.specs.Terms.Letters as letters_of
 use Rattle.kan_model.specs.declared.letters.Letter.{Letter}
 use Rattle.kan_model.specs.declared.letters.Letter.TheVariants.{Pair, Var, Sym, Str, Num, Truth, Nil}
-use Rattle.reify.specs.declared.shaping.Shape.{Shape}
 use Rattle.reify.specs.declared.shaping.Shape.TheVariants as shapes
 use Rattle.reify.specs.Shapes.{spelling}
 use Rattle.reify.specs.Typing.{here}

@@ -1,5 +1,5 @@
 -- Whether the equation of a solved form fits a store's types and absences.
-use Rattle.std.specs.Prelude.{ℕ, Bool, true, false, ◌&&◌, not, eqb, List, Option, Some, None, if◌then◌else◌}
+use Rattle.std.specs.Prelude.{ℕ, Bool, true, false, ◌&&◌, not, eqb, Option, Some, None, if◌then◌else◌}
 use Rattle.std.specs.List.{list_all}
 use Rattle.kan_terms.specs.Tree.{Tree, Tm, has_symbol}
 use Rattle.kan_terms.specs.Terms.{tree}

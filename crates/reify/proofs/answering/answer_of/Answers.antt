@@ -1,10 +1,8 @@
-use Rattle.std.proofs.Common.{◌≡◌, ap, ◌∙◌, map}
-use Rattle.std.specs.List.{All}
+use Rattle.std.proofs.Common.{ap, ◌∙◌, map}
 use Rattle.kan_model.specs.Stores.Solve.{image}
 use Rattle.kan_model.specs.Stores.Calls.{answer}
-use Rattle.kan_model.specs.Answers.Answer.{named_variables, in_names}
 use Rattle.reify.specs.Naming.{shape_in}
-use Rattle.reify.specs.Shapes.{named_pair, spelling, tree_of}
+use Rattle.reify.specs.Shapes.{named_pair, tree_of}
 use Rattle.reify.specs.Meaning.{absence}
 use Rattle.reify.proofs.FreeLaws.{all_named_free}
 use Rattle.reify.proofs.ChooseLaws.{term_named, term_is, term_whole}

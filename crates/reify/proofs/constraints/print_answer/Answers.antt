@@ -1,4 +1,4 @@
-use Rattle.std.proofs.Common.{string_bytes, rules, ◌∙◌, ◌≡◌}
+use Rattle.std.proofs.Common.{string_bytes, rules, ◌≡◌}
 use Rattle.kan_model.specs.Answers.AnswerText.{answer_text, constraint_texts, where_text}
 use Rattle.reify.specs.Meaning.{meaning}
 use Rattle.reify.proofs.ShapeLaws.{answer_printed}

@@ -1,4 +1,4 @@
-use Rattle.std.proofs.Common.{string_bytes, rules, ◌∙◌, ap}
+use Rattle.std.proofs.Common.{string_bytes, rules}
 use Rattle.reify.proofs.ShapeLaws.{pair_printed}
 use Rattle.reify.proofs.constraints.print_pair.Goals as goal
 

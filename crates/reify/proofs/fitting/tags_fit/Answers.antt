@@ -1,4 +1,4 @@
-use Rattle.std.proofs.Common.{ap, ap₂, sym, ◌∙◌, not}
+use Rattle.std.proofs.Common.{ap₂, ◌∙◌, not}
 use Rattle.std.specs.List.{list_all, list_any}
 use Rattle.kan_solving.specs.Solving.{replaced_by}
 use Rattle.reify.specs.Fitting.{is_symbol_letter}

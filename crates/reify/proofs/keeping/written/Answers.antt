@@ -1,4 +1,4 @@
-use Rattle.std.proofs.Common.{◌≡◌, ap, sym, ◌∙◌, true, subst, map, rules, List}
+use Rattle.std.proofs.Common.{◌≡◌, sym, true, subst, map, rules, List}
 use Rattle.std.specs.List.{All}
 use Rattle.kan_model.specs.Answers.Answer.{all_named}
 use Rattle.kan_solving.specs.Solving.{replaced_by}

@@ -1,4 +1,4 @@
-use Rattle.std.proofs.Common.{◌∙◌, ap, rules}
+use Rattle.std.proofs.Common.{◌∙◌, ap}
 use Rattle.reify.specs.Typing.{kind_test}
 use Rattle.reify.proofs.KindLaws.{kind_is_one}
 use Rattle.reify.proofs.typing.has.Goals as goal

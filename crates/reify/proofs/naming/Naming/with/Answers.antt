@@ -1,4 +1,4 @@
-use Rattle.std.proofs.Common.{◌≡◌, sym, ◌∙◌, length, rules, arith, ◌<◌}
+use Rattle.std.proofs.Common.{rules}
 use Rattle.kan_tree.specs.Found.{found}
 use Rattle.reify.specs.Naming.{number_of}
 use Rattle.reify.proofs.NamingLaws.{added}
