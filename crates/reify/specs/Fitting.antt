@@ -34,6 +34,7 @@ abbrev pub type_fits : Store → model.Replacement → Option Kind → Tm → Bo
 type_fits st form kind (Tree.leaf x) = kinds_agree kind (kind_at st x) && list_all (agrees_at st kind x) form
 type_fits st form kind t = kind_allows kind t
 
+-- that of a pair of a form
 abbrev pub types_fit : Store → model.Replacement → model.Replaced → Bool
 types_fit st form p = type_fits st form (kind_at st p.var) p.by
 
@@ -41,6 +42,7 @@ types_fit st form p = type_fits st form (kind_at st p.var) p.by
 abbrev pub tags_fit : Store → model.Replaced → Bool
 tags_fit st p = list_all (λ tag. not (has_absence (answer st) st.prims tag p.var && has_symbol tag p.by)) (tags_of st.prims)
 
+-- types and tags of a pair fit
 abbrev pub fits_at : Store → model.Replacement → model.Replaced → Bool
 fits_at st form p = types_fit st form p && tags_fit st p
 

@@ -6,9 +6,11 @@ use Rattle.reify.specs.Shapes.{tree_of, named_pair}
 use Rattle.reify.specs.declared.answers.Absence.{Absence}
 use Rattle.reify.specs.declared.answers.Answer.{Answer}
 
+-- a tag with its names
 abbrev pub absence : Absence → model.Absence
 absence kept = record { tag = kept.tag; names = kept.names.items }
 
+-- the same, where the names are lent
 abbrev pub lent_absence : ℕ × Bor (List ℕ) → model.Absence
 lent_absence lent = record { tag = lent.0; names = lent.1.now }
 

@@ -38,6 +38,7 @@ element_text table (Num n) = number_text n
 element_text table (Truth b) = truth_text b
 element_text table Nil = codes "()"
 
+-- a shape at a place
 abbrev pub shape_text : Table → Place → Shape → List ℕ
 shape_text table Element = element_text table
 shape_text table Rest = rest_text table

@@ -27,10 +27,10 @@ pub struct Answer {
 }
 
 impl Answer {
-    ghost use Rattle.std.specs.Prelude.{◌≡◌, map};
+    ghost use Rattle.std.specs.Prelude.{◌≡◌, true, map, IfSome};
     ghost use Rattle.std.specs.Option.{option_map};
     ghost use Rattle.std.specs.List.{slice_get};
-    ghost use Rattle.reify.specs.Shapes.{spelling, named_pair};
+    ghost use Rattle.reify.specs.Shapes.{all_whole, spelling, named_pair};
     ghost use Rattle.reify.specs.Meaning.{meaning, lent_absence};
 
     /// The shapes of the term, each pair before its parts. It takes no memory.
@@ -42,8 +42,9 @@ impl Answer {
 
     /// The disequality at an index, in printed order. It takes no memory.
     pub fn disequality(&self, at: usize) -> Option<&NamePairs>
-        ensures { option_map (λ pairs. map named_pair pairs.now) result
+        ensures pairs { option_map (λ pairs. map named_pair pairs.now) result
             ≡ slice_get (meaning self.now).disequalities at }
+        ensures whole { IfSome result (λ pairs. all_whole pairs.now ≡ true) }
     {
         self.disequalities.get(at)
     }
