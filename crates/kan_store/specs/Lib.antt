@@ -2,3 +2,4 @@ pub mod PrimsCode
 pub mod Moving
 pub mod Asked
 pub mod InStep
+pub mod Parts
