@@ -3,3 +3,4 @@ pub mod Moving
 pub mod Asked
 pub mod InStep
 pub mod Parts
+pub mod Held

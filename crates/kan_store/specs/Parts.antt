@@ -4,6 +4,8 @@ use Rattle.std.specs.List.{list_any}
 use Rattle.kan_terms.specs.Tree.{Tm, term_eq}
 use Rattle.kan_model.specs.Stores.Store.{Store, Equation}
 use Rattle.kan_model.specs.declared.prims.Kind.{Kind}
+use Rattle.kan_model.specs.declared.prims.Kind.TheVariants.{Symbol, Number, Text}
+use Rattle.kan_model.specs.Programs.Goals.{Primitive}
 use Rattle.unify_core.specs.Cycles.{HasNoCycle}
 use Rattle.unify_core.specs.Walking.{Pairs, walked, full}
 use Rattle.unify_core.specs.Solutions.{AddedTo, equation}
@@ -69,3 +71,12 @@ pub data Resolved (bound : Pairs) : List Disequality → List (List Equation) �
   still : {es : Disequality} {more : List Disequality} {added : List (Tm × Tm)} {lists : List (List Equation)} →
       Unifying bound es (Some added) → Resolved bound more lists → Resolved bound (es ∷ more) (added_equations added ∷ lists)
   gone : {es : Disequality} {more : List Disequality} {lists : List (List Equation)} → Unifying bound es None → Resolved bound more lists → Resolved bound (es ∷ more) lists
+
+-- the parts with a primitive more
+abbrev pub Adding : Parts → Primitive Tm → Option Parts → Type 0
+Adding old (Primitive.same a b) r = Equated old a b r
+Adding old (Primitive.differ a b) r = Differing old a b r
+Adding old (Primitive.symbol t) r = Typing old Symbol t r
+Adding old (Primitive.number t) r = Typing old Number t r
+Adding old (Primitive.text t) r = Typing old Text t r
+Adding old (Primitive.absent tag t) r = Keeping old tag t r
