@@ -6,8 +6,8 @@ ghost use Rattle.kan_terms.specs.Terms.{sides, tree};
 ghost use Rattle.kan_terms.specs.Tree.{Tree};
 ghost use Rattle.kan_tree.specs.Found.{found};
 ghost use Rattle.unify_core.specs.Cycles.{HasNoCycle};
-ghost use Rattle.diseq.specs.Tables.{All, AllWatched, MovedTo, Replacing, Resolved, Seen, at};
-ghost use Rattle.diseq.specs.Tables.{is_fine, is_settled, number_list, or_nothing};
+ghost use Rattle.diseq.specs.Tables.{All, AllWatched, MovedTo, Replacing, Resolved, Seen, WatchingOther};
+ghost use Rattle.diseq.specs.Tables.{at, is_fine, is_settled, number_list, or_nothing};
 ghost use Rattle.diseq.specs.Watching.{is_watchable, is_watched_by};
 
 use crate::entries::{Entry, Watched};
@@ -41,7 +41,7 @@ fn is_watched(pairs: &[TermPair], var: u64) -> bool
 }
 
 // What pairs that a variable watches say under bindings.
-#[tactic(auto, using(crate::proofs::MovedLaws::seen_never, crate::proofs::MovedLaws::seen_some))]
+#[tactic(auto, using(crate::proofs::MovedLaws::seen_never, crate::proofs::MovedLaws::seen_identical, crate::proofs::MovedLaws::seen_some))]
 fn solve_anew<B: Bindings>(
     alloc: Global,
     pairs: &[TermPair],
@@ -88,7 +88,27 @@ impl Table {
         }
     }
 
+    // Puts a number that is on the list of a variable on that of the one that watches the pairs.
+    #[tactic(auto, using(crate::proofs::MovedLaws::watching_same, crate::proofs::MovedLaws::watching_other))]
+    fn watch_other(
+        &mut self,
+        alloc: Global,
+        var: u64,
+        number: u64,
+        pairs: &[TermPair],
+    ) -> Result<(), Memory>
+        ensures { OnOk result
+            (WatchingOther self.old (map pair_equation pairs.now) var number self.new) }
+    {
+        if is_watched(pairs, var) {
+            return Ok(());
+        }
+        self.watch_pairs(alloc, pairs, number)?;
+        Ok(())
+    }
+
     // Puts other pairs at a number that is on the list of a variable.
+    #[tactic(auto, using(crate::proofs::MovedLaws::put_solved))]
     fn replace(
         &mut self,
         alloc: Global,
@@ -100,13 +120,13 @@ impl Table {
         ensures { OnOk result
             (Replacing self.old number var (map pair_equation pairs ∷ []) self.new) }
     {
-        if !is_watched(pairs.items(), var) {
-            self.watch_pairs(alloc, pairs.items(), number)?;
-        }
-        self.put(number, Entry::Differ(Arc::new(alloc, pairs)?))
+        self.watch_other(alloc, var, number, pairs.items())?;
+        self.put(number, Entry::Differ(Arc::new(alloc, pairs)?))?;
+        Ok(())
     }
 
     // Looks again at the disequality with a number. It tells whether its sides still differ.
+    #[tactic(auto, using(crate::proofs::MovedLaws::at_below, crate::proofs::MovedLaws::put_always, crate::proofs::MovedLaws::resolved_on, crate::proofs::MovedLaws::resolved_stays))]
     fn resolve<B: Bindings>(
         &mut self,
         alloc: Global,
@@ -133,6 +153,7 @@ impl Table {
     }
 
     // Looks again at the disequality whose number stands at a place of a list.
+    #[tactic(auto, using(crate::proofs::MovedLaws::resolved_none))]
     fn resolve_at<B: Bindings>(
         &mut self,
         alloc: Global,
@@ -147,7 +168,7 @@ impl Table {
             self.old self.new differs) }
     {
         match list.get(place) {
-            Some(number) => self.resolve(alloc, var, number, bindings),
+            Some(number) => Ok(self.resolve(alloc, var, number, bindings)?),
             None => Ok(true),
         }
     }
@@ -178,6 +199,7 @@ impl Table {
     }
 
     // Looks again at all disequalities that are watched by the term, if it is a variable.
+    #[tactic(auto, using(crate::proofs::MovedLaws::settled_term))]
     fn settle<B: Bindings>(
         &mut self,
         alloc: Global,
@@ -191,7 +213,7 @@ impl Table {
             self.old self.new differ) }
     {
         match term {
-            Term::Var(var) => self.settle_variable(alloc, *var, bindings),
+            Term::Var(var) => Ok(self.settle_variable(alloc, *var, bindings)?),
             _ => Ok(true),
         }
     }
@@ -215,7 +237,7 @@ impl Table {
         if !first {
             return Ok(false);
         }
-        self.settle(alloc, &pair.rest, bindings)
+        Ok(self.settle(alloc, &pair.rest, bindings)?)
     }
 
     /// Looks again at all disequalities that are watched by a side of an added pair. It tells
