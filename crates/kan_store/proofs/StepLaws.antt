@@ -4,7 +4,14 @@ use Rattle.std.proofs.Math.Logic.{∥∥₁_elim, ∥∥₁_map}
 use Rattle.std.specs.Coded.{Coded-set, coded_bool}
 use Rattle.kan_terms.specs.Tree.{Tm}
 use Rattle.kan_model.specs.Programs.Goals.{Primitive}
-use Rattle.kan_model.specs.Stores.Store.{Store, with_prim, with_fresh}
+use Rattle.kan_model.specs.Stores.Store.{Store, bare, with_prim, with_fresh}
+use Rattle.kan_model.specs.Stores.Solve.{apply, left_first}
+use Rattle.kan_model.proofs.Solving.SolveLaws.{solve_by-nothing}
+use Rattle.unify_core.specs.Walking.{full}
+use Rattle.unify_core.proofs.CycleLaws.{no_cycle_empty}
+use Rattle.std.proofs.lemmas.Bool.{true≢false}
+use Rattle.diseq.specs.Disequalities.{Brought}
+use Rattle.diseq.specs.Watching.{are_watchable}
 use Rattle.kan_model.specs.Stores.Kept.{is_kept}
 use Rattle.kan_model.specs.declared.prims.Kind.{Kind}
 use Rattle.type_absence.specs.Tags.{is_listed}
@@ -78,4 +85,18 @@ fresh_in_step parts st k step = record {
   differ = step.differ;
   watchable = step.watchable;
   allowed = step.allowed;
+}
+
+-- nothing is in step with the store in which nothing was asserted
+pub empty_in_step : (parts : Parts) → parts.bound ≡ [] → ((v : ℕ) → parts.types v ≡ None) → ((v : ℕ) → parts.tags v ≡ []) → parts.lists ≡ [] → AreInStep parts (bare 0)
+empty_in_step parts bound types tags lists = record {
+  answer = [];
+  no_cycle = no_cycle_empty parts.bound bound;
+  solved = solve_by-nothing left_first;
+  fulls = λ t. subst (λ b. full b t ≡ apply [] t) (sym bound) refl;
+  typed = λ v free k. (λ has. (let none : None ≡ Some k = sym (types v) ∙ has in cc), λ has. absurd (true≢false (sym has)));
+  tagged = λ v free tag. (λ listed. absurd (true≢false (sym listed ∙ ap (is_listed tag) (tags v))), λ has. absurd (true≢false (sym has)));
+  differ = subst (λ l. Brought parts.bound [] l) (sym lists) Brought.none_left;
+  watchable = subst (λ l. are_watchable parts.bound l ≡ true) (sym lists) refl;
+  allowed = refl;
 }

@@ -6,5 +6,4 @@ mod moving;
 mod solved;
 mod store;
 
-pub use history::History;
-pub use moving::{move_tags, move_types};
+pub use store::SolvedStore;
