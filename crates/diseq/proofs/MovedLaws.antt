@@ -1,63 +1,26 @@
 -- Tables whose disequalities are brought up to bindings.
-use Rattle.std.proofs.Common.{◌≡◌, ◌≢◌, ◌↔◌, ℕ, suc, ◌<◌, ◌≤◌, ◌+◌, ◌-◌, Bool, true, false, ◌&&◌, ◌||◌, not, eqb, ltb, List, [], ◌∷◌, ◌++◌, length, drop, map, get_or, Option, Some, None, option_map, inl, inr, sym, ap, subst, refl, arith, ◌∙◌, if◌then◌else◌, drop-cons, append-nil}
+use Rattle.std.proofs.Common.{◌≡◌, ◌≢◌, ◌↔◌, ℕ, suc, ◌<◌, ◌+◌, ◌-◌, Bool, true, false, ◌&&◌, ◌||◌, not, eqb, ltb, List, [], ◌∷◌, ◌++◌, length, drop, map, get_or, Option, Some, None, sym, ap, subst, refl, arith, ◌∙◌, if◌then◌else◌, drop-cons}
 use Rattle.std.specs.List.{list_all, list_any}
-use Rattle.std.proofs.lemmas.Bool.{or_left, or_right, or_cases, eq-eqb, eqb-true, eqb-false, ne_eqb, le-ltb, ltb-true, true≢false}
+use Rattle.std.proofs.lemmas.Bool.{or_left, or_right, eq-eqb, eqb-true, ltb-true, true≢false}
 use Rattle.kan_terms.specs.Tree.{Tree, Tm}
 use Rattle.kan_terms.specs.Terms.{sides, tree}
 use Rattle.kan_terms.specs.declared.terms.TermPair.{TermPair}
-use Rattle.kan_model.specs.Stores.Store.{Equation}
-use Rattle.kan_model.specs.Stores.Prims.{equation as pair_equation}
 use Rattle.kan_tree.specs.Found.{found}
 use Rattle.unify_core.specs.Walking.{Pairs}
 use Rattle.unify_core.specs.Cycles.{HasNoCycle}
 use Rattle.unify_core.specs.Solutions.{AddedTo}
-use Rattle.unify_core.specs.Unifying.{Unifying}
-use Rattle.unify_core.specs.Laws.{added_equations}
 use Rattle.unify_core.proofs.CycleLaws.{grown}
-use Rattle.unify_core.proofs.AddedLaws.{added_solve}
 use Rattle.std.proofs.lemmas.List.Folds.{list_any-append}
 use Rattle.kan_model.specs.Stores.Kept.{is_variable}
-use Rattle.diseq.specs.Disequalities.{Disequality, SaysAsMuch, Brought, is_identical}
-use Rattle.diseq.specs.Adding.{WithAdded, Adds}
+use Rattle.diseq.specs.Disequalities.{Disequality, Brought, is_identical}
 use Rattle.diseq.specs.Watching.{is_watchable, are_watchable, is_watched_by, watches, is_woken}
-use Rattle.diseq.specs.Tables.{gathered, entry_list, number_list, numbers_of, numbers_below, or_nothing, at, listed_in, watching, is_among, has_number, AllWatched, Watching, WatchingPairs, WatchingOther, PutAt, Replacing, is_settled, is_fine, All, HasIdentical, Moved, Replaces, Seen, Resolved, MovedTo}
+use Rattle.diseq.specs.Tables.{gathered, entry_list, number_list, numbers_below, or_nothing, at, listed_in, watching, is_among, has_number, AllWatched, WatchingPairs, WatchingOther, PutAt, Replacing, is_settled, is_fine, All, HasIdentical, Moved, Replaces, Resolved, MovedTo}
 use Rattle.diseq.specs.declared.entries.Watched.{Watched}
 use Rattle.diseq.specs.declared.table.Table.{Table}
-use Rattle.diseq.specs.declared.solving.Anew.{Anew}
-use Rattle.diseq.specs.declared.solving.Anew.TheVariants.{Stays, Identical, Always, Solved}
-use Rattle.diseq.proofs.ListLaws.{and_parts, and_both, all_weaker, all_both, all_joined, all_at, all_gathered, any_gathered, none_passes, among_others, gathered-same}
+use Rattle.diseq.proofs.ListLaws.{and_parts, and_both, all_weaker, all_both, all_at, all_gathered, any_gathered, none_passes}
 use Rattle.diseq.proofs.TableLaws.{number_kept, entries-same}
-use Rattle.diseq.proofs.BroughtLaws.{brought_same, brought_twice, brought_joined, brought_gathered, identical_brought}
-use Rattle.diseq.proofs.WatchLaws.{watchable_differs_grown, added_watchable, stays_watchable, adds_none, adds_some, adds_never}
-
--- added pairs of terms as equations
-pub pairs_are : (pairs : List TermPair) → map pair_equation pairs ≡ added_equations (map sides pairs)
-pairs_are [] = refl
-pairs_are (p ∷ pairs) = ap (λ es. pair_equation p ∷ es) (pairs_are pairs)
-
--- what solving anew sees
-pub seen_never : (bound : Pairs) (x : ℕ) (es : Disequality) → HasNoCycle bound → is_watched_by x es ≡ true → Unifying bound es None → Seen bound x (es ∷ []) Always
-seen_never bound x es h watched d = record {
-  es = es;
-  one = refl;
-  watched = watched;
-  brought = Brought.left_out ((added_solve ℕ).1 bound es h d) Brought.none_left;
-  watchable = refl;
-}
-
-pub seen_identical : (bound : Pairs) (x : ℕ) (es : Disequality) → HasNoCycle bound → Unifying bound es (Some []) → Seen bound x (es ∷ []) Identical
-seen_identical bound x es h d = or_left (is_identical bound es) false (adds_none bound (grown bound h) es d)
-
-pub seen_some : (bound : Pairs) (x : ℕ) (es : Disequality) (pairs : List TermPair) → HasNoCycle bound → is_watched_by x es ≡ true → Unifying bound es (Some (map sides pairs)) → pairs ≢ [] →
-    Replaces bound x (es ∷ []) (map pair_equation pairs ∷ [])
-seen_some bound x es [] h watched d some = absurd (some refl)
-seen_some bound x es (p ∷ pairs) h watched d some = record {
-  es = es;
-  one = refl;
-  watched = watched;
-  brought = Brought.listed (subst (λ fs. SaysAsMuch bound es fs) (sym (pairs_are (p ∷ pairs))) ((added_solve ℕ).0 bound es (map sides (p ∷ pairs)) h d)) Brought.none_left;
-  watchable = and_both (is_watchable bound (map pair_equation (p ∷ pairs))) true (subst (λ fs. is_watchable bound fs ≡ true) (sym (pairs_are (p ∷ pairs))) (added_watchable bound (grown bound h) es (sides p) (map sides pairs) d)) refl;
-}
+use Rattle.diseq.proofs.BroughtLaws.{brought_same, brought_twice, brought_gathered, identical_brought}
+use Rattle.diseq.proofs.WatchLaws.{watchable_differs_grown, stays_watchable}
 
 -- a table that stays, and one that is moved twice
 pub moved_same : (bound : Pairs) (t : Table) → Moved bound t t
@@ -243,8 +206,8 @@ open_turn bound x before now old new (moved, settled) open_ k = by (is_among k n
     by true e = all_weaker (is_settled bound (Tree.leaf x)) (is_open bound x before k) (λ es s. or_left (is_settled bound (Tree.leaf x) es) (is_among k before) s) (at new k) (settled k e)
     by false e =
         all_weaker (is_open bound x (before ++ now) k) (is_open bound x before k) (λ es h. (
-          let same : is_among k (before ++ now) ≡ is_among k before = list_any-append (eqb k) before now ∙ ap (λ b. is_among k before || b) e ∙ or_nothing_right (is_among k before) in
-          subst (λ b. (is_settled bound (Tree.leaf x) es || b) ≡ true) same h))
+        let same : is_among k (before ++ now) ≡ is_among k before = list_any-append (eqb k) before now ∙ ap (λ b. is_among k before || b) e ∙ or_nothing_right (is_among k before) in
+        subst (λ b. (is_settled bound (Tree.leaf x) es || b) ≡ true) same h))
         (at new k) (moved.kept (is_open bound x (before ++ now) k) weaker k (open_ k))
 
 -- at last all are settled
@@ -292,47 +255,6 @@ fine_turn bound a b more old new (moved, settled) fine k =
 pub fine_last : (bound : Pairs) (t : Table) → All (is_fine bound []) t → All (is_watchable bound) t
 fine_last bound t fine k = fine k
 
--- disequalities that unification finds to hold already
-pub adds_always : (bound : Pairs) (es : Disequality) (old : List Disequality) → HasNoCycle bound → Unifying bound es None → Adds bound es old old
-adds_always bound es old h d = record {
-  found = None;
-  unifying = d;
-  put = refl;
-  watchable = λ w. w;
-  brought = subst (Brought bound (old ++ es ∷ [])) (append-nil old)
-      (brought_joined bound old old (es ∷ []) [] (brought_same bound old) (Brought.left_out ((added_solve ℕ).1 bound es h d) Brought.none_left));
-}
-
--- and what it adds where they don't
-pub adds_one : (bound : Pairs) (es : Disequality) (old new : List Disequality) (pairs : List TermPair) → HasNoCycle bound → Unifying bound es (Some (map sides pairs)) → pairs ≢ [] →
-    new ≡ old ++ map pair_equation pairs ∷ [] → Adds bound es old new
-adds_one bound es old new [] h d some put = absurd (some refl)
-adds_one bound es old new (p ∷ pairs) h d some put = record {
-  found = Some (map sides (p ∷ pairs));
-  unifying = d;
-  put = put ∙ ap (λ fs. old ++ fs ∷ []) (pairs_are (p ∷ pairs));
-  watchable = λ w. subst (λ ds. are_watchable bound ds ≡ true) (sym put) (all_joined (is_watchable bound) old (map pair_equation (p ∷ pairs) ∷ []) w
-      (and_both (is_watchable bound (map pair_equation (p ∷ pairs))) true is_new refl));
-  brought = subst (Brought bound (old ++ es ∷ [])) (sym put)
-      (brought_joined bound old old (es ∷ []) (map pair_equation (p ∷ pairs) ∷ []) (brought_same bound old)
-      (Brought.listed (subst (λ fs. SaysAsMuch bound es fs) (sym (pairs_are (p ∷ pairs))) ((added_solve ℕ).0 bound es (map sides (p ∷ pairs)) h d)) Brought.none_left));
-}
-  where
-    is_new : is_watchable bound (map pair_equation (p ∷ pairs)) ≡ true
-    is_new = subst (λ fs. is_watchable bound fs ≡ true) (sym (pairs_are (p ∷ pairs))) (added_watchable bound (grown bound h) es (sides p) (map sides pairs) d)
-
--- the answer is none exactly where the sides are the same
-pub none_identical : {X : Type 0} (bound : Pairs) (es : Disequality) → HasNoCycle bound → Unifying bound es (Some []) → (◌≡◌ {A = Option X} None None) ↔ (is_identical bound es ≡ true)
-none_identical bound es h d = (λ e. adds_none bound (grown bound h) es d, λ i. refl)
-
-pub some_always : {X : Type 0} (x : X) (bound : Pairs) (es : Disequality) → HasNoCycle bound → Unifying bound es None → (Some x ≡ None) ↔ (is_identical bound es ≡ true)
-some_always x bound es h d = (λ e. cc, λ i. absurd (true≢false (sym i ∙ adds_never bound (grown bound h) es h d)))
-
-pub some_differs : {X : Type 0} (x : X) (bound : Pairs) (es : Disequality) (pairs : List TermPair) → HasNoCycle bound → Unifying bound es (Some (map sides pairs)) → pairs ≢ [] →
-    (Some x ≡ None) ↔ (is_identical bound es ≡ true)
-some_differs x bound es [] h d some = absurd (some refl)
-some_differs x bound es (p ∷ pairs) h d some = (λ e. cc, λ i. absurd (true≢false (sym i ∙ adds_some bound (grown bound h) es (sides p) (map sides pairs) h d)))
-
 -- at first those that no added pair wakes are watchable
 pub fine_first : (older : Pairs) (added : List (Tm × Tm)) (bound : Pairs) (t : Table) → AddedTo older added bound → are_watchable older (listed_in t) ≡ true → All (is_fine bound added) t
 fine_first older added bound t put watchable k = by (ltb k t.next) refl
@@ -356,12 +278,23 @@ moved_listed bound old new moved = subst (λ n. Brought bound (listed_in old) (g
 pub moved_watchable : (bound : Pairs) (t : Table) → All (is_watchable bound) t → are_watchable bound (listed_in t) ≡ true
 moved_watchable bound t all = all_gathered (is_watchable bound) (at t) t.next all
 
-pub none_recheck : {X : Type 0} (bound : Pairs) (t : Table) → HasIdentical bound t → (◌≡◌ {A = Option X} None None) ↔ (list_any (is_identical bound) (listed_in t) ≡ true)
-none_recheck bound t there = (λ e. identical_listed bound t there, λ i. refl)
+-- what looking again at all gives
+module _ (bound : Pairs) (h : HasNoCycle bound) (old new : Table) (differ : Bool) (ds : List Disequality) (is : listed_in old ≡ ds) (moved : MovedTo bound (is_watchable bound) old new differ) where
+  pub recheck_none : {X : Type 0} → differ ≡ false → (◌≡◌ {A = Option X} None None) ↔ (list_any (is_identical bound) ds ≡ true)
+  recheck_none off = (λ e. subst (λ es. list_any (is_identical bound) es ≡ true) is (identical_listed bound old (subst (MovedTo bound (is_watchable bound) old new) off moved)), λ i. refl)
 
-pub some_recheck : {X : Type 0} (x : X) (bound : Pairs) → HasNoCycle bound → (old new : Table) → MovedTo bound (is_watchable bound) old new true → (Some x ≡ None) ↔ (list_any (is_identical bound) (listed_in old) ≡ true)
-some_recheck x bound h old new (moved, all) = (λ e. cc, λ i. absurd (true≢false (sym i ∙ identical_brought bound (grown bound h) (listed_in old) (listed_in new) (moved_listed bound old new moved)
-    ∙ none_passes (is_watchable bound) (is_identical bound) (watchable_differs_grown bound (grown bound h)) (listed_in new) (moved_watchable bound new all))))
+  pub recheck_brought : differ ≡ true → Brought bound ds (listed_in new)
+  recheck_brought on = subst (λ es. Brought bound es (listed_in new)) is (moved_listed bound old new (subst (MovedTo bound (is_watchable bound) old new) on moved).0)
+
+  pub recheck_watchable : differ ≡ true → are_watchable bound (listed_in new) ≡ true
+  recheck_watchable on = moved_watchable bound new (subst (MovedTo bound (is_watchable bound) old new) on moved).1
+
+  pub recheck_some : {X : Type 0} (x : X) → differ ≡ true → (Some x ≡ None) ↔ (list_any (is_identical bound) ds ≡ true)
+  recheck_some x on = (
+    λ e. cc,
+    λ i. absurd (true≢false (sym i ∙ identical_brought bound (grown bound h) ds (listed_in new) (recheck_brought on)
+        ∙ none_passes (is_watchable bound) (is_identical bound) (watchable_differs_grown bound (grown bound h)) (listed_in new) (recheck_watchable on))),
+  )
 
 -- the last number of a list that is left
 below_more : (w : Watched) (left : ℕ) → 0 < left → numbers_below w left ≡ numbers_below w (left - 1) ++ or_nothing (found number_list w.numbers (left - 1))
@@ -393,7 +326,7 @@ pub pair_turn : (bound : Pairs) (pairs : List TermPair) (i : ℕ) (p : TermPair)
     Moved bound start new × All (is_fine bound (map sides (drop (i + 1) pairs))) new
 pair_turn bound pairs i p start old new differ below is settled on moved fine =
     let now : MovedTo bound (λ es. is_settled bound (tree p.first) es && is_settled bound (tree p.rest) es) old new true =
-        subst (MovedTo bound (λ es. is_settled bound (tree p.first) es && is_settled bound (tree p.rest) es) old new) on settled in
+    subst (MovedTo bound (λ es. is_settled bound (tree p.first) es && is_settled bound (tree p.rest) es) old new) on settled in
     let next : suc i ≡ i + 1 = omega arith in
     let split : drop i pairs ≡ p ∷ drop (i + 1) pairs = drop-cons pairs i p below ∙ ap (λ q. q ∷ drop (suc i) pairs) (sym is) ∙ ap (λ n. p ∷ drop n pairs) next in
     (moved_twice bound start old new moved now.0, fine_turn bound (tree p.first) (tree p.rest) (map sides (drop (i + 1) pairs)) old new now (subst (λ ps. All (is_fine bound (map sides ps)) old) split fine))

@@ -1,13 +1,14 @@
 //! Looking again at disequalities whose variable may have changed.
 
-ghost use Rattle.std.specs.Prelude.{◌≡◌, ◌<◌, ◌&&◌, ◌∷◌, [], map, true, IfOk, OnOk};
+ghost use Rattle.std.specs.Prelude.{◌≡◌, ◌↔◌, ◌<◌, ◌&&◌, ◌∷◌, [], map, true, IfOk, IsTrue, OnOk};
 ghost use Rattle.kan_model.specs.Stores.Prims.{equation as pair_equation};
 ghost use Rattle.kan_terms.specs.Terms.{sides, tree};
 ghost use Rattle.kan_terms.specs.Tree.{Tree};
 ghost use Rattle.kan_tree.specs.Found.{found};
 ghost use Rattle.unify_core.specs.Cycles.{HasNoCycle};
-ghost use Rattle.diseq.specs.Tables.{All, AllWatched, MovedTo, Replacing, Resolved, Seen, WatchingOther};
-ghost use Rattle.diseq.specs.Tables.{at, is_fine, is_settled, number_list, or_nothing};
+ghost use Rattle.diseq.specs.Tables.{All, AllWatched, MovedTo, Replacing, Resolved, Seen};
+ghost use Rattle.diseq.specs.Tables.{WatchingOther, at, is_fine, is_settled};
+ghost use Rattle.diseq.specs.Tables.{number_list, or_nothing};
 ghost use Rattle.diseq.specs.Watching.{is_watchable, is_watched_by};
 
 use crate::entries::{Entry, Watched};
@@ -40,8 +41,15 @@ fn is_watched(pairs: &[TermPair], var: u64) -> bool
     }
 }
 
+/// Whether unification has nothing to add, so that the sides are the same already.
+pub fn adds_nothing(added: &TermPairs) -> bool
+    ensures { IsTrue result ↔ (added.now ≡ []) }
+{
+    added.is_empty()
+}
+
 // What pairs that a variable watches say under bindings.
-#[tactic(auto, using(crate::proofs::MovedLaws::seen_never, crate::proofs::MovedLaws::seen_identical, crate::proofs::MovedLaws::seen_some))]
+#[tactic(auto, using(crate::proofs::AddLaws::seen_never, crate::proofs::AddLaws::seen_some))]
 fn solve_anew<B: Bindings>(
     alloc: Global,
     pairs: &[TermPair],
@@ -56,7 +64,7 @@ fn solve_anew<B: Bindings>(
     match would_add(alloc, pairs, bindings)? {
         None => Ok(Anew::Always),
         Some(added) => {
-            if added.is_empty() {
+            if adds_nothing(&added) {
                 return Ok(Anew::Identical);
             }
             Ok(Anew::Solved(added))
@@ -89,7 +97,7 @@ impl Table {
     }
 
     // Puts a number that is on the list of a variable on that of the one that watches the pairs.
-    #[tactic(auto, using(crate::proofs::MovedLaws::watching_same, crate::proofs::MovedLaws::watching_other))]
+    #[tactic(auto, using(crate::proofs::MovedLaws::watching_same))]
     fn watch_other(
         &mut self,
         alloc: Global,
@@ -108,7 +116,6 @@ impl Table {
     }
 
     // Puts other pairs at a number that is on the list of a variable.
-    #[tactic(auto, using(crate::proofs::MovedLaws::put_solved))]
     fn replace(
         &mut self,
         alloc: Global,
@@ -126,7 +133,7 @@ impl Table {
     }
 
     // Looks again at the disequality with a number. It tells whether its sides still differ.
-    #[tactic(auto, using(crate::proofs::MovedLaws::at_below, crate::proofs::MovedLaws::put_always, crate::proofs::MovedLaws::resolved_on, crate::proofs::MovedLaws::resolved_stays))]
+    #[tactic(auto, using(crate::proofs::MovedLaws::at_below))]
     fn resolve<B: Bindings>(
         &mut self,
         alloc: Global,
@@ -153,7 +160,6 @@ impl Table {
     }
 
     // Looks again at the disequality whose number stands at a place of a list.
-    #[tactic(auto, using(crate::proofs::MovedLaws::resolved_none))]
     fn resolve_at<B: Bindings>(
         &mut self,
         alloc: Global,
@@ -164,8 +170,8 @@ impl Table {
     ) -> Result<bool, Memory>
         requires { HasNoCycle (B.pairs bindings.now) }
         ensures { IfOk result (λ differs.
-            Resolved (B.pairs bindings.now) var (or_nothing (found number_list list.now.numbers place))
-            self.old self.new differs) }
+            Resolved (B.pairs bindings.now) var
+            (or_nothing (found number_list list.now.numbers place)) self.old self.new differs) }
     {
         match list.get(place) {
             Some(number) => Ok(self.resolve(alloc, var, number, bindings)?),
@@ -199,7 +205,6 @@ impl Table {
     }
 
     // Looks again at all disequalities that are watched by the term, if it is a variable.
-    #[tactic(auto, using(crate::proofs::MovedLaws::settled_term))]
     fn settle<B: Bindings>(
         &mut self,
         alloc: Global,

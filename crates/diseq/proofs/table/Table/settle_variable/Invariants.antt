@@ -1,4 +1,3 @@
-use Rattle.kan_terms.specs.Tree.{Tree}
 use Rattle.diseq.specs.Tables.{Moved, numbers_below}
 use Rattle.diseq.proofs.MovedLaws.{Open}
 use Rattle.diseq.proofs.table.Table.settle_variable.Given as goal
