@@ -1,12 +1,10 @@
 -- Disequalities that were brought up to bindings.
-use Rattle.std.proofs.Common.{◌≡◌, ◌↔◌, ℕ, zero, suc, Bool, true, false, ◌&&◌, ◌||◌, List, [], ◌∷◌, ◌++◌, sym, ap, ap₂, subst, refl, ◌∙◌}
-use Rattle.std.specs.List.{list_all, list_any}
-use Rattle.kan_terms.specs.Tree.{Tree, Tm, Gd, fill, term_eq}
+use Rattle.std.proofs.Common.{◌≡◌, ◌↔◌, ℕ, zero, suc, Bool, true, false, ◌||◌, List, [], ◌∷◌, ◌++◌, sym, ap, ap₂, refl, ◌∙◌}
+use Rattle.std.specs.List.{list_any}
+use Rattle.kan_terms.specs.Tree.{Tree, Tm, Gd, fill}
 use Rattle.kan_terms.proofs.TreeLaws.{fill-fill, fill-leaf, fill-same, term_eq-true, eq-term_eq}
-use Rattle.kan_model.specs.Stores.Store.{Equation}
 use Rattle.kan_model.specs.Stores.Unifiers.{Unifies}
 use Rattle.unify_core.specs.Walking.{Pairs, ends, full}
-use Rattle.unify_core.specs.Cycles.{HasNoCycle}
 use Rattle.unify_core.specs.Solutions.{IsSolution, AddedTo}
 use Rattle.unify_core.proofs.Grown.{Grown}
 use Rattle.unify_core.proofs.SolutionLaws.{solution_of, IsSolution-same}
@@ -81,13 +79,13 @@ pub identical_brought : (bound : Pairs) → Grown bound → (old new : List Dise
 identical_brought bound g old new Brought.none_left = refl
 identical_brought bound g old new (Brought.listed {es = es} {fs = fs} {old = os} {new = ns} same h) =
     ap₂ (λ a b. a || b)
-      (same_tests (is_identical bound es) (is_identical bound fs)
-        (λ i. unifies_identical bound fs ((same (ends bound) (full_solves bound g)).0 (identical_unifies bound es i)))
-        (λ i. unifies_identical bound es ((same (ends bound) (full_solves bound g)).1 (identical_unifies bound fs i))))
-      (identical_brought bound g os ns h)
+    (same_tests (is_identical bound es) (is_identical bound fs)
+    (λ i. unifies_identical bound fs ((same (ends bound) (full_solves bound g)).0 (identical_unifies bound es i)))
+    (λ i. unifies_identical bound es ((same (ends bound) (full_solves bound g)).1 (identical_unifies bound fs i))))
+    (identical_brought bound g os ns h)
 identical_brought bound g old new (Brought.left_out {es = es} {old = os} {new = ns} never h) =
     ap (λ a. a || list_any (is_identical bound) os)
-      (same_tests (is_identical bound es) false (λ i. absurd (never (ends bound) (full_solves bound g) (identical_unifies bound es i))) (λ i. cc))
+    (same_tests (is_identical bound es) false (λ i. absurd (never (ends bound) (full_solves bound g) (identical_unifies bound es i))) (λ i. cc))
     ∙ identical_brought bound g os ns h
 
 -- a ground term as a term without variables

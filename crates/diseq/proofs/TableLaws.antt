@@ -1,14 +1,14 @@
 -- The table as entries are added and put, and as variables come to watch them.
-use Rattle.std.proofs.Common.{◌≡◌, ◌≢◌, ℕ, ◌<◌, ◌≤◌, ◌+◌, Bool, true, false, ◌||◌, not, eqb, ltb, List, [], ◌∷◌, ◌++◌, Option, Some, None, inl, inr, sym, ap, subst, refl, arith, ◌∙◌, if◌then◌else◌}
+use Rattle.std.proofs.Common.{◌≡◌, ℕ, ◌<◌, ◌+◌, Bool, true, false, not, eqb, ltb, List, [], ◌∷◌, ◌++◌, Some, inl, inr, sym, ap, subst, refl, arith, ◌∙◌, if◌then◌else◌}
 use Rattle.std.specs.List.{list_all}
 use Rattle.std.proofs.lemmas.Bool.{or_left, or_right, or_cases, eq-eqb, eqb-true, eqb-false, ne_eqb, lt-ltb, le-ltb, ltb-true, ltb-false, true≢false}
 use Rattle.kan_tree.specs.Found.{found}
 use Rattle.diseq.specs.Disequalities.{Disequality}
 use Rattle.diseq.specs.Watching.{is_watched_by}
-use Rattle.diseq.specs.Tables.{gathered, or_nothing, entry_list, number_list, numbers_of, at, listed_in, watching, is_among, has_number, AllWatched, may_be_same, Watching, WatchingPairs, PutAt}
+use Rattle.diseq.specs.Tables.{gathered, or_nothing, entry_list, number_list, numbers_of, at, listed_in, watching, is_among, has_number, AllWatched, Watching, WatchingPairs}
 use Rattle.diseq.specs.declared.entries.Watched.{Watched}
 use Rattle.diseq.specs.declared.table.Table.{Table}
-use Rattle.diseq.proofs.ListLaws.{all_weaker, among_left, among_last, gathered-same, gathered-last}
+use Rattle.diseq.proofs.ListLaws.{all_weaker, among_left, among_last, gathered-last}
 
 pub number_kept : (k x : ℕ) (numbers more : List ℕ) → (is_among k numbers ≡ true → is_among k more ≡ true) → (es : Disequality) → has_number k x numbers es ≡ true → has_number k x more es ≡ true
 number_kept k x numbers more f es h =
@@ -23,8 +23,8 @@ pub numbers_push : (old new : Watched) (number : ℕ) → new.len ≡ old.len + 
 numbers_push old new number len put =
     ap (gathered (λ k. or_nothing (found number_list new.numbers k))) len
     ∙ gathered-last (λ k. or_nothing (found number_list old.numbers k)) (λ k. or_nothing (found number_list new.numbers k)) old.len (number ∷ [])
-      (λ k below. ap or_nothing (put k ∙ ap (λ c. if c then Some (number ∷ []) else found number_list old.numbers k) (ne_eqb k old.len (omega (arith, below)))))
-      (ap or_nothing (put old.len ∙ ap (λ c. if c then Some (number ∷ []) else found number_list old.numbers old.len) (eq-eqb old.len old.len refl)))
+    (λ k below. ap or_nothing (put k ∙ ap (λ c. if c then Some (number ∷ []) else found number_list old.numbers k) (ne_eqb k old.len (omega (arith, below)))))
+    (ap or_nothing (put old.len ∙ ap (λ c. if c then Some (number ∷ []) else found number_list old.numbers old.len) (eq-eqb old.len old.len refl)))
 
 -- a table with the same entries and lists
 pub watched-same : (t u : Table) → ((k : ℕ) → at u k ≡ at t k) → ((x : ℕ) → watching u x ≡ watching t x) → AllWatched t → AllWatched u
@@ -60,7 +60,7 @@ module _ (old mid new : Table) (es : Disequality) (n : ℕ) (w : WatchingPairs o
   before : (k : ℕ) → k < n → at new k ≡ at old k
   before k below =
       let found_new : found entry_list new.entries k ≡ found entry_list old.entries k =
-          put k ∙ ap (λ c. if c then Some (es ∷ []) else found entry_list mid.entries k) (ne_eqb k n (omega (arith, below))) ∙ w.entries k in
+      put k ∙ ap (λ c. if c then Some (es ∷ []) else found entry_list mid.entries k) (ne_eqb k n (omega (arith, below))) ∙ w.entries k in
       ap (λ c. if c then or_nothing (found entry_list new.entries k) else []) (lt-ltb k new.next (omega (arith, below, next)) ∙ sym (lt-ltb k old.next (omega (arith, below, is))))
       ∙ ap (λ o. if ltb k old.next then or_nothing o else []) found_new
 

@@ -1,8 +1,7 @@
 -- Watchable disequalities: what unification adds is watchable, and stays so where no side of an added pair watches.
-use Rattle.std.proofs.Common.{◌≡◌, ◌≢◌, ℕ, Bool, true, false, ◌&&◌, ◌||◌, not, eqb, List, [], ◌∷◌, ◌++◌, Option, Some, None, map, option_map, inl, inr, sym, ap, ap₂, subst, refl, ◌∙◌, if◌then◌else◌}
-use Rattle.std.specs.List.{list_all, list_any}
-use Rattle.std.proofs.lemmas.Bool.{or_left, or_right, eq-eqb, eqb-true, ne_eqb, eqb-false, true≢false, false_from_ne_true}
-use Rattle.kan_terms.specs.Tree.{Tree, Tm, fill, occurs, term_eq}
+use Rattle.std.proofs.Common.{◌≡◌, ◌≢◌, ℕ, Bool, true, false, ◌&&◌, ◌||◌, not, eqb, List, [], ◌∷◌, Option, Some, None, sym, ap, subst, refl, ◌∙◌, if◌then◌else◌}
+use Rattle.std.proofs.lemmas.Bool.{eq-eqb, eqb-true, ne_eqb, true≢false, false_from_ne_true}
+use Rattle.kan_terms.specs.Tree.{Tree, Tm, occurs}
 use Rattle.kan_terms.specs.Bound.{bound_to}
 use Rattle.kan_terms.proofs.TreeLaws.{term_eq-true}
 use Rattle.kan_model.specs.Stores.Store.{Equation}
@@ -15,11 +14,11 @@ use Rattle.unify_core.specs.Unifying.{Unifying}
 use Rattle.unify_core.specs.Laws.{added_equations}
 use Rattle.unify_core.proofs.CycleLaws.{grown}
 use Rattle.unify_core.proofs.Grown.{Grown, ends-unbound}
-use Rattle.unify_core.proofs.WalkLaws.{full-walked, walked-twice, walked-unbound}
+use Rattle.unify_core.proofs.WalkLaws.{full-walked, walked-twice}
 use Rattle.unify_core.proofs.UnifyingLaws.{full-apart, unifying_makes}
 use Rattle.unify_core.proofs.AddedLaws.{added_solve}
-use Rattle.diseq.specs.Disequalities.{Disequality, SaysAsMuch, NeverEqual, Brought, has_same_sides, is_identical}
-use Rattle.diseq.specs.Watching.{is_none, is_apart, is_watchable, are_watchable, is_watched_by, watches, is_woken}
+use Rattle.diseq.specs.Disequalities.{Disequality, has_same_sides, is_identical}
+use Rattle.diseq.specs.Watching.{is_none, is_apart, is_watchable, watches, is_woken}
 use Rattle.diseq.specs.Laws.{WatchableDiffers}
 use Rattle.diseq.proofs.ListLaws.{and_parts, and_both}
 use Rattle.diseq.proofs.BroughtLaws.{full_solves, unifies_identical, identical_unifies}

@@ -1,5 +1,5 @@
 -- Disequalities: what they say under bindings, and what becomes of them as bindings are added.
-use Rattle.std.specs.Prelude.{◌↔◌, ℕ, Bool, true, List, [], ◌∷◌}
+use Rattle.std.specs.Prelude.{◌↔◌, ℕ, Bool, List, [], ◌∷◌}
 use Rattle.std.specs.List.{list_all}
 use Rattle.kan_terms.specs.Tree.{Tm, term_eq}
 use Rattle.kan_model.specs.Stores.Store.{Equation}

@@ -1,5 +1,5 @@
 -- What the table of disequalities stands for.
-use Rattle.std.specs.Prelude.{◌≡◌, ◌<◌, ℕ, zero, suc, Bool, true, false, ◌||◌, not, eqb, ltb, List, [], ◌∷◌, ◌++◌, map, Option, Some, None, if◌then◌else◌}
+use Rattle.std.specs.Prelude.{◌≡◌, ℕ, zero, suc, Bool, true, false, ◌||◌, not, eqb, ltb, List, [], ◌∷◌, ◌++◌, map, Option, Some, None, if◌then◌else◌}
 use Rattle.std.specs.Arc.{arc_value}
 use Rattle.std.specs.List.{list_all, list_any}
 use Rattle.kan_model.specs.Stores.Prims.{equation as pair_equation}
@@ -93,6 +93,13 @@ pub record WatchingPairs (old : Table) (es : Disequality) (k : ℕ) (new : Table
   pub entries : (j : ℕ) → found entry_list new.entries j ≡ found entry_list old.entries j
   pub listed : (x : ℕ) → is_watched_by x es ≡ true → is_among k (watching new x) ≡ true
   pub more : (x j : ℕ) → is_among j (watching old x) ≡ true → is_among j (watching new x) ≡ true
+
+-- the same, unless this variable watches
+pub record WatchingOther (old : Table) (es : Disequality) (x k : ℕ) (new : Table) : Type 0 where
+  pub next : new.next ≡ old.next
+  pub entries : (j : ℕ) → found entry_list new.entries j ≡ found entry_list old.entries j
+  pub listed : (y : ℕ) → eqb y x ≡ false → is_watched_by y es ≡ true → is_among k (watching new y) ≡ true
+  pub more : (y j : ℕ) → is_among j (watching old y) ≡ true → is_among j (watching new y) ≡ true
 
 -- another entry was put at a number, which is on the list of the variable that watches it, unless that is this one; no list lost a number
 pub record Replacing (old : Table) (k x : ℕ) (entry : List Disequality) (new : Table) : Type 0 where

@@ -3,7 +3,7 @@
 ghost use Rattle.std.specs.Prelude.{◌≡◌, ◌<◌, ◌++◌, ◌∷◌, [], ℕ, List, Some, None, IfOk, OnOk};
 ghost use Rattle.std.specs.Option.{option_map};
 ghost use Rattle.diseq.specs.Disequalities.{Disequality};
-ghost use Rattle.diseq.specs.Tables.{entry_list, number_list, numbers_below, numbers_of, or_nothing};
+ghost use Rattle.diseq.specs.Tables.{number_list, numbers_of, or_nothing};
 ghost use Rattle.kan_tree.specs.Found.{found};
 
 use kan_terms::{Memory, TermPairs};

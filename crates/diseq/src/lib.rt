@@ -2,7 +2,11 @@
 //! and is looked at again only where the variable of the first of them may have changed.
 #![tactic(auto)]
 
+mod diseqs;
 mod entries;
 pub mod laws;
+mod reading;
 mod solving;
 mod table;
+
+pub use diseqs::Diseqs;

@@ -1,13 +1,14 @@
 //! Looking again at disequalities whose variable may have changed.
 
-ghost use Rattle.std.specs.Prelude.{◌≡◌, ◌<◌, ◌&&◌, ◌∷◌, [], map, true, IfOk, OnOk};
+ghost use Rattle.std.specs.Prelude.{◌≡◌, ◌↔◌, ◌<◌, ◌&&◌, ◌∷◌, [], map, true, IfOk, IsTrue, OnOk};
 ghost use Rattle.kan_model.specs.Stores.Prims.{equation as pair_equation};
 ghost use Rattle.kan_terms.specs.Terms.{sides, tree};
 ghost use Rattle.kan_terms.specs.Tree.{Tree};
 ghost use Rattle.kan_tree.specs.Found.{found};
 ghost use Rattle.unify_core.specs.Cycles.{HasNoCycle};
-ghost use Rattle.diseq.specs.Tables.{All, AllWatched, MovedTo, Replacing, Resolved, Seen, at};
-ghost use Rattle.diseq.specs.Tables.{is_fine, is_settled, number_list, or_nothing};
+ghost use Rattle.diseq.specs.Tables.{All, AllWatched, MovedTo, Replacing, Resolved, Seen};
+ghost use Rattle.diseq.specs.Tables.{WatchingOther, at, is_fine, is_settled};
+ghost use Rattle.diseq.specs.Tables.{number_list, or_nothing};
 ghost use Rattle.diseq.specs.Watching.{is_watchable, is_watched_by};
 
 use crate::entries::{Entry, Watched};
@@ -40,8 +41,15 @@ fn is_watched(pairs: &[TermPair], var: u64) -> bool
     }
 }
 
+/// Whether unification has nothing to add, so that the sides are the same already.
+pub fn adds_nothing(added: &TermPairs) -> bool
+    ensures { IsTrue result ↔ (added.now ≡ []) }
+{
+    added.is_empty()
+}
+
 // What pairs that a variable watches say under bindings.
-#[tactic(auto, using(crate::proofs::MovedLaws::seen_never, crate::proofs::MovedLaws::seen_some))]
+#[tactic(auto, using(crate::proofs::AddLaws::seen_never, crate::proofs::AddLaws::seen_some))]
 fn solve_anew<B: Bindings>(
     alloc: Global,
     pairs: &[TermPair],
@@ -56,7 +64,7 @@ fn solve_anew<B: Bindings>(
     match would_add(alloc, pairs, bindings)? {
         None => Ok(Anew::Always),
         Some(added) => {
-            if added.is_empty() {
+            if adds_nothing(&added) {
                 return Ok(Anew::Identical);
             }
             Ok(Anew::Solved(added))
@@ -88,6 +96,25 @@ impl Table {
         }
     }
 
+    // Puts a number that is on the list of a variable on that of the one that watches the pairs.
+    #[tactic(auto, using(crate::proofs::MovedLaws::watching_same))]
+    fn watch_other(
+        &mut self,
+        alloc: Global,
+        var: u64,
+        number: u64,
+        pairs: &[TermPair],
+    ) -> Result<(), Memory>
+        ensures { OnOk result
+            (WatchingOther self.old (map pair_equation pairs.now) var number self.new) }
+    {
+        if is_watched(pairs, var) {
+            return Ok(());
+        }
+        self.watch_pairs(alloc, pairs, number)?;
+        Ok(())
+    }
+
     // Puts other pairs at a number that is on the list of a variable.
     fn replace(
         &mut self,
@@ -100,13 +127,13 @@ impl Table {
         ensures { OnOk result
             (Replacing self.old number var (map pair_equation pairs ∷ []) self.new) }
     {
-        if !is_watched(pairs.items(), var) {
-            self.watch_pairs(alloc, pairs.items(), number)?;
-        }
-        self.put(number, Entry::Differ(Arc::new(alloc, pairs)?))
+        self.watch_other(alloc, var, number, pairs.items())?;
+        self.put(number, Entry::Differ(Arc::new(alloc, pairs)?))?;
+        Ok(())
     }
 
     // Looks again at the disequality with a number. It tells whether its sides still differ.
+    #[tactic(auto, using(crate::proofs::MovedLaws::at_below))]
     fn resolve<B: Bindings>(
         &mut self,
         alloc: Global,
@@ -143,11 +170,11 @@ impl Table {
     ) -> Result<bool, Memory>
         requires { HasNoCycle (B.pairs bindings.now) }
         ensures { IfOk result (λ differs.
-            Resolved (B.pairs bindings.now) var (or_nothing (found number_list list.now.numbers place))
-            self.old self.new differs) }
+            Resolved (B.pairs bindings.now) var
+            (or_nothing (found number_list list.now.numbers place)) self.old self.new differs) }
     {
         match list.get(place) {
-            Some(number) => self.resolve(alloc, var, number, bindings),
+            Some(number) => Ok(self.resolve(alloc, var, number, bindings)?),
             None => Ok(true),
         }
     }
@@ -191,7 +218,7 @@ impl Table {
             self.old self.new differ) }
     {
         match term {
-            Term::Var(var) => self.settle_variable(alloc, *var, bindings),
+            Term::Var(var) => Ok(self.settle_variable(alloc, *var, bindings)?),
             _ => Ok(true),
         }
     }
@@ -215,7 +242,7 @@ impl Table {
         if !first {
             return Ok(false);
         }
-        self.settle(alloc, &pair.rest, bindings)
+        Ok(self.settle(alloc, &pair.rest, bindings)?)
     }
 
     /// Looks again at all disequalities that are watched by a side of an added pair. It tells

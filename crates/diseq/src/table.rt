@@ -1,7 +1,7 @@
 //! The table of disequalities: entries by their numbers, and for each variable the numbers of those
 //! that it watches.
 
-ghost use Rattle.std.specs.Prelude.{◌≡◌, ◌<◌, ◌++◌, ◌∷◌, [], ℕ, Some, None, IfOk, OnOk, map, eqb, if◌then◌else◌};
+ghost use Rattle.std.specs.Prelude.{◌≡◌, ◌<◌, ◌++◌, ◌∷◌, [], ℕ, map, IfOk, OnOk};
 ghost use Rattle.std.specs.Option.{option_map};
 ghost use Rattle.kan_model.specs.Stores.Prims.{equation as pair_equation};
 ghost use Rattle.kan_tree.specs.Found.{found};
@@ -108,14 +108,14 @@ impl Table {
     }
 
     /// Puts a number on the list of the variable that watches the pairs.
-    #[tactic(auto, using(crate::proofs::TableLaws::watching_pairs, crate::proofs::TableLaws::watching_none))]
     pub fn watch_pairs(
         &mut self,
         alloc: Global,
         pairs: &[TermPair],
         number: u64,
     ) -> Result<(), Memory>
-        ensures { OnOk result (WatchingPairs self.old (map pair_equation pairs.now) number self.new) }
+        ensures { OnOk result
+            (WatchingPairs self.old (map pair_equation pairs.now) number self.new) }
     {
         match watcher(pairs) {
             Some(var) => self.watch(alloc, var, number),

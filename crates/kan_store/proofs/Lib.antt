@@ -7,3 +7,6 @@ pub mod TagsStep
 pub mod DiffersStep
 pub mod Asserting
 pub mod MovingLaws
+pub mod StepLaws
+pub mod Observing
+pub mod Listing

@@ -3,6 +3,7 @@
 
 mod history;
 mod moving;
+mod solved;
+mod store;
 
-pub use history::History;
-pub use moving::{move_tags, move_types};
+pub use store::SolvedStore;
