@@ -1,0 +1,9 @@
+-- The disequalities that a store's primitives ask, each as one equation that must not hold.
+use Rattle.std.specs.Prelude.{List, [], ◌∷◌, map}
+use Rattle.kan_terms.specs.Tree.{Tm}
+use Rattle.kan_model.specs.Programs.Goals.{Primitive}
+use Rattle.kan_model.specs.Stores.Calls.{differences}
+use Rattle.diseq.specs.Disequalities.{Disequality}
+
+abbrev pub asked : List (Primitive Tm) → List Disequality
+asked ps = map (λ e. e ∷ []) (differences ps)

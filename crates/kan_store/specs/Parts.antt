@@ -1,0 +1,82 @@
+-- The parts of a solved store, and what each call makes of them.
+use Rattle.std.specs.Prelude.{◌≡◌, ℕ, Bool, true, false, List, [], ◌∷◌, ◌++◌, Option, Some, None}
+use Rattle.std.specs.List.{list_any}
+use Rattle.kan_terms.specs.Tree.{Tm, term_eq}
+use Rattle.kan_model.specs.Stores.Store.{Store, Equation}
+use Rattle.kan_model.specs.declared.prims.Kind.{Kind}
+use Rattle.kan_model.specs.declared.prims.Kind.TheVariants.{Symbol, Number, Text}
+use Rattle.kan_model.specs.Programs.Goals.{Primitive}
+use Rattle.unify_core.specs.Cycles.{HasNoCycle}
+use Rattle.unify_core.specs.Walking.{Pairs, walked, full}
+use Rattle.unify_core.specs.Solutions.{AddedTo, equation}
+use Rattle.unify_core.specs.Unifying.{Unifying}
+use Rattle.unify_core.specs.Laws.{added_equations}
+use Rattle.type_absence.specs.Types.{Types, GivesTypes}
+use Rattle.type_absence.specs.Absent.{TagsOf, GivesTag}
+use Rattle.diseq.specs.Disequalities.{Disequality, Brought, is_identical}
+use Rattle.diseq.specs.Watching.{are_watchable}
+use Rattle.kan_store.specs.InStep.{InStep}
+use Rattle.kan_store.specs.Moving.{TypesMove, TagsMove}
+
+-- bindings, types, absences and disequalities
+pub record Parts : Type 0 where
+  pub bound : Pairs
+  pub types : Types
+  pub tags : TagsOf
+  pub lists : List Disequality
+
+abbrev pub AreInStep : Parts → Store → Type 0
+AreInStep parts st = InStep parts.bound parts.types parts.tags parts.lists st
+
+-- two parts say the same
+pub record SameParts (old new : Parts) : Type 0 where
+  pub bound : new.bound ≡ old.bound
+  pub types : (v : ℕ) → new.types v ≡ old.types v
+  pub tags : (v : ℕ) → new.tags v ≡ old.tags v
+  pub lists : new.lists ≡ old.lists
+
+-- The parts with an equation more: its bindings are added, types and absences go over to the terms of the variables that were bound, and the
+-- disequalities are brought up to the bindings. There are none where one of these steps can't be made.
+pub data Equated (old : Parts) (a b : Tm) : Option Parts → Type 0 where
+  no_unifier : Unifying old.bound (equation a b ∷ []) None → Equated old a b None
+  no_type : {added : List (Tm × Tm)} {bound : Pairs} → Unifying old.bound (equation a b ∷ []) (Some added) → AddedTo old.bound added bound → HasNoCycle bound →
+      TypesMove bound old.types added None → Equated old a b None
+  no_absence : {added : List (Tm × Tm)} {bound : Pairs} → Unifying old.bound (equation a b ∷ []) (Some added) → AddedTo old.bound added bound → HasNoCycle bound →
+      TagsMove bound old.tags added None → Equated old a b None
+  no_difference : {added : List (Tm × Tm)} {bound : Pairs} → Unifying old.bound (equation a b ∷ []) (Some added) → AddedTo old.bound added bound → HasNoCycle bound →
+      list_any (is_identical bound) old.lists ≡ true → Equated old a b None
+  equated : {added : List (Tm × Tm)} {new : Parts} → Unifying old.bound (equation a b ∷ []) (Some added) → AddedTo old.bound added new.bound → HasNoCycle new.bound →
+      TypesMove new.bound old.types added (Some new.types) → TagsMove new.bound old.tags added (Some new.tags) →
+      list_any (is_identical new.bound) old.lists ≡ false → Brought new.bound old.lists new.lists → are_watchable new.bound new.lists ≡ true → Equated old a b (Some new)
+
+-- the parts with a type more
+pub data Typing (old : Parts) (kind : Kind) (t : Tm) : Option Parts → Type 0 where
+  not_typed : GivesTypes old.types kind (walked old.bound t) None → Typing old kind t None
+  typed : {types : Types} → GivesTypes old.types kind (walked old.bound t) (Some types) → Typing old kind t (Some (record old { types = types }))
+
+-- the parts with an absence more
+pub data Keeping (old : Parts) (tag : ℕ) (t : Tm) : Option Parts → Type 0 where
+  not_kept : GivesTag old.tags tag (full old.bound t) None → Keeping old tag t None
+  kept : {tags : TagsOf} → GivesTag old.tags tag (full old.bound t) (Some tags) → Keeping old tag t (Some (record old { tags = tags }))
+
+-- the parts with a disequality more
+pub data Differing (old : Parts) (a b : Tm) : Option Parts → Type 0 where
+  identical : term_eq (full old.bound a) (full old.bound b) ≡ true → Differing old a b None
+  differs : {lists : List Disequality} → term_eq (full old.bound a) (full old.bound b) ≡ false → Brought old.bound (old.lists ++ (equation a b ∷ []) ∷ []) lists →
+      are_watchable old.bound lists ≡ true → Differing old a b (Some (record old { lists = lists }))
+
+-- what is left of disequalities, each solved anew
+pub data Resolved (bound : Pairs) : List Disequality → List (List Equation) → Type 0 where
+  none_left : Resolved bound [] []
+  still : {es : Disequality} {more : List Disequality} {added : List (Tm × Tm)} {lists : List (List Equation)} →
+      Unifying bound es (Some added) → Resolved bound more lists → Resolved bound (es ∷ more) (added_equations added ∷ lists)
+  gone : {es : Disequality} {more : List Disequality} {lists : List (List Equation)} → Unifying bound es None → Resolved bound more lists → Resolved bound (es ∷ more) lists
+
+-- the parts with a primitive more
+abbrev pub Adding : Parts → Primitive Tm → Option Parts → Type 0
+Adding old (Primitive.same a b) r = Equated old a b r
+Adding old (Primitive.differ a b) r = Differing old a b r
+Adding old (Primitive.symbol t) r = Typing old Symbol t r
+Adding old (Primitive.number t) r = Typing old Number t r
+Adding old (Primitive.text t) r = Typing old Text t r
+Adding old (Primitive.absent tag t) r = Keeping old tag t r

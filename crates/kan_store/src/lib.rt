@@ -1,0 +1,9 @@
+//! The solved store: bindings, types, absences and disequalities in step with what was asserted.
+#![tactic(auto)]
+
+mod history;
+mod moving;
+mod solved;
+mod store;
+
+pub use store::SolvedStore;

@@ -1,0 +1,13 @@
+pub mod ShapeLaws
+pub mod NamingLaws
+pub mod TextLaws
+pub mod WalkingLaws
+pub mod KindLaws
+pub mod FreeLaws
+pub mod OrderLaws
+pub mod AbsenceLaws
+pub mod RankLaws
+pub mod FittingLaws
+pub mod KeepLaws
+pub mod ChooseLaws
+pub mod AnswerLaws

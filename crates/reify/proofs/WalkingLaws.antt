@@ -1,0 +1,68 @@
+-- What the letters of a walked term are, and of the terms that wait on a stack.
+use Rattle.std.proofs.Common.{◌≡◌, ◌<◌, List, [], ◌∷◌, ◌++◌, length, sym, ◌∙◌, ap, append_assoc, append-nil, arith}
+use Rattle.std.specs.Borrow.{Bor}
+use Rattle.kan_terms.specs.Tree.{Tree, Tm}
+use Rattle.kan_terms.specs.Terms.{tree}
+use Rattle.kan_terms.specs.declared.terms.Term.{Term}
+use Rattle.kan_model.specs.Stores.Solve.{Replacement, apply, image}
+use Rattle.kan_model.specs.Stores.Calls.{WalksTo, IsFoundFor}
+use Rattle.kan_model.specs.Terms.Letters.{spelling, letter_of}
+use Rattle.kan_model.specs.declared.letters.Letter.{Letter}
+use Rattle.reify.specs.Walking.{waiting_under, spelled_under}
+
+-- a term put on top is spelled first
+waiting_under-push : (s : Replacement) (ts : List (Bor Term)) (t : Bor Term) → waiting_under s (ts ++ t ∷ []) ≡ spelling (apply s (tree t.now)) ++ waiting_under s ts
+waiting_under-push s [] t = sym (append-nil (spelling (apply s (tree t.now))))
+waiting_under-push s (u ∷ ts) t = rw (waiting_under-push s ts t) (append_assoc (spelling (apply s (tree t.now))) (waiting_under s ts) (spelling (apply s (tree u.now))))
+
+-- the two parts of a pair put on the stack
+pub parts_wait : (s : Replacement) (old middle new : List (Bor Term)) (a b : Bor Term) (t : Tm) →
+    middle ≡ old ++ b ∷ [] → new ≡ middle ++ a ∷ [] → t ≡ Tree.pair (tree a.now) (tree b.now) →
+    letter_of t ∷ waiting_under s new ≡ spelled_under s t ++ waiting_under s old
+parts_wait s old middle new a b t first second pair =
+    rw (pair, second, waiting_under-push, first, waiting_under-push, append_assoc)
+
+-- what was found for an image spells it
+found_spells : (s : Replacement) (u w : Tm) → IsFoundFor s u w → spelled_under s w ≡ spelling u
+found_spells s (Tree.leaf x) w found = ap (spelled_under s) found
+found_spells s (Tree.sym x) w found = ap (spelled_under s) found
+found_spells s (Tree.str x) w found = ap (spelled_under s) found
+found_spells s (Tree.num n) w found = ap (spelled_under s) found
+found_spells s (Tree.truth b) w found = ap (spelled_under s) found
+found_spells s Tree.nil w found = ap (spelled_under s) found
+found_spells s (Tree.pair a b) (Tree.pair c d) found = ap spelling found
+found_spells s (Tree.pair a b) (Tree.leaf x) found = absurd found
+found_spells s (Tree.pair a b) (Tree.sym x) found = absurd found
+found_spells s (Tree.pair a b) (Tree.str x) found = absurd found
+found_spells s (Tree.pair a b) (Tree.num x) found = absurd found
+found_spells s (Tree.pair a b) (Tree.truth x) found = absurd found
+found_spells s (Tree.pair a b) Tree.nil found = absurd found
+
+-- what a term is walked to spells the term under the answer
+walked_spells : (s : Replacement) (t w : Tm) → WalksTo s t w → spelled_under s w ≡ spelling (apply s t)
+walked_spells s (Tree.leaf v) w found = found_spells s (image s v) w found
+walked_spells s (Tree.sym x) w found = ap (spelled_under s) found
+walked_spells s (Tree.str x) w found = ap (spelled_under s) found
+walked_spells s (Tree.num n) w found = ap (spelled_under s) found
+walked_spells s (Tree.truth b) w found = ap (spelled_under s) found
+walked_spells s Tree.nil w found = ap (spelled_under s) found
+walked_spells s (Tree.pair a b) w found = ap (spelled_under s) found
+
+-- a walked term's letter written, and its parts put on the stack
+pub walked_step : (s : Replacement) (letters longer : List Letter) (x : Letter) (old rest new : List (Bor Term)) (t : Bor Term) (w : Tm) (whole : List Letter) →
+    old ≡ rest ++ t ∷ [] → WalksTo s (tree t.now) w → x ≡ letter_of w → longer ≡ letters ++ x ∷ [] →
+    letter_of w ∷ waiting_under s new ≡ spelled_under s w ++ waiting_under s rest →
+    letters ++ waiting_under s old ≡ whole → longer ++ waiting_under s new ≡ whole
+walked_step s letters longer x old rest new t w whole split walks first grown parts kept =
+    ap (λ l. l ++ waiting_under s new) grown ∙ append_assoc letters (x ∷ []) (waiting_under s new) ∙ ap (λ y. letters ++ (y ∷ waiting_under s new)) first
+    ∙ ap (λ l. letters ++ l) (parts ∙ ap (λ l. l ++ waiting_under s rest) (walked_spells s (tree t.now) w walks) ∙ sym (waiting_under-push s rest t))
+    ∙ ap (λ l. letters ++ waiting_under s l) (sym split) ∙ kept
+
+-- then fewer letters wait
+pub walked_fewer : (s : Replacement) (old rest new : List (Bor Term)) (t : Bor Term) (w : Tm) →
+    old ≡ rest ++ t ∷ [] → WalksTo s (tree t.now) w → letter_of w ∷ waiting_under s new ≡ spelled_under s w ++ waiting_under s rest →
+    length (waiting_under s new) < length (waiting_under s old)
+walked_fewer s old rest new t w split walks parts =
+    let same : length (letter_of w ∷ waiting_under s new) ≡ length (waiting_under s old) =
+    ap length (parts ∙ ap (λ l. l ++ waiting_under s rest) (walked_spells s (tree t.now) w walks) ∙ sym (waiting_under-push s rest t) ∙ ap (waiting_under s) (sym split)) in
+    omega (arith, same)

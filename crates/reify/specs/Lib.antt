@@ -1,0 +1,14 @@
+pub mod Shapes
+pub mod Meaning
+pub mod Printing
+pub mod Constraints
+pub mod Naming
+pub mod Walking
+pub mod Typing
+pub mod Ordering
+pub mod Absences
+pub mod Forms
+pub mod Fitting
+pub mod Keeping
+pub mod Choosing
+pub mod Writing

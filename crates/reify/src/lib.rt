@@ -1,0 +1,24 @@
+//! Answers of stores: the query's term with its variables named, what is left of the constraints,
+//! and their text.
+#![tactic(auto)]
+
+mod absences;
+mod answering;
+mod answers;
+mod choosing;
+mod constraints;
+mod fitting;
+mod forms;
+mod keeping;
+mod naming;
+mod ordering;
+mod printing;
+mod shaping;
+mod typing;
+mod walking;
+mod writing;
+
+pub use answering::answer_of;
+pub use answers::Answer;
+pub use constraints::print_answer;
+pub use shaping::{NamePair, NamePairs, Shape, Shapes};
