@@ -3,3 +3,4 @@ pub mod KeptLaws
 pub mod OwnValues
 pub mod SolutionLaws
 pub mod SolvedLaws
+pub mod TakenLaws

@@ -1,1 +1,2 @@
 pub mod KeptStores
+pub mod TakenStores

@@ -1,9 +1,15 @@
 //! Laws of the definitions. Each function has its law for its contract, and does nothing.
 
 ghost use Rattle.kan_meaning.specs.KeptStores.{KeptHasSolution};
+ghost use Rattle.kan_meaning.specs.TakenStores.{TakenAreSolutions};
 
 /// A store whose counter lies above its variables is kept exactly where it has a solution.
 #[tactic(auto, using(crate::proofs::KeptLaws::kept_has_solution))]
 pub fn kept_stores_have_solutions()
     ensures { KeptHasSolution }
+{}
+
+/// Each store that a run takes has only solutions at which the run's goal has a derivation.
+pub fn taken_stores_have_solutions_of_the_run()
+    ensures { TakenAreSolutions }
 {}
