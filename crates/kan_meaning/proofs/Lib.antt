@@ -1,5 +1,8 @@
+pub mod Chosen
+pub mod CoveredSolutions
 pub mod Grounds
 pub mod KeptLaws
+pub mod NamedValues
 pub mod OwnValues
 pub mod SolutionLaws
 pub mod SolvedLaws

@@ -1,5 +1,6 @@
 //! Laws of the definitions. Each function has its law for its contract, and does nothing.
 
+ghost use Rattle.kan_meaning.specs.Instances.{SolutionsAreCovered};
 ghost use Rattle.kan_meaning.specs.KeptStores.{KeptHasSolution};
 ghost use Rattle.kan_meaning.specs.TakenStores.{TakenAreSolutions};
 
@@ -12,4 +13,9 @@ pub fn kept_stores_have_solutions()
 /// Each store that a run takes has only solutions at which the run's goal has a derivation.
 pub fn taken_stores_have_solutions_of_the_run()
     ensures { TakenAreSolutions }
+{}
+
+/// The answer of a kept store covers the value of variable 0 under each of its solutions.
+pub fn answers_cover_solutions()
+    ensures { SolutionsAreCovered }
 {}
