@@ -3,7 +3,9 @@ pub mod CoveredSolutions
 pub mod Grounds
 pub mod KeptLaws
 pub mod NamedValues
+pub mod OwnForms
 pub mod OwnValues
 pub mod SolutionLaws
 pub mod SolvedLaws
 pub mod TakenLaws
+pub mod Weaker
