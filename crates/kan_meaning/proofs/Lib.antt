@@ -1,11 +1,13 @@
 pub mod Chosen
 pub mod CoveredSolutions
+pub mod FreeSolutions
 pub mod Grounds
 pub mod KeptLaws
 pub mod NamedValues
 pub mod OwnForms
 pub mod OwnValues
 pub mod SolutionLaws
+pub mod SolvedInstances
 pub mod SolvedLaws
 pub mod TakenLaws
 pub mod Weaker

@@ -93,9 +93,10 @@ pub stronger_holds : (f : ℕ → Gd) (a b : Replacement) → implies a b ≡ tr
 stronger_holds f [] b h holds = tt
 stronger_holds f (p ∷ a) b h holds =
     let (first, rest) = and_parts (term_eq (apply b (Tree.leaf p.var)) (apply b p.by)) (implies a b) h in
-    let factors = holding_factors f b holds in
-    (sym (fill-apply f b factors (Tree.leaf p.var)) ∙ ap (fill f) (term_eq-true (apply b (Tree.leaf p.var)) (apply b p.by) first) ∙ fill-apply f b factors p.by,
-    stronger_holds f a b rest holds)
+    let factors = holding_factors f b holds in (
+      sym (fill-apply f b factors (Tree.leaf p.var)) ∙ ap (fill f) (term_eq-true (apply b (Tree.leaf p.var)) (apply b p.by) first) ∙ fill-apply f b factors p.by,
+      stronger_holds f a b rest holds,
+    )
 
 -- where each form that isn't weaker than another has a pair that doesn't hold, each form has one
 pub weaker_follow : (f : ℕ → Gd) (forms : List Replacement) → Each (λ g. is_weaker forms g ≡ false → Each (PairHolds f) g → ⊥) forms → Each (λ g. Each (PairHolds f) g → ⊥) forms

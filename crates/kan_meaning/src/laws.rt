@@ -1,6 +1,6 @@
 //! Laws of the definitions. Each function has its law for its contract, and does nothing.
 
-ghost use Rattle.kan_meaning.specs.Instances.{SolutionsAreCovered};
+ghost use Rattle.kan_meaning.specs.Instances.{InstancesAreValues, SolutionsAreCovered};
 ghost use Rattle.kan_meaning.specs.KeptStores.{KeptHasSolution};
 ghost use Rattle.kan_meaning.specs.TakenStores.{TakenAreSolutions};
 
@@ -18,4 +18,9 @@ pub fn taken_stores_have_solutions_of_the_run()
 /// The answer of a kept store covers the value of variable 0 under each of its solutions.
 pub fn answers_cover_solutions()
     ensures { SolutionsAreCovered }
+{}
+
+/// Its instances are exactly these values, where the store's counter lies above its variables.
+pub fn instances_are_the_values()
+    ensures { InstancesAreValues }
 {}
