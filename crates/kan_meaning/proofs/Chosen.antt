@@ -3,7 +3,7 @@ use Rattle.std.proofs.Common.{◌≡◌, ℕ, suc, ◌+◌, Bool, true, false, n
 use Rattle.std.specs.List.{list_all}
 use Rattle.std.proofs.lemmas.Bool.{and_from, and_parts, or_cases, or_left, or_right, eq-eqb, eqb-true, both_ways, not-false, true≢false}
 use Rattle.std.proofs.lemmas.List.{length_push}
-use Rattle.kan_terms.specs.Tree.{Tree, Tm, Gd, leaves}
+use Rattle.kan_terms.specs.Tree.{Tm, Gd, leaves}
 use Rattle.kan_terms.specs.Valuations.{value_at}
 use Rattle.kan_model.specs.Answers.Answer.{named_variables, names_where}
 use Rattle.kan_model.specs.Answers.Order.{each_once, put_in_order, in_order, place_of, stands_in}

@@ -1,25 +1,24 @@
 -- The answer of a kept store covers the values of variable 0 under its solutions.
 use Rattle.std.proofs.Common.{◌≡◌, ℕ, Bool, true, false, ◌&&◌, not, eqb, List, [], ◌∷◌, map, filter, Option, Some, None, inl, inr, refl, sym, ap, subst, ◌∙◌, unwrap_or}
-use Rattle.std.specs.List.{list_all, list_any}
+use Rattle.std.specs.List.{list_all}
 use Rattle.std.proofs.lemmas.Bool.{and_from, and_parts, or_cases, eqb-true, both_ways, not-true, not_from_false, false_from_ne_true, true≢false}
 use Rattle.kan_terms.specs.Table.{Table}
-use Rattle.kan_terms.specs.Tree.{Tree, Tm, Gd, fill, occurs, has_symbol, ground_eq}
+use Rattle.kan_terms.specs.Tree.{Tm, Gd, occurs, has_symbol, ground_eq}
 use Rattle.kan_terms.specs.Valuations.{value_at, value}
 use Rattle.kan_terms.proofs.TreeLaws.{occurs-leaves, leaves-has_symbol}
-use Rattle.kan_model.specs.Answers.Answer.{Absence, named_variables, solved_form, in_rank, ranks_lower, all_named, can_be_equal, if_written, and_form, forms_of, is_weaker, same_form, strongest, form_in_names, names_where, keeps_out, has_absence, may_have_tag, tags_of, absence_of, has_names, tag_le, absences_of}
+use Rattle.kan_model.specs.Answers.Answer.{named_variables, solved_form, in_rank, ranks_lower, all_named, can_be_equal, if_written, and_form, forms_of, is_weaker, same_form, strongest, form_in_names, names_where, keeps_out, has_absence, may_have_tag, tags_of, absence_of, has_names, tag_le, absences_of}
 use Rattle.kan_model.specs.Answers.AnswerText.{difference_le, answer_under, answer_by, answer_of}
-use Rattle.kan_model.specs.Answers.Covers.{pair_met, difference_met, absence_met, meets, Covers}
+use Rattle.kan_model.specs.Answers.Covers.{pair_met, difference_met, absence_met, Covers}
 use Rattle.kan_model.specs.Answers.Order.{each_once, in_order}
 use Rattle.kan_model.specs.Meaning.Holds.{is_symbol, is_number, is_string, holds_at}
 use Rattle.kan_model.specs.Programs.Goals.{Primitive}
-use Rattle.kan_model.specs.Stores.Kept.{has_type, holds_with, is_kept}
-use Rattle.kan_model.specs.Stores.Solve.{Replaced, Replacement, image, apply, left_first, solve_store}
-use Rattle.kan_model.specs.Stores.Store.{Store, equations, Equation}
+use Rattle.kan_model.specs.Stores.Kept.{has_type, holds_with}
+use Rattle.kan_model.specs.Stores.Solve.{Replacement, image, apply, left_first, solve_store}
+use Rattle.kan_model.specs.Stores.Store.{Store, equations}
 use Rattle.kan_model.specs.Stores.Unifiers.{Factors}
 use Rattle.kan_model.specs.declared.prims.Kind.TheVariants.{Symbol, Number, Text}
-use Rattle.kan_model.proofs.ListLaws.{Each, Each-like, Each-all, Each-map, Each-filter, Each-each_once, Each-in_order, list_all-from_Each, Each-from_list_all}
+use Rattle.kan_model.proofs.ListLaws.{Each, Each-all, Each-map, Each-filter, Each-each_once, Each-in_order, list_all-from_Each, Each-from_list_all}
 use Rattle.kan_model.proofs.Solving.UnifierLaws.{factors_unify}
-use Rattle.pull_bounds.specs.Finding.{IsSolvedAt}
 use Rattle.store_laws.proofs.OneForm.{through_answer}
 use Rattle.kan_meaning.specs.Instances.{SolutionsAreCovered}
 use Rattle.kan_meaning.proofs.Chosen.{Each-from_in_order, variables_named, value_at-place, values_pass}

@@ -1,11 +1,11 @@
 -- Terms and forms over named variables, under values for the names.
-use Rattle.std.proofs.Common.{◌≡◌, ℕ, Bool, true, ◌&&◌, eqb, List, [], ◌∷◌, map, refl, sym, ap₂, subst, ◌∙◌, if◌then◌else◌, false}
+use Rattle.std.proofs.Common.{◌≡◌, ℕ, Bool, true, ◌&&◌, eqb, List, [], ◌∷◌, refl, sym, ap₂, subst, ◌∙◌, if◌then◌else◌, false}
 use Rattle.std.specs.List.{list_all}
 use Rattle.std.proofs.lemmas.Bool.{and_from, and_parts, eqb-true}
 use Rattle.std.proofs.lemmas.List.Folds.{list_all-append}
 use Rattle.kan_terms.specs.Tree.{Tree, Tm, Gd, fill, leaves}
 use Rattle.kan_terms.specs.Valuations.{value_at, value}
-use Rattle.kan_model.specs.Answers.Answer.{NamedPair, in_names, all_named, form_in_names}
+use Rattle.kan_model.specs.Answers.Answer.{in_names, all_named, form_in_names}
 use Rattle.kan_model.specs.Answers.Covers.{pair_met}
 use Rattle.kan_model.specs.Answers.Order.{place_of, stands_in}
 use Rattle.kan_model.specs.Stores.Solve.{Replaced, Replacement, image}

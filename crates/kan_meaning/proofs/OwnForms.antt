@@ -1,7 +1,7 @@
 -- A form that mentions an unnamed variable doesn't hold where unnamed variables have values of their own.
-use Rattle.std.proofs.Common.{◌≡◌, ℕ, zero, suc, ◌+◌, ◌<◌, ◌≤◌, max, Bool, true, false, ◌&&◌, not, eqb, pos, List, [], ◌∷◌, length, Option, Some, None, refl, sym, ap, subst, ◌∙◌, arith, if◌then◌else◌}
+use Rattle.std.proofs.Common.{◌≡◌, ℕ, zero, suc, ◌+◌, ◌<◌, ◌≤◌, max, Bool, true, false, ◌&&◌, eqb, List, [], ◌∷◌, length, refl, sym, ap, ◌∙◌, arith, if◌then◌else◌}
 use Rattle.std.specs.List.{list_all}
-use Rattle.std.proofs.lemmas.Bool.{and_from, and_parts, eq-eqb, eqb-true, both_ways, true≢false}
+use Rattle.std.proofs.lemmas.Bool.{and_from, eq-eqb}
 use Rattle.std.proofs.lemmas.List.Folds.{list_all-append}
 use Rattle.kan_terms.specs.Tree.{Tree, Tm, Gd, fill, leaves}
 use Rattle.kan_terms.specs.Valuations.{value_at}
@@ -13,7 +13,7 @@ use Rattle.kan_model.specs.declared.prims.Kind.{Kind}
 use Rattle.kan_model.specs.declared.prims.Kind.TheVariants.{Symbol, Number, Text}
 use Rattle.kan_model.proofs.Answering.NameLaws.{place_below}
 use Rattle.kan_model.proofs.Answering.SolvedForms.{Rises, Rising, Once}
-use Rattle.kan_model.proofs.ListLaws.{Each, Each-like, Each-both, list_all-from_Each}
+use Rattle.kan_model.proofs.ListLaws.{Each, Each-like, Each-both}
 use Rattle.kan_meaning.proofs.NamedValues.{PairHolds, pair_named}
 use Rattle.kan_meaning.proofs.OwnValues.{own_of, own, above_atoms}
 

@@ -1,13 +1,13 @@
 -- Each instance of the answer of a kept store is the value of variable 0 under a solution of the store.
-use Rattle.std.proofs.Common.{◌≡◌, ℕ, suc, ◌+◌, ◌<◌, ◌≤◌, max, Bool, true, false, ◌&&◌, not, eqb, nat_lt, List, [], ◌∷◌, ◌++◌, length, map, filter, Option, Some, None, inl, inr, refl, sym, ap, ap₂, subst, ◌∙◌, arith, unwrap_or}
-use Rattle.std.specs.List.{list_all, list_any}
-use Rattle.std.proofs.lemmas.Bool.{and_from, and_parts, or_cases, eqb-true, ltb-false, both_ways, not-true, not-false, not_from_false, false_from_ne_true, true≢false}
+use Rattle.std.proofs.Common.{◌≡◌, ℕ, ◌+◌, ◌<◌, ◌≤◌, max, Bool, true, false, ◌&&◌, not, eqb, nat_lt, List, [], ◌∷◌, ◌++◌, length, map, filter, Option, Some, None, inl, inr, refl, sym, ap, ap₂, subst, ◌∙◌, arith, unwrap_or}
+use Rattle.std.specs.List.{list_all}
+use Rattle.std.proofs.lemmas.Bool.{and_from, and_parts, or_cases, eqb-true, ltb-false, both_ways, not-true, not-false, false_from_ne_true, true≢false}
 use Rattle.std.proofs.lemmas.List.Folds.{list_all-append}
 use Rattle.kan_terms.specs.Table.{Table}
 use Rattle.kan_terms.specs.Tree.{Tree, Tm, Gd, fill, occurs, has_symbol, term_eq}
 use Rattle.kan_terms.specs.Valuations.{value_at, value}
 use Rattle.kan_terms.proofs.TreeLaws.{term_eq-true}
-use Rattle.kan_model.specs.Answers.Answer.{Absence, named_variables, solved_form, in_rank, rank, ranks_lower, all_named, is_no_difference, can_be_equal, if_written, and_form, forms_of, is_weaker, same_pair, same_form, strongest, form_in_names, in_names, names_where, keeps_out, has_absence, may_have_tag, tags_of, absence_of, has_names, tag_le, absences_of}
+use Rattle.kan_model.specs.Answers.Answer.{named_variables, solved_form, in_rank, rank, ranks_lower, all_named, is_no_difference, can_be_equal, if_written, and_form, forms_of, is_weaker, same_pair, same_form, strongest, form_in_names, in_names, names_where, has_absence, may_have_tag, tags_of, absence_of, has_names, tag_le, absences_of}
 use Rattle.kan_model.specs.Answers.AnswerText.{difference_le, answer_under, answer_by, answer_of}
 use Rattle.kan_model.specs.Answers.Covers.{pair_met, difference_met, absence_met, meets, Covers}
 use Rattle.kan_model.specs.Answers.Order.{each_once, in_order, place_of, stands_in}
@@ -17,7 +17,6 @@ use Rattle.kan_model.specs.Programs.Scope.{all_below, sides_below, is_counted}
 use Rattle.kan_model.specs.Stores.Kept.{allows, has_type, gives_one_type, holds_under, holds_with, is_kept}
 use Rattle.kan_model.specs.Stores.Solve.{Replaced, Replacement, image, apply, left_first, Solves, solve_by, solve_store}
 use Rattle.kan_model.specs.Stores.Store.{Store, Equation, equations}
-use Rattle.kan_model.specs.Stores.Unifiers.{Factors}
 use Rattle.kan_model.specs.declared.prims.Kind.{Kind}
 use Rattle.kan_model.specs.declared.prims.Kind.TheVariants.{Symbol, Number, Text}
 use Rattle.kan_model.proofs.Answering.SolvedForms.{rank-one, Once, Solves-once}
@@ -35,13 +34,13 @@ use Rattle.kan_meaning.proofs.Grounds.{ground_same, is_of, symbol_or_number, sym
 use Rattle.kan_meaning.proofs.KeptLaws.{kept_has_solution}
 use Rattle.kan_meaning.proofs.NamedValues.{PairHolds, Agrees, value-named, hold_met}
 use Rattle.kan_meaning.proofs.OwnForms.{free_values, named-free, own-free, above_values, above_terms, factors_hold, holding_named}
-use Rattle.kan_meaning.proofs.OwnValues.{own_of, own, own_apart, first-length, first_at}
+use Rattle.kan_meaning.proofs.OwnValues.{own_of, own_apart, first-length, first_at}
 use Rattle.kan_meaning.proofs.SolutionLaws.{unifies, of_type, solved_is_kept}
-use Rattle.kan_meaning.proofs.SolvedLaws.{kind_by, bound_of, bound_all, each_equal}
+use Rattle.kan_meaning.proofs.SolvedLaws.{kind_by, bound_all, each_equal}
 use Rattle.kan_meaning.proofs.Weaker.{weaker_follow}
 
 -- equal forms are the same
-same_form-true : (g h : Replacement) → same_form g h ≡ true → g ≡ h
+pub same_form-true : (g h : Replacement) → same_form g h ≡ true → g ≡ h
 same_form-true [] [] e = refl
 same_form-true [] (q ∷ h) e = absurd (true≢false (sym e))
 same_form-true (p ∷ g) [] e = absurd (true≢false (sym e))
@@ -54,10 +53,10 @@ same_form-true (p ∷ g) (q ∷ h) e =
     same p q e k = λ i. record { var = e i; by = k i }
 
 -- a solved form replaces each variable once
-abbrev sides : Replacement → Tm → Tm → List Equation
+abbrev pub sides : Replacement → Tm → Tm → List Equation
 sides s a b = record { left = apply s a; right = apply s b } ∷ []
 
-form_once : (vs : List ℕ) (es : List Equation) (g : Replacement) → solve_by (ranks_lower vs) es ≡ Some g → Once g
+pub form_once : (vs : List ℕ) (es : List Equation) (g : Replacement) → solve_by (ranks_lower vs) es ≡ Some g → Once g
 form_once vs es g h = by (solve_by (ranks_lower vs) es) (solve_by-Solves (ranks_lower vs) es) h
   where
     by : (q : Option Replacement) → Solves (ranks_lower vs) es q → q ≡ Some g → Once g
@@ -65,7 +64,7 @@ form_once vs es g h = by (solve_by (ranks_lower vs) es) (solve_by-Solves (ranks_
     by (Some g') d h = let same : g' ≡ g = cc in subst Once same (Solves-once (ranks_lower vs) es (Some g') d)
 
 -- a number above the atoms of the terms of all forms
-abbrev form_above : Option Replacement → ℕ
+abbrev pub form_above : Option Replacement → ℕ
 form_above None = 0
 form_above (Some g) = above_terms g
 

@@ -1,5 +1,5 @@
 -- Each store that a run takes has only solutions at which the run's goal has a derivation.
-use Rattle.std.proofs.Common.{◌≡◌, ℕ, zero, suc, Bool, true, false, List, [], ◌∷◌, ◌++◌, length, map, Option, Some, None, slice_get, Contains, refl, sym, ap, ap₂, subst, ◌∙◌, arith}
+use Rattle.std.proofs.Common.{◌≡◌, ℕ, zero, suc, Bool, true, false, List, [], ◌∷◌, ◌++◌, length, map, Option, Some, None, slice_get, refl, sym, ap, ap₂, subst, ◌∙◌}
 use Rattle.std.specs.List.{list_all}
 use Rattle.std.proofs.lemmas.Bool.{and_parts}
 use Rattle.std.proofs.lemmas.List.{map-append}
@@ -13,11 +13,12 @@ use Rattle.kan_model.specs.Stores.Kept.{is_kept}
 use Rattle.kan_model.specs.Stores.Store.{Store, bare, with_prim, with_fresh}
 use Rattle.kan_model.specs.Streams.Running.{Arguments, assert, variables, instance, instances, name_pairs, named_store, run, enter, force, start}
 use Rattle.kan_model.specs.Streams.Stream.{Stream, Thunk, one, empty, append, append_each, bind_all}
-use Rattle.kan_model.specs.Streams.Taking.{Taken, Ending, nothing_more, with_pull, give, take, take_query}
+use Rattle.kan_model.specs.Streams.Taking.{take_query}
 use Rattle.kan_model.proofs.ListLaws.{Each}
 use Rattle.kan_model.proofs.Meaning.DerivationLaws.{test_from-Derives}
 use Rattle.pull_bounds.proofs.Longer.{values-instances, holds-instance}
 use Rattle.kan_meaning.proofs.Grounds.{same_ground}
+use Rattle.kan_meaning.proofs.Taking.{one_of_each, take_each}
 use Rattle.kan_meaning.specs.TakenStores.{TakenAreSolutions}
 
 -- all primitives of a store hold under a valuation
@@ -144,30 +145,11 @@ module _ (program : Program) where
   force_means P (Thunk.swap s i) (h, behind) = append_means P s (force program i) h (force_means P i behind)
   force_means P (Thunk.bind g env i) h = bind_means P g env (run_means g env) (force program i) (force_means (Behind P g env) i h)
 
-  give_means : (P : List Gd → Type 0) (others : Option ℕ → Taken) → ((l : Option ℕ) → Each (StoreMeans P) (others l).stores) → (hs : List Store) (l : Option ℕ) →
-      Each (StoreMeans P) hs → Each (StoreMeans P) (give others hs l).stores
-  give_means P others rest hs (Some zero) h = tt
-  give_means P others rest [] None h = rest None
-  give_means P others rest [] (Some (suc n)) h = rest (Some (suc n))
-  give_means P others rest (st ∷ hs) None (first, h) = (first, give_means P others rest hs None h)
-  give_means P others rest (st ∷ hs) (Some (suc n)) (first, h) = (first, give_means P others rest hs (Some n) h)
-
-  take_means : (P : List Gd → Type 0) (f : ℕ) (s : Stream) (l : Option ℕ) → StreamMeans s P → Each (StoreMeans P) (take program f s l).stores
-  take_means P zero (Stream.ends hs) l h = give_means P (λ rest. nothing_more Ending.end) (λ m. tt) hs l h
-  take_means P zero (Stream.goes_on hs i) l (h, behind) = give_means P (λ rest. nothing_more Ending.fuel) (λ m. tt) hs l h
-  take_means P (suc f) (Stream.ends hs) l h = give_means P (λ rest. nothing_more Ending.end) (λ m. tt) hs l h
-  take_means P (suc f) (Stream.goes_on hs i) l (h, behind) =
-      give_means P (λ rest. with_pull (take program f (force program i) rest)) (λ m. take_means P f (force program i) m (force_means P i behind)) hs l h
-
--- what holds of each store holds of one of them
-one_means : (P : List Gd → Type 0) (hs : List Store) (st : Store) → Each (StoreMeans P) hs → Contains hs st → StoreMeans P st
-one_means P [] st h (k, within, is) = absurd (omega (arith, within))
-one_means P (first ∷ hs) st (means, h) (zero, within, is) = subst (StoreMeans P) is means
-one_means P (first ∷ hs) st (means, h) (suc k, within, is) = one_means P hs st h (k, omega (arith, within), is)
-
 pub taken_are_solutions : TakenAreSolutions
 taken_are_solutions program q fuel st us there (long, all) =
-    one_means (λ vs. IsRunSolution program q.goal (value_at vs 0)) (take_query program fuel q).stores st
-    (take_means program (λ vs. IsRunSolution program q.goal (value_at vs 0)) fuel (start q.goal) q.limit
-    (run_means program q.goal (Tree.leaf 0 ∷ []) (λ vs. IsRunSolution program q.goal (value_at vs 0)) (bare 1)
-    (λ vs h d below. (d, test_from-Derives program q.goal (value_at vs 0 ∷ []) d below)))) there us all
+    one_of_each (StoreMeans Solves) (take_query program fuel q).stores st
+    (take_each program (StoreMeans Solves) (λ s. StreamMeans program s Solves) (λ hs h. h) (λ hs i (h, behind). (h, force_means program Solves i behind)) fuel (start q.goal) q.limit
+    (run_means program q.goal (Tree.leaf 0 ∷ []) Solves (bare 1) (λ vs h d below. (d, test_from-Derives program q.goal (value_at vs 0 ∷ []) d below)))) there us all
+  where
+    Solves : List Gd → Type 0
+    Solves vs = IsRunSolution program q.goal (value_at vs 0)

@@ -1,13 +1,12 @@
 -- Each disequality that is left out since another one implies it is implied by one that is written.
 use Rattle.std.proofs.Common.{◌≡◌, ◌⊎◌, ℕ, Bool, true, false, ◌&&◌, not, eqb, List, [], ◌∷◌, inl, inr, refl, sym, ap, subst, ◌∙◌, if◌then◌else◌}
-use Rattle.std.specs.List.{list_all, list_any}
+use Rattle.std.specs.List.{list_any}
 use Rattle.std.proofs.lemmas.Bool.{and_from, and_parts, eqb-true, or_from, both_ways, not-true, not_from_false, false_from_ne_true}
-use Rattle.kan_terms.specs.Tree.{Tree, Tm, Gd, fill, term_eq}
+use Rattle.kan_terms.specs.Tree.{Tree, Gd, fill, term_eq}
 use Rattle.kan_terms.proofs.TreeLaws.{eq-term_eq, term_eq-true}
 use Rattle.kan_model.specs.Answers.Answer.{implies, is_weaker}
-use Rattle.kan_model.specs.Stores.Solve.{Replaced, Replacement, image, apply}
-use Rattle.kan_model.specs.Stores.Unifiers.{Factors}
-use Rattle.kan_model.proofs.ListLaws.{Each, list_all-from_Each, Each-from_list_all}
+use Rattle.kan_model.specs.Stores.Solve.{Replacement, image, apply}
+use Rattle.kan_model.proofs.ListLaws.{Each}
 use Rattle.kan_model.proofs.Solving.UnifierLaws.{fill-apply}
 use Rattle.kan_meaning.proofs.NamedValues.{PairHolds, holding_factors}
 
