@@ -1,1 +1,4 @@
 pub mod AcceptingLaws
+pub mod FollowingLaws
+pub mod HoldingLaws
+pub mod ValueLaws
