@@ -6,11 +6,11 @@ use Rattle.kan_model.specs.Programs.Goals.{Goal, Relation, Program}
 use Rattle.kan_model.specs.Meaning.Holds.{holds_at}
 use Rattle.kan_model.specs.Meaning.Derivations.{Derivation, Step, steps_of, values, Derives, AreSteps}
 use Rattle.kan_model.proofs.Meaning.DerivationLaws.{Derives-from_test, test_from-Derives}
-use Rattle.ground_meaning.specs.Accepting.{Claim, claim, when, body_claim, claims_after, in_front, after_step, after_steps, Shows, AcceptedAreSteps}
+use Rattle.ground_meaning.specs.Accepting.{Claim, claim, when, body_claim, claims_after, in_front, after_steps, Shows, AcceptedAreSteps}
 
 module _ (program : Program) where
   -- no claims come of none
-  none_after : (steps : List Step) (cs : List Claim) → after_steps program steps None ≡ Some cs → ⊥
+  pub none_after : (steps : List Step) (cs : List Claim) → after_steps program steps None ≡ Some cs → ⊥
   none_after [] cs e = cc
   none_after (s ∷ ss) cs e = none_after ss cs e
 

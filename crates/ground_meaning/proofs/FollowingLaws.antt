@@ -1,23 +1,19 @@
 -- What following a step does to the claims on a stack.
-use Rattle.std.proofs.Common.{◌≡◌, ◌↔◌, ℕ, zero, suc, ◌+◌, ◌≤◌, ◌<◌, Bool, true, false, eqb, List, [], ◌∷◌, ◌++◌, length, map, take, drop, Option, Some, None, slice_get, get_or, refl, sym, ap, ap₂, subst, ◌∙◌, arith, leb-true}
-use Rattle.std.specs.Prelude.{Result, Ok, Err, IfOk, IsTrue, option_map}
+use Rattle.std.proofs.Common.{◌≡◌, ℕ, zero, suc, ◌+◌, Bool, true, false, List, [], ◌∷◌, ◌++◌, length, map, take, drop, Option, Some, None, slice_get, refl, sym, ap, ap₂, subst, ◌∙◌, leb-true}
+use Rattle.std.specs.Prelude.{Result, Ok, Err, IfOk, option_map}
 use Rattle.std.proofs.lemmas.Bool.{and_parts, eq-eqb}
 use Rattle.std.proofs.lemmas.Option.{slice_get-map}
 use Rattle.kan_terms.specs.Tree.{Gd}
-use Rattle.kan_terms.specs.Valuations.{value}
 use Rattle.kan_model.specs.Meaning.Derivations.{values}
 use Rattle.kan_model.specs.Meaning.Derivations as model
-use Rattle.kan_model.specs.Programs.Goals.{Goal, Template}
-use Rattle.kan_model.specs.Programs.Goals as goals
 use Rattle.kan_model.specs.Programs.Closed as programs
-use Rattle.kan_model.specs.Programs.Nodes.{goal_entry, relation_entry}
-use Rattle.kan_model.specs.Programs.Tables.{Tables, RelationEntry, GoalEntry, goal_at, goals_of, arguments_at, is_goal_grown, goals_grown}
+use Rattle.kan_model.specs.Programs.Nodes.{goal_entry}
+use Rattle.kan_model.specs.Programs.Tables.{RelationEntry, GoalEntry, goal_at, goals_of, is_goal_grown, goals_grown}
 use Rattle.kan_model.specs.declared.nodes.GoalNode.{GoalNode}
 use Rattle.kan_model.specs.declared.nodes.GoalNode.TheVariants as nodes
-use Rattle.kan_model.specs.declared.nodes.Relation.{Relation}
 use Rattle.kan_model.specs.declared.program.Program.{Program}
-use Rattle.ground_meaning.specs.Accepting.{Claim, claim, when, body_claim, claims_after, in_front, after_step, after_steps}
-use Rattle.ground_meaning.specs.Following.{step_of, claims_in, Leaves, Follows, ArgumentsPlaced, FollowsClaim, ShowsAll}
+use Rattle.ground_meaning.specs.Accepting.{Claim, claim, when, body_claim, claims_after, in_front}
+use Rattle.ground_meaning.specs.Following.{step_of, claims_in, Leaves, Follows, ArgumentsPlaced, FollowsClaim}
 use Rattle.ground_meaning.specs.Holding.{node_holds}
 use Rattle.ground_meaning.specs.Values.{value_of}
 use Rattle.ground_meaning.specs.declared.following.Waiting.{Waiting}
@@ -29,7 +25,7 @@ waiting_for g us = record { goal = g; values = us }
 
 module _ (p : Program) where
   -- what is put on a stack is to be shown first
-  claims-push : (ws : List Waiting) (w : Waiting) → claims_in p (ws ++ w ∷ []) ≡ claim (programs.goal p w.goal) w.values ∷ claims_in p ws
+  pub claims-push : (ws : List Waiting) (w : Waiting) → claims_in p (ws ++ w ∷ []) ≡ claim (programs.goal p w.goal) w.values ∷ claims_in p ws
   claims-push [] w = refl
   claims-push (x ∷ ws) w = ap (λ l. l ++ claim (programs.goal p x.goal) x.values ∷ []) (claims-push ws w)
 
@@ -64,10 +60,7 @@ module _ (p : Program) where
       IfOk r (λ followed. Follows p other us step old followed new) → IfOk r (λ followed. Follows p node us step old followed new)
   same_node r node other us step old new is h = subst (λ n. IfOk r (λ followed. Follows p n us step old followed new)) (sym is) h
 
-  -- the relation of an entry
-  relation_of : RelationEntry → goals.Relation
-  relation_of e = record { params = e.params; body = goal_at (goals_of (programs.tables p)) e.body }
-
+  -- the relation of an entry is the program's
   relation-there : (r : ℕ) (o : Option RelationEntry) → o ≡ slice_get (programs.tables p).relations r → slice_get (programs.meaning p).relations r ≡ option_map (λ e. record { params = e.params; body = goal_at (goals_of (programs.tables p)) e.body }) o
   relation-there r o is =
       slice_get-map (λ e. record { params = e.params; body = goal_at (goals_of (programs.tables p)) e.body }) (programs.tables p).relations r

@@ -1,8 +1,8 @@
 -- The marks of values.
-use Rattle.std.proofs.Common.{◌≡◌, ℕ, ◌+◌, ◌<◌, ◌≤◌, List, [], ◌∷◌, ◌++◌, length, refl, sym, ap, ◌∙◌, arith, append_assoc, append-nil}
+use Rattle.std.proofs.Common.{◌≡◌, ℕ, ◌<◌, List, [], ◌∷◌, ◌++◌, length, refl, sym, ap, ◌∙◌, arith, append_assoc, append-nil}
 use Rattle.std.specs.Prelude.{Result, Ok, Err, OnOk}
 use Rattle.std.proofs.lemmas.List.{length-append}
-use Rattle.kan_terms.specs.Tree.{Tree, Gd, size}
+use Rattle.kan_terms.specs.Tree.{Tree, Gd}
 use Rattle.kan_terms.specs.Spelling.{spelling}
 use Rattle.kan_terms.specs.declared.marks.Mark.{Mark}
 use Rattle.kan_terms.specs.declared.marks.Mark.TheVariants.{Pair}

@@ -1,5 +1,5 @@
 -- Following the steps of a derivation, with the goals that are still to be shown.
-use Rattle.std.specs.Prelude.{◌≡◌, ◌↔◌, ℕ, Bool, true, false, eqb, List, [], ◌∷◌, ◌++◌, length, map, Option, Some, None, slice_get, if◌then◌else◌}
+use Rattle.std.specs.Prelude.{◌≡◌, ◌↔◌, Bool, true, false, eqb, List, [], ◌∷◌, ◌++◌, length, Option, Some, None, slice_get}
 use Rattle.kan_terms.specs.Tree.{Gd}
 use Rattle.kan_model.specs.Programs.Goals.{Goal, Relation, Program}
 use Rattle.kan_model.specs.Meaning.Holds.{holds_at}

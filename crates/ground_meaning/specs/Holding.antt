@@ -1,5 +1,5 @@
 -- Which goals of the table hold by themselves at slot values.
-use Rattle.std.specs.Prelude.{ℕ, Bool, true, false, List}
+use Rattle.std.specs.Prelude.{Bool, true, false, List}
 use Rattle.kan_terms.specs.Tree.{Gd}
 use Rattle.kan_model.specs.Meaning.Holds.{holds_at}
 use Rattle.kan_model.specs.Programs.Goals.{Template, Primitive}

@@ -1,6 +1,7 @@
 //! One step of a derivation, with what is to be shown on a stack.
 
-ghost use Rattle.std.specs.Prelude.{◌≡◌, ◌+◌, ◌≤◌, ◌↔◌, length, map, IfOk, IsTrue};
+ghost use Rattle.std.specs.Prelude.{◌≡◌, ◌+◌, ◌≤◌, ◌↔◌, [], ◌∷◌, ◌++◌, length, map};
+ghost use Rattle.std.specs.Prelude.{IfNone, IfOk, IfSome, IsTrue};
 ghost use Rattle.kan_model.specs.Programs.Closed as programs;
 ghost use Rattle.kan_model.specs.Programs.Nodes.{goal_entry};
 ghost use Rattle.kan_model.specs.declared.nodes.GoalNode.TheVariants as nodes;
@@ -115,12 +116,7 @@ fn choose(
 }
 
 // The value of a template.
-fn value_at(
-    alloc: Global,
-    program: &Program,
-    values: &Grounds,
-    term: u32,
-) -> Result<Ground, Memory>
+fn value_at(alloc: Global, program: &Program, values: &Grounds, term: u32) -> Result<Ground, Memory>
     ensures { IfOk result (λ value. value ≡ value_of program.now values.now term) }
 {
     let marks = marks_of(alloc, program, values, term)?;
@@ -231,6 +227,21 @@ fn follow(
     }
 }
 
+// Takes what is to be shown next from the stack.
+fn next(waiting: &mut Vec<Waiting>) -> Option<Waiting>
+    ensures taken { IfSome result (λ claim. waiting.old.items ≡ waiting.new.items ++ claim ∷ []) }
+    ensures empty { IfNone result (waiting.old.items ≡ []) }
+{
+    waiting.pop()
+}
+
+// Whether nothing is to be shown any more.
+fn is_done(waiting: &[Waiting]) -> bool
+    ensures { IsTrue result ↔ (waiting.now ≡ []) }
+{
+    waiting.is_empty()
+}
+
 // Follows steps to their end, and answers whether nothing is left to be shown then.
 pub(crate) fn follow_all(
     alloc: Global,
@@ -241,12 +252,12 @@ pub(crate) fn follow_all(
     ensures { IfOk result (λ shown. IsTrue shown ↔ ShowsAll program.now steps.now waiting.items) }
 {
     for step in steps {
-        let Some(claim) = waiting.pop() else {
+        let Some(claim) = next(&mut waiting) else {
             return Ok(false);
         };
         if !follow(alloc, program, claim, step, &mut waiting)? {
             return Ok(false);
         }
     }
-    Ok(waiting.is_empty())
+    Ok(is_done(&waiting))
 }

@@ -59,11 +59,7 @@ pub(crate) fn copied(alloc: Global, values: &Grounds) -> Result<Grounds, Memory>
 }
 
 // Slot values with others behind them.
-pub(crate) fn extended(
-    alloc: Global,
-    values: &Grounds,
-    more: &Grounds,
-) -> Result<Grounds, Memory>
+pub(crate) fn extended(alloc: Global, values: &Grounds, more: &Grounds) -> Result<Grounds, Memory>
     ensures { IfOk result (λ all. all ≡ values.now ++ more.now) }
 {
     let mut all = copied(alloc, values)?;
