@@ -1,5 +1,17 @@
+pub mod Chosen
+pub mod CoveredSolutions
+pub mod FreeSolutions
 pub mod Grounds
 pub mod KeptLaws
+pub mod LeftOutLaws
+pub mod NamedValues
+pub mod OwnForms
 pub mod OwnValues
+pub mod RunAnswers
 pub mod SolutionLaws
+pub mod SolvedInstances
 pub mod SolvedLaws
+pub mod StandingStores
+pub mod TakenLaws
+pub mod Taking
+pub mod Weaker

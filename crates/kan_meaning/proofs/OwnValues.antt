@@ -25,7 +25,7 @@ abbrev pub above_number : ℤ → ℕ
 above_number (pos m) = 1 + m
 above_number (negsuc m) = 0
 
-abbrev pub above_atoms : Tm → ℕ
+abbrev pub above_atoms : {V : Type 0} → Tree V → ℕ
 above_atoms (Tree.leaf v) = 0
 above_atoms (Tree.sym s) = 1 + s
 above_atoms (Tree.str s) = 1 + s

@@ -17,7 +17,7 @@ use Rattle.kan_model.proofs.Solving.UnifierLaws.{answer_most_general, fill-apply
 use Rattle.kan_meaning.proofs.Grounds.{ground_same, same_ground, is_of, symbol_or_number, symbol_or_string, string_or_number, symbol_allowed, number_allowed, string_allowed, all_follow}
 
 -- a solution makes the sides of each equation the same
-unifies : (us : List Gd) (ps : List (Primitive Tm)) → list_all (holds_at us) ps ≡ true → Unifies (value_at us) (equations ps)
+pub unifies : (us : List Gd) (ps : List (Primitive Tm)) → list_all (holds_at us) ps ≡ true → Unifies (value_at us) (equations ps)
 unifies us [] h = tt
 unifies us (Primitive.same a b ∷ ps) h =
     let (first, rest) = and_parts (holds_at us (Primitive.same a b)) (list_all (holds_at us) ps) h in (same_ground (value us a) (value us b) first, unifies us ps rest)
@@ -39,7 +39,7 @@ variable_is v (Tree.pair a b) e = cc
 
 -- under a most general answer through which the solution factors
 module _ (us : List Gd) (s : Replacement) (factors : Factors (value_at us) s) where
-  known : (t : Tm) → value us (apply s t) ≡ value us t
+  pub known : (t : Tm) → value us (apply s t) ≡ value us t
   known t = fill-apply (value_at us) s factors t
 
   -- each primitive is allowed
@@ -81,7 +81,7 @@ module _ (us : List Gd) (s : Replacement) (factors : Factors (value_at us) s) wh
   of_given Text v (Primitive.differ a b) e h = cc
   of_given Text v (Primitive.absent tag a) e h = cc
 
-  of_type : (kind : Kind) (v : ℕ) (ps : List (Primitive Tm)) → list_all (holds_at us) ps ≡ true → has_type kind s ps v ≡ true → is_of kind (value_at us v) ≡ true
+  pub of_type : (kind : Kind) (v : ℕ) (ps : List (Primitive Tm)) → list_all (holds_at us) ps ≡ true → has_type kind s ps v ≡ true → is_of kind (value_at us v) ≡ true
   of_type kind v [] h e = cc
   of_type kind v (p ∷ ps) h e =
       let (first, rest) = and_parts (holds_at us p) (list_all (holds_at us) ps) h in

@@ -1,0 +1,5 @@
+pub mod AcceptingLaws
+pub mod FollowingLaws
+pub mod HoldingLaws
+pub mod RunLaws
+pub mod ValueLaws

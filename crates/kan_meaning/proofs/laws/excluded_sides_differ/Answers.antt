@@ -1,0 +1,5 @@
+use Rattle.kan_meaning.proofs.LeftOutLaws.{excluded_differ}
+use Rattle.kan_meaning.proofs.laws.excluded_sides_differ.Goals as goal
+
+pub returns : goal.returns
+returns c = excluded_differ
