@@ -4,6 +4,5 @@
 mod history;
 mod moving;
 mod solved;
-mod store;
 
-pub use store::SolvedStore;
+pub use solved::{Solved, add, copied, unsolved};
