@@ -1,16 +1,15 @@
 -- The steps of asserting an equation, put together.
-use Rattle.std.proofs.Common.{◌≡◌, ℕ, Bool, true, false, ◌&&◌, List, [], ◌∷◌, ◌↔◌, Option, Some, None, sym, ap, subst, refl, ◌∙◌}
+use Rattle.std.proofs.Common.{◌≡◌, Bool, true, false, ◌&&◌, List, [], ◌∷◌, ◌↔◌, Option, Some, None, sym, ap, subst, refl, ◌∙◌}
 use Rattle.std.specs.List.{list_all, list_any}
-use Rattle.std.specs.Option.{IfSome}
 use Rattle.std.proofs.lemmas.Bool.{and_from, false_from_ne_true}
-use Rattle.kan_terms.specs.Tree.{Tree, Tm}
+use Rattle.kan_terms.specs.Tree.{Tm}
 use Rattle.unify_core.specs.Cycles.{HasNoCycle}
 use Rattle.unify_core.specs.Walking.{Pairs}
 use Rattle.unify_core.specs.Solutions.{AddedTo, equation}
 use Rattle.unify_core.specs.Unifying.{Unifying}
 use Rattle.type_absence.specs.Types.{Types}
 use Rattle.type_absence.specs.Absent.{TagsOf}
-use Rattle.diseq.specs.Disequalities.{Disequality, Brought, is_identical}
+use Rattle.diseq.specs.Disequalities.{Brought, is_identical}
 use Rattle.diseq.specs.Watching.{are_watchable}
 use Rattle.kan_store.specs.Moving.{TypesMove, TagsMove, binds_variable}
 use Rattle.kan_store.specs.Parts.{Parts, Equated, BroughtUp, CarriedTags, CarriedTypes}

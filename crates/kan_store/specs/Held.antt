@@ -1,4 +1,4 @@
--- What the code's store stands for.
+-- What the parts of the code stand for.
 use Rattle.unify_core.specs.Walking.{Pairs}
 use Rattle.type_absence.specs.Seen.{types, tags}
 use Rattle.kan_store.specs.Parts.{Parts}

@@ -1,5 +1,5 @@
 -- The parts of a solved store, and what each call makes of them.
-use Rattle.std.specs.Prelude.{◌≡◌, ℕ, Bool, true, false, List, [], ◌∷◌, ◌++◌, Option, Some, None}
+use Rattle.std.specs.Prelude.{◌≡◌, ℕ, true, false, List, [], ◌∷◌, ◌++◌, Option, Some, None}
 use Rattle.std.specs.List.{list_any}
 use Rattle.kan_terms.specs.Tree.{Tm, term_eq}
 use Rattle.kan_model.specs.Stores.Store.{Store, Equation}

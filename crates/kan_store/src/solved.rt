@@ -52,7 +52,8 @@ pub fn unsolved<B: Bindings>(alloc: Global) -> Result<Solved<B>, Memory>
 
 /// The parts once more. No tree is copied.
 pub fn copied<B: Bindings>(solved: &Solved<B>) -> Result<Solved<B>, Memory>
-    ensures { IfOk result (λ copy. SameParts (parts_of B.pairs solved.now) (parts_of B.pairs copy)) }
+    ensures { IfOk result (λ copy. SameParts (parts_of B.pairs solved.now)
+        (parts_of B.pairs copy)) }
 {
     Ok(Solved {
         bindings: solved.bindings.again()?,
@@ -71,10 +72,11 @@ fn bring_up<B: Bindings>(
     diseqs: Diseqs,
 ) -> Result<Option<Solved<B>>, Memory>
     requires no_cycle { HasNoCycle (B.pairs unified.bindings) }
-    requires older { (older : Pairs) × AddedTo older (map sides unified.added) (B.pairs unified.bindings)
-        × (are_watchable older diseqs ≡ true) }
-    ensures { IfOk result (λ made. BroughtUp (B.pairs unified.bindings) (types kinds) (tags absences)
-        diseqs (option_map (parts_of B.pairs) made)) }
+    requires older { (older : Pairs) ×
+        AddedTo older (map sides unified.added) (B.pairs unified.bindings) ×
+        (are_watchable older diseqs ≡ true) }
+    ensures { IfOk result (λ made. BroughtUp (B.pairs unified.bindings) (types kinds)
+        (tags absences) diseqs (option_map (parts_of B.pairs) made)) }
 {
     match diseqs.recheck_owned(alloc, &unified.added, &unified.bindings)? {
         None => Ok(None),
@@ -96,10 +98,12 @@ fn carry_tags<B: Bindings>(
     diseqs: Diseqs,
 ) -> Result<Option<Solved<B>>, Memory>
     requires no_cycle { HasNoCycle (B.pairs unified.bindings) }
-    requires older { (older : Pairs) × AddedTo older (map sides unified.added) (B.pairs unified.bindings)
-        × (are_watchable older diseqs ≡ true) }
-    ensures { IfOk result (λ made. CarriedTags (B.pairs unified.bindings) (map sides unified.added)
-        (types kinds) (tags absences) diseqs (option_map (parts_of B.pairs) made)) }
+    requires older { (older : Pairs) ×
+        AddedTo older (map sides unified.added) (B.pairs unified.bindings) ×
+        (are_watchable older diseqs ≡ true) }
+    ensures { IfOk result (λ made. CarriedTags (B.pairs unified.bindings)
+        (map sides unified.added) (types kinds) (tags absences) diseqs
+        (option_map (parts_of B.pairs) made)) }
 {
     match move_tags(alloc, absences, &unified.added, &unified.bindings)? {
         None => Ok(None),
@@ -116,10 +120,12 @@ fn carry_types<B: Bindings>(
     diseqs: Diseqs,
 ) -> Result<Option<Solved<B>>, Memory>
     requires no_cycle { HasNoCycle (B.pairs unified.bindings) }
-    requires older { (older : Pairs) × AddedTo older (map sides unified.added) (B.pairs unified.bindings)
-        × (are_watchable older diseqs ≡ true) }
-    ensures { IfOk result (λ made. CarriedTypes (B.pairs unified.bindings) (map sides unified.added)
-        (types kinds) (tags absences) diseqs (option_map (parts_of B.pairs) made)) }
+    requires older { (older : Pairs) ×
+        AddedTo older (map sides unified.added) (B.pairs unified.bindings) ×
+        (are_watchable older diseqs ≡ true) }
+    ensures { IfOk result (λ made. CarriedTypes (B.pairs unified.bindings)
+        (map sides unified.added) (types kinds) (tags absences) diseqs
+        (option_map (parts_of B.pairs) made)) }
 {
     match move_types(kinds, &unified.added, &unified.bindings)? {
         None => Ok(None),
@@ -135,9 +141,10 @@ fn equate<B: Bindings>(
     right: &Term,
 ) -> Result<Option<Solved<B>>, Memory>
     requires no_cycle { HasNoCycle (parts_of B.pairs solved).bound }
-    requires watchable { are_watchable (parts_of B.pairs solved).bound (parts_of B.pairs solved).lists ≡ true }
-    ensures { IfOk result (λ made. Equated (parts_of B.pairs solved) (tree left.now) (tree right.now)
-        (option_map (parts_of B.pairs) made)) }
+    requires watchable { are_watchable (parts_of B.pairs solved).bound
+        (parts_of B.pairs solved).lists ≡ true }
+    ensures { IfOk result (λ made. Equated (parts_of B.pairs solved) (tree left.now)
+        (tree right.now) (option_map (parts_of B.pairs) made)) }
 {
     let Solved {
         bindings,
@@ -214,7 +221,8 @@ fn add_difference<B: Bindings>(
     right: &Term,
 ) -> Result<Option<Solved<B>>, Memory>
     requires no_cycle { HasNoCycle (parts_of B.pairs solved).bound }
-    requires watchable { are_watchable (parts_of B.pairs solved).bound (parts_of B.pairs solved).lists ≡ true }
+    requires watchable { are_watchable (parts_of B.pairs solved).bound
+        (parts_of B.pairs solved).lists ≡ true }
     ensures { IfOk result (λ made. Differing (parts_of B.pairs solved) (tree left.now)
         (tree right.now) (option_map (parts_of B.pairs) made)) }
 {
@@ -242,7 +250,8 @@ pub fn add<B: Bindings>(
     prim: &Asserted,
 ) -> Result<Option<Solved<B>>, Memory>
     requires no_cycle { HasNoCycle (parts_of B.pairs solved).bound }
-    requires watchable { are_watchable (parts_of B.pairs solved).bound (parts_of B.pairs solved).lists ≡ true }
+    requires watchable { are_watchable (parts_of B.pairs solved).bound
+        (parts_of B.pairs solved).lists ≡ true }
     ensures { IfOk result (λ made. Adding (parts_of B.pairs solved) (primitive prim.now)
         (option_map (parts_of B.pairs) made)) }
 {

@@ -1,9 +1,7 @@
-use Rattle.std.proofs.Common.{◌≡◌, ◌++◌, ◌∷◌, [], Bool, true, ◌&&◌, ap, sym, subst, ◌∙◌}
+use Rattle.std.proofs.Common.{◌∷◌, [], subst}
 use Rattle.std.specs.Option.{IfSome}
-use Rattle.kan_terms.specs.Tree.{term_eq}
 use Rattle.kan_terms.specs.Terms.{tree}
 use Rattle.unify_core.specs.Solutions.{equation}
-use Rattle.unify_core.specs.Walking.{full}
 use Rattle.diseq.specs.Adding.{Adds}
 use Rattle.kan_store.specs.Parts.{Differing}
 use Rattle.kan_store.proofs.SolvedLaws.{none_identical, only_true, only_false}

@@ -1,4 +1,4 @@
-use Rattle.std.proofs.Common.{◌≡◌, map, option_map, subst}
+use Rattle.std.proofs.Common.{map, option_map, subst}
 use Rattle.kan_terms.specs.Terms.{sides}
 use Rattle.type_absence.specs.Seen.{tags}
 use Rattle.kan_store.specs.Moving.{TagsMove}

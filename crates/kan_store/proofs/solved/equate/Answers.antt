@@ -1,4 +1,4 @@
-use Rattle.std.proofs.Common.{◌≡◌, map, Option, option_map, Some, [], ◌∷◌, subst}
+use Rattle.std.proofs.Common.{map, option_map, [], ◌∷◌, subst}
 use Rattle.std.specs.Option.{IfSome}
 use Rattle.kan_terms.specs.Terms.{sides, tree}
 use Rattle.unify_core.specs.Cycles.{HasNoCycle}
@@ -13,9 +13,11 @@ pub carry_types-requires-clause-no_cycle : goal.carry_types-requires-clause-no_c
 carry_types-requires-clause-no_cycle g c = subst (λ o. IfSome o (λ made. HasNoCycle (g.B.Bindings.pairs made.bindings))) c.in-Some.is c.in_ok-unify_owned.ensures.no_cycle
 
 pub carry_types-requires-clause-older : goal.carry_types-requires-clause-older
-carry_types-requires-clause-older g c = (g.B.Bindings.pairs c.args.solved.bindings,
-    subst (λ o. IfSome o (λ made. AddedTo (g.B.Bindings.pairs c.args.solved.bindings) (map sides made.added) (g.B.Bindings.pairs made.bindings))) c.in-Some.is c.in_ok-unify_owned.ensures.added,
-    c.requires.watchable)
+carry_types-requires-clause-older g c = (
+  g.B.Bindings.pairs c.args.solved.bindings,
+  subst (λ o. IfSome o (λ made. AddedTo (g.B.Bindings.pairs c.args.solved.bindings) (map sides made.added) (g.B.Bindings.pairs made.bindings))) c.in-Some.is c.in_ok-unify_owned.ensures.added,
+  c.requires.watchable,
+)
 
 pub returns-in-None : goal.returns-in-None
 returns-in-None g c = Equated.no_unifier (subst (λ o. Unifying (g.B.Bindings.pairs c.args.solved.bindings) (equation (tree c.args.left.now) (tree c.args.right.now) ∷ []) (option_map (λ made. map sides made.added) o)) c.in-None.is c.in_ok-unify_owned.ensures.in_order)
