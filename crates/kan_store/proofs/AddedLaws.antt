@@ -1,10 +1,10 @@
 -- Bindings to which others were added.
-use Rattle.std.proofs.Common.{◌≡◌, ℕ, Bool, true, false, eqb, List, [], ◌∷◌, Option, Some, None, inl, inr, sym, ap, subst, refl, ◌∙◌, if◌then◌else◌}
+use Rattle.std.proofs.Common.{◌≡◌, ℕ, Bool, true, false, eqb, List, [], ◌∷◌, Some, None, inl, inr, sym, ap, subst, refl, ◌∙◌}
 use Rattle.std.proofs.lemmas.Bool.{eq-eqb, eqb-true}
 use Rattle.kan_terms.specs.Tree.{Tree, Tm, fill}
 use Rattle.kan_terms.specs.Bound.{bound_to}
-use Rattle.kan_terms.proofs.TreeLaws.{fill-fill, fill-leaf}
-use Rattle.unify_core.specs.Walking.{Pairs, walked, ends, full}
+use Rattle.kan_terms.proofs.TreeLaws.{fill-leaf}
+use Rattle.unify_core.specs.Walking.{Pairs, ends, full}
 use Rattle.unify_core.specs.Solutions.{IsSolution, AddedTo}
 use Rattle.unify_core.proofs.Grown.{Grown, bound-newest, bound-older, unbound_parts, ends-bound, ends-unbound}
 use Rattle.unify_core.proofs.SolutionLaws.{solution_of, fill-full, IsSolution-same}

@@ -1,13 +1,11 @@
 -- The solver goes along with unification over bindings: what it answers makes of each term its full value.
-use Rattle.std.proofs.Common.{◌≡◌, ◌≢◌, ℕ, Bool, true, false, eqb, List, [], ◌∷◌, ◌++◌, map, Option, Some, None, option_map, inl, inr, sym, ap, ap₂, subst, refl, ◌∙◌, if◌then◌else◌}
-use Rattle.std.proofs.lemmas.Bool.{eq-eqb, eqb-true}
+use Rattle.std.proofs.Common.{◌≡◌, ◌≢◌, ℕ, Bool, true, false, List, [], ◌∷◌, ◌++◌, map, Option, Some, None, option_map, inl, inr, sym, ap, ap₂, subst, refl, ◌∙◌, if◌then◌else◌}
 use Rattle.kan_terms.specs.Tree.{Tree, Tm, fill, occurs, term_eq}
 use Rattle.kan_terms.specs.Bound.{bound_to}
 use Rattle.kan_terms.proofs.TreeLaws.{fill-fill, fill-leaf, term_eq-true, eq-term_eq}
 use Rattle.kan_model.specs.Stores.Store.{Equation}
-use Rattle.kan_model.specs.Stores.Solve.{Replacement, image, apply, replace, replace_sides, put_first, Work, work, work_apart, unless_inside, left_first, solve}
+use Rattle.kan_model.specs.Stores.Solve.{Replacement, image, apply, replace_sides, put_first, Work, work, work_apart, left_first, solve}
 use Rattle.kan_model.specs.Stores.Composition.{apply_sides, compose, go_on}
-use Rattle.kan_model.specs.Stores.Unifiers.{Unifies}
 use Rattle.kan_model.proofs.Solving.WorkLaws.{OneIs}
 use Rattle.kan_model.proofs.Solving.SolveLaws.{solve_by-nothing, solve_by-identical, solve_by-parts, solve_by-substitute}
 use Rattle.kan_model.proofs.Solving.UnifierLaws.{answer_unifies, apply-put_first}
@@ -133,16 +131,22 @@ along bound es r Unifying.no_equation g added is =
 along bound es r (Unifying.same {e = e} {es = rest} h d) g added is =
     let same : walked bound e.left ≡ walked bound e.right = met_says ⊥ bound e Meeting.nothing h in
     let full_same : full bound e.left ≡ full bound e.right = sym (full-walked bound g e.left) ∙ ap (full bound) same ∙ full-walked bound g e.right in
-    let (q, found, makes) = along bound rest r d g added is in
-    (q, solve_by-identical left_first (full_sides bound e) (map (full_sides bound) rest)
-        (ap (λ c. if c then Work.identical else work_apart left_first (full bound e.left) (full bound e.right)) (eq-term_eq (full bound e.left) (full bound e.right) full_same)) ∙ found, makes)
+    let (q, found, makes) = along bound rest r d g added is in (
+      q,
+      solve_by-identical left_first (full_sides bound e) (map (full_sides bound) rest)
+          (ap (λ c. if c then Work.identical else work_apart left_first (full bound e.left) (full bound e.right)) (eq-term_eq (full bound e.left) (full bound e.right) full_same)) ∙ found,
+      makes,
+    )
 along bound es r (Unifying.parted {e = e} {first = first} {rest = last} {es = rest} h d) g added is =
     let (l, m) = met_says ⊥ bound e (Meeting.parts first last) h in
     let left_is : full bound e.left ≡ Tree.pair (full bound first.left) (full bound last.left) = sym (full-walked bound g e.left) ∙ ap (full bound) l in
     let right_is : full bound e.right ≡ Tree.pair (full bound first.right) (full bound last.right) = sym (full-walked bound g e.right) ∙ ap (full bound) m in
-    let (q, found, makes) = along bound (first ∷ last ∷ rest) r d g added is in
-    (q, ap₂ (λ a b. solve (record { left = a; right = b } ∷ map (full_sides bound) rest)) left_is right_is
-        ∙ parted_alike (full bound first.left) (full bound last.left) (full bound first.right) (full bound last.right) (map (full_sides bound) rest) ∙ found, makes)
+    let (q, found, makes) = along bound (first ∷ last ∷ rest) r d g added is in (
+      q,
+      ap₂ (λ a b. solve (record { left = a; right = b } ∷ map (full_sides bound) rest)) left_is right_is
+          ∙ parted_alike (full bound first.left) (full bound last.left) (full bound first.right) (full bound last.right) (map (full_sides bound) rest) ∙ found,
+      makes,
+    )
 along bound es r (Unifying.bound_one {e = e} {x = x} {t = t} {es = rest} {added = None} h out d) g added is = cc
 along bound es r (Unifying.bound_one {e = e} {x = x} {t = t} {es = rest} {added = Some others} h out d) g added is =
     let split : (Tree.leaf x, t) ∷ others ≡ added = cc in
@@ -157,10 +161,11 @@ pub goes_along : (bound : Pairs) → Grown bound → (es : List Equation) (s : R
     (r : Replacement) × (solve (es ++ e ∷ []) ≡ Some r) × ((t : Tm) → full new t ≡ apply r t)
 goes_along bound g es s h makes e added new d put =
     let (q, found, onward) = along bound (e ∷ []) (Some added) d g added refl in
-    let side : full_sides bound e ≡ apply_sides s e = ap₂ (λ a b. record { left = a; right = b }) (makes e.left) (makes e.right) in
-    (compose s q,
+    let side : full_sides bound e ≡ apply_sides s e = ap₂ (λ a b. record { left = a; right = b }) (makes e.left) (makes e.right) in (
+      compose s q,
       solver_goes_on left_first es (e ∷ []) ∙ ap (go_on left_first (e ∷ [])) h ∙ ap (λ f. option_map (compose s) (solve (f ∷ []))) (sym side) ∙ ap (option_map (compose s)) found,
-      λ t. onward new put t ∙ ap (apply q) (makes t) ∙ sym (compose_is_both s q t))
+      λ t. onward new put t ∙ ap (apply q) (makes t) ∙ sym (compose_is_both s q t),
+    )
 
 -- and where there is no unifier, the solver has no answer
 pub ends_along : (bound : Pairs) → Grown bound → (es : List Equation) (s : Replacement) → solve es ≡ Some s → ((t : Tm) → full bound t ≡ apply s t) →

@@ -1,5 +1,5 @@
 -- What is asserted keeps a store's parts in step with its primitives, or the longer store isn't kept.
-use Rattle.std.proofs.Common.{◌≡◌, ℕ, Bool, true, false, not, ◌||◌, eqb, List, [], ◌∷◌, ◌++◌, map, ◌⊎◌, Option, Some, None, inl, inr, sym, ap, ap₂, subst, refl, ◌∙◌}
+use Rattle.std.proofs.Common.{◌≡◌, ℕ, Bool, true, false, not, ◌||◌, eqb, List, [], ◌∷◌, ◌++◌, map, Some, None, inl, inr, sym, ap, ap₂, subst, refl, ◌∙◌}
 use Rattle.std.specs.List.{list_all, list_any}
 use Rattle.std.proofs.lemmas.Bool.{eq-eqb, eqb-true, false_from_ne_true, true≢false, or_left, or_cases}
 use Rattle.std.proofs.lemmas.List.{map-append, append-nil}
@@ -8,7 +8,7 @@ use Rattle.kan_terms.specs.Bound.{bound_to}
 use Rattle.kan_model.specs.Programs.Goals.{Primitive}
 use Rattle.kan_model.specs.Stores.Store.{Store, Equation, equations, with_prim}
 use Rattle.kan_model.specs.Stores.Solve.{Replacement, apply, solve, solve_store}
-use Rattle.kan_model.specs.Stores.Kept.{may_be, allows, has_type, holds_under, holds_with, is_kept}
+use Rattle.kan_model.specs.Stores.Kept.{may_be, allows, has_type, holds_with, is_kept}
 use Rattle.kan_model.specs.Stores.Calls.{differences}
 use Rattle.kan_model.specs.Answers.Answer.{has_absence}
 use Rattle.kan_model.specs.declared.prims.Kind.{Kind}
@@ -29,13 +29,13 @@ use Rattle.kan_store.specs.Asked.{asked}
 use Rattle.kan_store.specs.InStep.{InStep, TypesInStep, TagsInStep}
 use Rattle.kan_store.specs.Moving.{TypesMove, TagsMove}
 use Rattle.kan_store.proofs.Along.{goes_along, ends_along}
-use Rattle.kan_store.proofs.KeptParts.{Among, among-left, among-last, among-cases, all-among, all-from, typing, has_type-from, has_type-asked, has_absence-from, has_absence-asked, Allowed, OneType, holds-parts, holds-from}
-use Rattle.kan_store.proofs.TypesStep.{TypesAllowed, types_allowed, types_step, types_stop, move_keeps, move_puts, move_may, move_cases, move_stuck, Stuck, variable-or, same_kind-same, may_be-full, full-variable}
+use Rattle.kan_store.proofs.KeptParts.{among-left, among-last, among-cases, all-among, all-from, typing, has_type-from, has_type-asked, has_absence-from, has_absence-asked, Allowed, OneType, holds-parts, holds-from}
+use Rattle.kan_store.proofs.TypesStep.{TypesAllowed, types_allowed, types_step, types_stop, move_keeps, move_puts, move_may, move_cases, move_stuck, Stuck, same_kind-same, may_be-full, full-variable}
 use Rattle.kan_store.proofs.TagsStep as of_tags
 use Rattle.kan_store.proofs.TagsStep.{TagsAllowed, tags_step, tags_stop}
 use Rattle.diseq.specs.Laws.{BringingGoesOn}
-use Rattle.type_absence.specs.Tags.{is_listed, has_any}
-use Rattle.kan_store.proofs.AddedLaws.{full-free, full-onward}
+use Rattle.type_absence.specs.Tags.{is_listed}
+use Rattle.kan_store.proofs.AddedLaws.{full-free}
 use Rattle.kan_store.proofs.DiffersStep.{DiffersAllowed, differs_allowed, differs_fail}
 
 -- a store is kept where it is solved, each primitive is allowed and no variable has two types

@@ -1,14 +1,12 @@
 -- Disequalities keep in step with a store when bindings are added.
-use Rattle.std.proofs.Common.{◌≡◌, ℕ, Bool, true, false, ◌&&◌, List, [], ◌∷◌, ◌++◌, map, ◌⊎◌, inl, inr, sym, ap, subst, refl, ◌∙◌}
-use Rattle.std.specs.List.{list_all, list_any}
-use Rattle.std.proofs.lemmas.Bool.{and_parts, and_from, or_cases, or_left, or_right, or_parts, false_from_ne_true, true≢false}
-use Rattle.kan_terms.specs.Tree.{Tm, fill, term_eq}
+use Rattle.std.proofs.Common.{◌≡◌, true, false, List, [], ◌∷◌, ◌⊎◌, inl, inr, sym, subst, refl, ◌∙◌}
+use Rattle.std.specs.List.{list_any}
+use Rattle.std.proofs.lemmas.Bool.{and_parts, and_from, or_cases, or_parts, false_from_ne_true, true≢false}
+use Rattle.kan_terms.specs.Tree.{Tm, term_eq}
 use Rattle.kan_terms.proofs.TreeLaws.{term_eq-true, eq-term_eq}
 use Rattle.kan_model.specs.Programs.Goals.{Primitive}
-use Rattle.kan_model.specs.Stores.Store.{Equation}
 use Rattle.kan_model.specs.Stores.Solve.{Replacement, apply}
 use Rattle.kan_model.specs.Stores.Unifiers.{Unifies}
-use Rattle.kan_model.specs.Stores.Calls.{differences}
 use Rattle.unify_core.specs.Walking.{Pairs, ends, full}
 use Rattle.unify_core.proofs.Grown.{Grown}
 use Rattle.diseq.specs.Disequalities.{Disequality, is_identical, has_same_sides, Brought}

@@ -10,3 +10,4 @@ pub mod MovingLaws
 pub mod StepLaws
 pub mod Observing
 pub mod Listing
+pub mod SolvedLaws

@@ -1,5 +1,5 @@
 -- The disequalities that are left say what the store's primitives ask.
-use Rattle.std.proofs.Common.{◌≡◌, ℕ, Bool, true, false, List, [], ◌∷◌, ◌++◌, map, ◌⊎◌, Option, Some, None, is_some, inl, inr, sym, ap, ap₂, subst, refl, ◌∙◌}
+use Rattle.std.proofs.Common.{◌≡◌, ℕ, Bool, true, false, List, [], ◌∷◌, map, ◌⊎◌, Option, Some, None, is_some, inl, inr, sym, ap, subst, refl, ◌∙◌}
 use Rattle.std.proofs.Math.Logic.{∥∥₁_elim, ∥∥₁_map}
 use Rattle.std.proofs.lemmas.Bool.{and_parts, and_from, true≢false}
 use Rattle.kan_terms.specs.Tree.{Tree, Tm, Gd, fill, ground_eq}
@@ -10,10 +10,9 @@ use Rattle.kan_model.specs.Stores.Solve.{Replacement, image, apply, solve, left_
 use Rattle.kan_model.specs.Stores.Unifiers.{Unifies}
 use Rattle.kan_model.specs.Stores.Calls.{answer, all_equal, differences, can_unify, SaysTheSame, AreDifferences}
 use Rattle.kan_model.proofs.Solving.UnifierLaws.{answer_unifies}
-use Rattle.unify_core.specs.Walking.{Pairs, ends, full}
-use Rattle.unify_core.specs.Solutions.{IsSolution, AddedTo, equation}
+use Rattle.unify_core.specs.Walking.{Pairs, ends}
+use Rattle.unify_core.specs.Solutions.{IsSolution, AddedTo}
 use Rattle.unify_core.specs.Unifying.{Unifying}
-use Rattle.unify_core.specs.Cycles.{HasNoCycle}
 use Rattle.unify_core.specs.Laws.{added_equations}
 use Rattle.unify_core.proofs.Grown.{Grown}
 use Rattle.unify_core.proofs.CycleLaws.{grown}

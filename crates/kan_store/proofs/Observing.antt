@@ -1,44 +1,30 @@
 -- What a store's parts show is what its primitives say.
-use Rattle.std.proofs.Common.{◌≡◌, ℕ, zero, suc, ◌<◌, Bool, true, false, not, eqb, List, [], ◌∷◌, ◌++◌, map, length, ◌⊎◌, ◌↔◌, Contains, Option, Some, None, inl, inr, is_some, unwrap_or, sym, ap, ap₂, subst, refl, ◌∙◌, arith, if◌then◌else◌}
+use Rattle.std.proofs.Common.{◌≡◌, ℕ, zero, suc, Bool, true, false, eqb, List, [], ◌∷◌, Contains, Option, Some, None, inl, inr, unwrap_or, sym, ap, ap₂, subst, refl, ◌∙◌, arith, if◌then◌else◌}
 use Rattle.std.proofs.Math.Logic.{∥∥₁_elim, ∥∥₁_map}
-use Rattle.std.proofs.lemmas.Bool.{eq-eqb, eqb-true, and_parts, and_from, or_cases, or_left, or_right, false_from_ne_true, true≢false, both_ways}
+use Rattle.std.proofs.lemmas.Bool.{eq-eqb, eqb-true, or_cases, or_left, or_right, false_from_ne_true, true≢false}
 use Rattle.std.proofs.lemmas.List.Elements.{Contains-append_right, Contains-append_cases}
-use Rattle.kan_terms.specs.Tree.{Tree, Tm, Gd, fill, occurs, term_eq, ground_eq}
+use Rattle.kan_terms.specs.Tree.{Tree, Tm, occurs, term_eq}
 use Rattle.kan_terms.specs.Bound.{bound_to}
-use Rattle.kan_terms.specs.Valuations.{value_at, value}
-use Rattle.kan_terms.proofs.TreeLaws.{fill-fill, term_eq-true, eq-term_eq, Decides-ground_eq, Term-decided}
-use Rattle.kan_model.specs.Programs.Goals.{Primitive}
-use Rattle.kan_model.specs.Stores.Store.{Store, Equation, equations}
-use Rattle.kan_model.specs.Stores.Solve.{Replacement, image, apply, solve, solve_store, left_first}
-use Rattle.kan_model.specs.Stores.Unifiers.{Unifies}
+use Rattle.kan_terms.specs.Valuations.{value}
+use Rattle.kan_terms.proofs.TreeLaws.{term_eq-true, eq-term_eq}
+use Rattle.kan_model.specs.Stores.Store.{Store}
+use Rattle.kan_model.specs.Stores.Solve.{Replacement, image, apply}
 use Rattle.kan_model.specs.Stores.Kept.{has_type}
-use Rattle.kan_model.specs.Stores.Calls.{answer, IsFoundFor, WalksTo, IsFree, kind_at, AreTags, all_equal, differences, can_unify, SaysTheSame, AreDifferences}
+use Rattle.kan_model.specs.Stores.Calls.{answer, IsFoundFor, WalksTo, IsFree, kind_at, AreTags}
 use Rattle.kan_model.specs.Answers.Answer.{has_absence}
 use Rattle.kan_model.specs.declared.prims.Kind.{Kind}
 use Rattle.kan_model.specs.declared.prims.Kind.TheVariants.{Symbol, Number, Text}
-use Rattle.kan_model.proofs.Solving.UnifierLaws.{answer_unifies}
-use Rattle.unify_core.specs.Walking.{Pairs, walked, ends, full}
-use Rattle.unify_core.specs.Solutions.{IsSolution, AddedTo}
-use Rattle.unify_core.specs.Unifying.{Unifying}
-use Rattle.unify_core.specs.Laws.{AddsSolutions, added_equations}
+use Rattle.unify_core.specs.Walking.{Pairs, walked, full}
 use Rattle.unify_core.proofs.Grown.{Grown}
 use Rattle.unify_core.proofs.CycleLaws.{grown, no_cycle}
 use Rattle.unify_core.proofs.WalkLaws.{full-walked, walked-end, walked-term}
 use Rattle.unify_core.proofs.AnswerLaws.{full_unbound}
-use Rattle.unify_core.proofs.AddedLaws.{adds_solutions}
-use Rattle.unify_core.proofs.SolutionLaws.{solution_of, fill-full, IsSolution-same}
-use Rattle.store_laws.proofs.OneForm.{through_answer, also_answered}
 use Rattle.type_absence.specs.Tags.{is_listed}
 use Rattle.type_absence.specs.Types.{same_kind}
-use Rattle.diseq.specs.Disequalities.{Disequality, SaysAsMuch, NeverEqual, Brought}
-use Rattle.diseq.specs.Laws.{GroundMeaning}
 use Rattle.diseq.specs.Watching.{are_watchable}
 use Rattle.unify_core.specs.Cycles.{HasNoCycle}
-use Rattle.kan_store.specs.Asked.{asked}
-use Rattle.kan_store.specs.InStep.{InStep}
-use Rattle.kan_store.specs.Parts.{Parts, AreInStep, Resolved}
-use Rattle.kan_store.proofs.AddedLaws.{full-free, solves-before, ends-solve}
-use Rattle.kan_store.proofs.Asserting.{one_type}
+use Rattle.kan_store.specs.Parts.{Parts, AreInStep}
+use Rattle.kan_store.proofs.AddedLaws.{full-free}
 use Rattle.kan_store.proofs.StepLaws.{test-known}
 use Rattle.kan_store.proofs.TypesStep.{same_kind-true, same_kind-same}
 

@@ -1,5 +1,5 @@
 -- Absences keep in step with a store when bindings are added.
-use Rattle.std.proofs.Common.{◌≡◌, ℕ, Bool, true, false, ◌||◌, eqb, Contains, List, [], ◌∷◌, ◌++◌, ◌⊎◌, Option, Some, None, inl, inr, sym, ap, subst, refl, ◌∙◌, if◌then◌else◌}
+use Rattle.std.proofs.Common.{◌≡◌, ℕ, Bool, true, false, eqb, Contains, List, [], ◌∷◌, ◌++◌, ◌⊎◌, Option, Some, None, inl, inr, sym, ap, subst, refl, ◌∙◌, if◌then◌else◌}
 use Rattle.std.proofs.lemmas.Bool.{eq-eqb, eqb-true, or_cases, or_left, or_right, false_from_ne_true, true≢false}
 use Rattle.kan_terms.specs.Tree.{Tree, Tm, leaves, occurs, has_symbol}
 use Rattle.kan_terms.specs.Bound.{bound_to}
@@ -150,9 +150,10 @@ module _ (new : Pairs) (g : Grown new) where
       let first : Tree.leaf y ≡ Tree.leaf x = ap (λ p. p.0) e in
       let same : y ≡ x = cc in
       let term : u ≡ t = ap (λ p. p.1) e in
-      let listed : is_listed tag (old y) ≡ true = subst (λ z. is_listed tag (old z) ≡ true) (sym same) h in
-      (λ v there. moves_keep mid rest r d final is v tag (move_puts old (old y) (full new u) mid one v tag listed (subst (λ w. occurs v (full new w) ≡ true) (sym term) there)),
-        subst (λ w. has_symbol tag (full new w) ≡ false) term (move_free old (old y) (full new u) mid one tag listed))
+      let listed : is_listed tag (old y) ≡ true = subst (λ z. is_listed tag (old z) ≡ true) (sym same) h in (
+        λ v there. moves_keep mid rest r d final is v tag (move_puts old (old y) (full new u) mid one v tag listed (subst (λ w. occurs v (full new w) ≡ true) (sym term) there)),
+        subst (λ w. has_symbol tag (full new w) ≡ false) term (move_free old (old y) (full new u) mid one tag listed),
+      )
   moves_put old more r (TagsMove.moved_one {mid = mid} {x = y} {t = u} {more = rest} one d) final is x t (inr a) tag h =
       moves_put mid rest r d final is x t a tag (move_keeps old (old y) (full new u) mid one x tag h)
   moves_put old more r (TagsMove.not_moved one) final is x t a tag h = cc

@@ -1,11 +1,11 @@
 -- Types keep in step with a store when bindings are added.
-use Rattle.std.proofs.Common.{◌≡◌, ℕ, Bool, true, false, not, eqb, List, [], ◌∷◌, ◌⊎◌, Option, Some, None, inl, inr, sym, ap, subst, refl, ◌∙◌, if◌then◌else◌}
+use Rattle.std.proofs.Common.{◌≡◌, ℕ, Bool, true, false, eqb, List, ◌∷◌, ◌⊎◌, Option, Some, None, inl, inr, sym, ap, subst, refl, ◌∙◌, if◌then◌else◌}
 use Rattle.std.proofs.lemmas.Bool.{eq-eqb, eqb-true, true≢false}
 use Rattle.kan_terms.specs.Tree.{Tree, Tm}
 use Rattle.kan_terms.specs.Bound.{bound_to}
 use Rattle.kan_model.specs.Programs.Goals.{Primitive}
 use Rattle.kan_model.specs.Stores.Solve.{Replacement, apply}
-use Rattle.kan_model.specs.Stores.Kept.{may_be, allows, has_type}
+use Rattle.kan_model.specs.Stores.Kept.{may_be, has_type}
 use Rattle.kan_model.specs.declared.prims.Kind.{Kind}
 use Rattle.kan_model.specs.declared.prims.Kind.TheVariants.{Symbol, Number, Text}
 use Rattle.unify_core.specs.Walking.{Pairs, walked, full}
@@ -145,10 +145,14 @@ move_stuck old o w moves = by o refl
   where
     by : (c : Option Kind) → o ≡ c → Stuck old o w
     by None e = absurd (subst (λ c. MovesTypes old c w None) e moves)
-    by (Some k) e = (k, e, elim (variable-or w) [
-      | inr other ↦ inl (sym (may_have-other old k w other) ∙ can't)
-      | inl (y, is) ↦ inr (other_type y is (old y) refl)
-    ])
+    by (Some k) e = (
+      k,
+      e,
+      elim (variable-or w) [
+        | inr other ↦ inl (sym (may_have-other old k w other) ∙ can't)
+        | inl (y, is) ↦ inr (other_type y is (old y) refl)
+      ],
+    )
       where
         can't : may_have old k w ≡ false
         can't = subst (λ c. MovesTypes old c w None) e moves
@@ -179,9 +183,10 @@ module _ (new : Pairs) (g : Grown new) where
       let first : Tree.leaf y ≡ Tree.leaf x = ap (λ p. p.0) e in
       let same : y ≡ x = cc in
       let term : u ≡ t = ap (λ p. p.1) e in
-      let at : old y ≡ Some k = ap old same ∙ has in
-      (λ v walks. moves_keep mid rest r d final is v k (move_puts old (old y) (walked new u) mid one v k at (ap (walked new) term ∙ walks)),
-        subst (λ w. may_be k (walked new w) ≡ true) term (move_may old (old y) (walked new u) mid one k at))
+      let at : old y ≡ Some k = ap old same ∙ has in (
+        λ v walks. moves_keep mid rest r d final is v k (move_puts old (old y) (walked new u) mid one v k at (ap (walked new) term ∙ walks)),
+        subst (λ w. may_be k (walked new w) ≡ true) term (move_may old (old y) (walked new u) mid one k at),
+      )
   moves_put old more r (TypesMove.moved_one {mid = mid} {x = y} {t = u} {more = rest} one d) final is x t (inr a) k has =
       moves_put mid rest r d final is x t a k (move_keeps old (old y) (walked new u) mid one x k has)
   moves_put old more r (TypesMove.not_moved one) final is x t a k has = cc
@@ -217,11 +222,17 @@ module _ (new : Pairs) (g : Grown new) where
     where
       by : Stops mid rest → Stops old ((Tree.leaf x, t) ∷ rest)
       by (y, u, k, a, has, why) =
-          let (w, bound) = bounds y u (inr a) in
-          (y, u, k, inr a, sym (move_elsewhere old (old x) (walked new t) mid one y (λ is. apart t y w bound is)) ∙ has, elim why [
-            | inl atom ↦ inl atom
-            | inr (z, l, walks, from, differ) ↦ inr (z, l, walks, from_before old mid x t rest one (λ y u a. bounds y u (inr a)) z l from, differ)
-          ])
+          let (w, bound) = bounds y u (inr a) in (
+            y,
+            u,
+            k,
+            inr a,
+            sym (move_elsewhere old (old x) (walked new t) mid one y (λ is. apart t y w bound is)) ∙ has,
+            elim why [
+              | inl atom ↦ inl atom
+              | inr (z, l, walks, from, differ) ↦ inr (z, l, walks, from_before old mid x t rest one (λ y u a. bounds y u (inr a)) z l from, differ)
+            ],
+          )
   moves_stop old more r (TypesMove.not_moved {x = x} {t = t} one) bounds is = by (move_stuck old (old x) (walked new t) one)
     where
       by : Stuck old (old x) (walked new t) → Stops old more
@@ -308,7 +319,7 @@ module _ (bound new : Pairs) (added : List (Tm × Tm)) (g : Grown bound) (h : Gr
   came old step v free k (inr (x, t, in_added, has, walks)) =
       let (a, among, is) = has_type-asked s ps k x ((step x (added-free bound added new put x t in_added) k).0 has) in
       has_type-from r ps k v a among (further a ∙ ap (full new) is ∙ full-bound new h x t (added-bound bound added new put x t in_added)
-        ∙ sym (full-walked new h t) ∙ ap (full new) walks ∙ full-free new v free)
+      ∙ sym (full-walked new h t) ∙ ap (full new) walks ∙ full-free new v free)
 
   pub types_step : (old final : Types) → TypesInStep bound old s ps → TypesAllowed s ps → TypesMove new old added (Some final) → TypesInStep new final r ps × TypesAllowed r ps
   types_step old final step allowed moves = (λ v free k. (λ has. came old step v free k (moves_from new h old added (Some final) moves bounds final refl v k has), asked v free k), allowed_on)
@@ -356,9 +367,9 @@ module _ (bound new : Pairs) (added : List (Tm × Tm)) (g : Grown bound) (h : Gr
           let value : apply r a ≡ full new (walked new t) = further a ∙ ap (full new) is ∙ full-bound new h x t (added-bound bound added new put x t in_added) ∙ sym (full-walked new h t) in
           elim why [
             | inl atom ↦ (elim (variable-or (walked new t)) [
-                | inl (v, walks) ↦ true≢false (sym (subst (λ w. may_be k w ≡ true) (sym walks) (leaf_may k v)) ∙ atom)
-                | inr other ↦ true≢false (sym (allowed k a among) ∙ ap (may_be k) value ∙ may_be-onward k new (walked new t) other ∙ atom)
-              ])
+              | inl (v, walks) ↦ true≢false (sym (subst (λ w. may_be k w ≡ true) (sym walks) (leaf_may k v)) ∙ atom)
+              | inr other ↦ true≢false (sym (allowed k a among) ∙ ap (may_be k) value ∙ may_be-onward k new (walked new t) other ∙ atom)
+            ])
             | inr (y, l, walks, from, differ) ↦ (
                 let free = walked-end new h t y walks in
                 let same : k ≡ l = one y k l (has_type-from r ps k y a among (value ∙ ap (full new) walks ∙ full-free new y free)) (came old step y free l from) in

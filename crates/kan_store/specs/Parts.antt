@@ -1,5 +1,5 @@
 -- The parts of a solved store, and what each call makes of them.
-use Rattle.std.specs.Prelude.{◌≡◌, ℕ, Bool, true, false, List, [], ◌∷◌, ◌++◌, Option, Some, None}
+use Rattle.std.specs.Prelude.{◌≡◌, ℕ, true, false, List, [], ◌∷◌, ◌++◌, Option, Some, None}
 use Rattle.std.specs.List.{list_any}
 use Rattle.kan_terms.specs.Tree.{Tm, term_eq}
 use Rattle.kan_model.specs.Stores.Store.{Store, Equation}
@@ -48,6 +48,22 @@ pub data Equated (old : Parts) (a b : Tm) : Option Parts → Type 0 where
   equated : {added : List (Tm × Tm)} {new : Parts} → Unifying old.bound (equation a b ∷ []) (Some added) → AddedTo old.bound added new.bound → HasNoCycle new.bound →
       TypesMove new.bound old.types added (Some new.types) → TagsMove new.bound old.tags added (Some new.tags) →
       list_any (is_identical new.bound) old.lists ≡ false → Brought new.bound old.lists new.lists → are_watchable new.bound new.lists ≡ true → Equated old a b (Some new)
+
+-- disequalities brought up to bindings that were made, beside types and absences; there are none where one of them is false by now
+pub data BroughtUp (bound : Pairs) (types : Types) (tags : TagsOf) (lists : List Disequality) : Option Parts → Type 0 where
+  one_false : list_any (is_identical bound) lists ≡ true → BroughtUp bound types tags lists None
+  all_differ : {new : Parts} → new.bound ≡ bound → new.types ≡ types → new.tags ≡ tags → list_any (is_identical bound) lists ≡ false → Brought bound lists new.lists →
+      are_watchable bound new.lists ≡ true → BroughtUp bound types tags lists (Some new)
+
+-- and absences that went over to the terms of the variables that were bound
+pub data CarriedTags (bound : Pairs) (added : List (Tm × Tm)) (types : Types) (tags : TagsOf) (lists : List Disequality) : Option Parts → Type 0 where
+  tags_clash : TagsMove bound tags added None → CarriedTags bound added types tags lists None
+  tags_moved : {moved : TagsOf} {r : Option Parts} → TagsMove bound tags added (Some moved) → BroughtUp bound types moved lists r → CarriedTags bound added types tags lists r
+
+-- and types that did
+pub data CarriedTypes (bound : Pairs) (added : List (Tm × Tm)) (types : Types) (tags : TagsOf) (lists : List Disequality) : Option Parts → Type 0 where
+  types_clash : TypesMove bound types added None → CarriedTypes bound added types tags lists None
+  types_moved : {moved : Types} {r : Option Parts} → TypesMove bound types added (Some moved) → CarriedTags bound added moved tags lists r → CarriedTypes bound added types tags lists r
 
 -- the parts with a type more
 pub data Typing (old : Parts) (kind : Kind) (t : Tm) : Option Parts → Type 0 where

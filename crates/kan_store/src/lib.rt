@@ -1,9 +1,10 @@
-//! The solved store: bindings, types, absences and disequalities in step with what was asserted.
+//! The parts of a solved store: bindings, types, absences and disequalities in step with what was
+//! asserted.
 #![tactic(auto)]
 
 mod history;
 mod moving;
 mod solved;
-mod store;
 
-pub use store::SolvedStore;
+pub use history::{History, Tells};
+pub use solved::{Solved, add, copied, unsolved};

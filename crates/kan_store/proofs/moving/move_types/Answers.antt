@@ -1,9 +1,8 @@
-use Rattle.std.proofs.Common.{◌≡◌, ◌<◌, map, drop, length, Option, Some, None, option_map, sym, ap, subst, ◌∙◌, ◌+◌, arith}
-use Rattle.kan_terms.specs.Terms.{tree, sides}
-use Rattle.unify_core.specs.Walking.{walked, full}
+use Rattle.std.proofs.Common.{Some, None, option_map, subst, arith}
+use Rattle.kan_terms.specs.Terms.{tree}
+use Rattle.unify_core.specs.Walking.{walked}
 use Rattle.type_absence.specs.Types.{MovesTypes}
-use Rattle.type_absence.specs.Absent.{GivesTags}
-use Rattle.type_absence.specs.Seen.{types, tags}
+use Rattle.type_absence.specs.Seen.{types}
 use Rattle.kan_store.proofs.MovingLaws.{never_other, types_go_on, types_end, types_done}
 use Rattle.kan_store.proofs.moving.move_types.Goals as goal
 
