@@ -1,10 +1,8 @@
-pub mod WalkingLaws
-pub mod NamingLaws
-pub mod PrintingLaws
-pub mod AnswerLaws
+pub mod TagLaws
 pub mod RunLaws
 pub mod CommandLaws
 pub mod TextLaws
 pub mod WritingLaws
 pub mod Declared
 pub mod TopLaws
+pub mod HeadlineLaws

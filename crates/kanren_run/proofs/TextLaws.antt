@@ -1,9 +1,7 @@
 -- What becomes of a text: its program, or its refusal.
-use Rattle.std.proofs.Common.{◌≡◌, ℕ, Bool, true, false, List, [], map, None, Result, Ok, Err, refl, sym, ap, subst, ◌∙◌}
+use Rattle.std.proofs.Common.{◌≡◌, ℕ, List, [], map, None, Ok, Err, refl, sym, ap, subst, ◌∙◌}
 use Rattle.std.specs.Prelude.{Some}
-use Rattle.std.specs.List.{list_all}
 use Rattle.std.specs.Str.{is_utf8, chars}
-use Rattle.std.proofs.lemmas.Bool.{and_parts}
 use Rattle.kan_terms.specs.Table.{Table, no_names}
 use Rattle.kan_grammar.specs.declared.dialect.Dialect.TheVariants.{Book}
 use Rattle.kan_grammar.specs.Data.Faults.{run, read_tokens, read_text, fault}
@@ -17,15 +15,13 @@ use Rattle.sexpr.specs.declared.data.Datum.{Datum}
 use Rattle.sexpr.specs.declared.data.ReadError.{ReadError}
 use Rattle.sexpr.specs.declared.data.ReadError.TheVariants as reading
 use Rattle.sexpr.proofs.ReplyLaws.{replies_as_read}
-use Rattle.goal_syntax.specs.Compiling.Compiles.{Compiles, IsCompiled, fault_found, relations_meant, queries_meant}
-use Rattle.goal_syntax.specs.Building.Equations.{are_equational, is_equational_body, is_equational_query}
+use Rattle.goal_syntax.specs.Compiling.Compiles.{Compiles, IsCompiled, fault_found}
 use Rattle.goal_syntax.specs.declared.refusal.SyntaxError.{SyntaxError}
 use Rattle.goal_syntax.specs.declared.refusal.SyntaxError.TheVariants as syntax
 use Rattle.goal_syntax.specs.declared.compiler.Compiled.{Compiled}
-use Rattle.kanren_run.specs.Answers.{answer, unless_unbuilt, where_built, IsRefused}
-use Rattle.kanren_run.specs.Replies.{HasRuns, ComesTo, EquationsAlone}
-use Rattle.kanren_run.specs.declared.text.NotRun.{NotRun}
-use Rattle.kanren_run.specs.declared.text.NotRun.TheVariants.{Fault, Memory}
+use Rattle.kanren_run.specs.Answers.{answer, IsRefused}
+use Rattle.kanren_run.specs.Replies.{HasRuns}
+use Rattle.kanren_run.proofs.TagLaws.{bodies-named, queries-named}
 
 -- a text without a library in front of it names what its own tokens do
 no_tokens : tokens [] ≡ []
@@ -52,44 +48,36 @@ to_data text names ds is read =
 -- a text that can't be read is refused
 pub reading_refused : (text : List ℕ) (names : Table) (x : ReadError) (at number : ℕ) → x ≡ reading.Fault at number → Reads text names (Err x) → IsRefused text at number
 reading_refused text names x at number is read =
-    ap unless_unbuilt (replies_as_read [] text Book [] (Err (reading.Fault at number)) (none_read (text_table [] text)) (subst (λ y. Reads text names (Err y)) is read))
+    replies_as_read [] text Book [] (Err (reading.Fault at number)) (none_read (text_table [] text)) (subst (λ y. Reads text names (Err y)) is read)
 
 -- the table of a text that was read into an empty one
 pub numbered_from : (text : List ℕ) (old new : Table) → old ≡ no_names → new ≡ with_text_names old text → new ≡ with_text_names no_names text
 numbered_from text old new is numbered = numbered ∙ ap (λ t. with_text_names t text) is
 
 -- what data that were compiled are answered with
-compiled_answer : (names : Table) (ds : List Datum) (text : List ℕ) (b : Bool) → reply [] text Book ≡ reply_to_data Book names [] (map (written names) ds) → fault_found names [] ds ≡ None →
-    are_equational (relations_meant Book names [] ds) (queries_meant Book names [] ds) ≡ b →
-    answer text ≡ where_built b (Reply.accepted names (program_of_text Book names [] (map (written names) ds)) (queries_of_text Book names [] (map (written names) ds)))
-compiled_answer names ds text b same none alone =
-    ap unless_unbuilt (same ∙ ap (λ f. unless_fault f (Reply.accepted names (program_of_text Book names [] (map (written names) ds)) (queries_of_text Book names [] (map (written names) ds)))) none)
-    ∙ ap (λ x. where_built x (Reply.accepted names (program_of_text Book names [] (map (written names) ds)) (queries_of_text Book names [] (map (written names) ds)))) alone
+compiled_answer : (names : Table) (ds : List Datum) (text : List ℕ) → reply [] text Book ≡ reply_to_data Book names [] (map (written names) ds) → fault_found names [] ds ≡ None →
+    answer text ≡ Reply.accepted names (program_of_text Book names [] (map (written names) ds)) (queries_of_text Book names [] (map (written names) ds))
+compiled_answer names ds text same none =
+    same ∙ ap (λ f. unless_fault f (Reply.accepted names (program_of_text Book names [] (map (written names) ds)) (queries_of_text Book names [] (map (written names) ds)))) none
 
--- what data that were read come to
-pub data_come : (text : List ℕ) (old later : Table) (ds : List Datum) (c : Compiled) (r : Result Compiled NotRun) →
-    old ≡ with_text_names no_names text → Reads text (with_prefixes old) (Ok ds) → later ≡ with_prefixes old → IsCompiled Book (with_prefixes old) [] ds c.program c.queries → EquationsAlone c r → ComesTo text later r
-data_come text old later ds c (Ok back) is read table compiled (same, alone) =
+-- what data that were compiled come to
+pub data_come : (text : List ℕ) (old later : Table) (ds : List Datum) (c : Compiled) →
+    old ≡ with_text_names no_names text → Reads text (with_prefixes old) (Ok ds) → later ≡ with_prefixes old → IsCompiled Book (with_prefixes old) [] ds c.program c.queries → HasRuns text later c.program c.queries
+data_come text old later ds c is read table compiled =
     let names : Table = with_prefixes old in
-    let meant : are_equational (relations_meant Book names [] ds) (queries_meant Book names [] ds) ≡ true = sym compiled.equational ∙ alone in
-    let parts = and_parts (list_all is_equational_body (relations_meant Book names [] ds)) (list_all is_equational_query (queries_meant Book names [] ds)) meant in
-    subst (λ x. HasRuns text later x.program x.queries) (sym same) (subst (λ t. HasRuns text t c.program c.queries) (sym table)
+    subst (λ t. HasRuns text t c.program c.queries) (sym table)
     (record {
       meant = program_of_text Book names [] (map (written names) ds);
-      answered = compiled_answer names ds text true (to_data text old ds is read) compiled.accepted meant
+      answered = compiled_answer names ds text (to_data text old ds is read) compiled.accepted
           ∙ ap (λ qs. Reply.accepted names (program_of_text Book names [] (map (written names) ds)) qs) (sym compiled.queries_are);
       relations = compiled.relations;
       can = record {
         closed = compiled.closed;
         small = compiled.small;
-        bodies = ap (list_all is_equational_body) compiled.relations ∙ parts.0;
-        goals = ap (list_all is_equational_query) compiled.queries_are ∙ parts.1;
+        bodies = bodies-named names c.program compiled.named;
+        goals = queries-named names c.program c.queries compiled.named;
       };
-    }))
-data_come text old later ds c (Err (Fault f)) is read table compiled (at, number, alone) =
-    compiled_answer (with_prefixes old) ds text false (to_data text old ds is read) compiled.accepted (sym compiled.equational ∙ alone)
-    ∙ ap (λ a. Reply.refusal (fault a 0)) (sym at) ∙ ap (λ n. Reply.refusal (fault f.at n)) (sym number)
-data_come text old later ds c (Err Memory) is read table compiled alone = absurd alone
+    })
 
 -- data that have a fault are refused for it
 pub data_refused : (text : List ℕ) (old : Table) (ds : List Datum) (x : SyntaxError) (at number : ℕ) → x ≡ syntax.Fault at number →
@@ -97,8 +85,8 @@ pub data_refused : (text : List ℕ) (old : Table) (ds : List Datum) (x : Syntax
 data_refused text old ds x at number same is read found =
     let names : Table = with_prefixes old in
     let first : fault_found names [] ds ≡ Some (fault at number) = subst (λ y. Compiles Book names [] ds (Err y)) same found in
-    ap unless_unbuilt (to_data text old ds is read
-    ∙ ap (λ f. unless_fault f (Reply.accepted names (program_of_text Book names [] (map (written names) ds)) (queries_of_text Book names [] (map (written names) ds)))) first)
+    to_data text old ds is read
+    ∙ ap (λ f. unless_fault f (Reply.accepted names (program_of_text Book names [] (map (written names) ds)) (queries_of_text Book names [] (map (written names) ds)))) first
 
 -- the same of equal offsets and numbers
 pub refused_same : (text : List ℕ) (a b m n : ℕ) → a ≡ b → m ≡ n → IsRefused text a m → IsRefused text b n

@@ -29,10 +29,9 @@ use Rattle.kan_search.specs.declared.batch.Ended.{Ended}
 use Rattle.kanren_run.specs.Writing.{Puts, Stops, Written, WritesNext, Continues, CanRun, answer_lines, end_text, rest_text}
 use Rattle.kanren_run.specs.declared.writing.Stop.{Stop}
 use Rattle.kanren_run.specs.declared.writing.Stop.TheVariants.{Fault, Memory}
-use Rattle.goal_syntax.specs.Building.Equations.{is_equational_query}
 use Rattle.kan_grammar.specs.Texts.Reply.{is_spent}
 use Rattle.kanren_run.specs.Answers.{spends}
-use Rattle.kanren_run.specs.Equations.{HasEquations, Each}
+use Rattle.kanren_run.specs.Tags.{HasNames, Each, is_query_named}
 
 -- the lines of the answers so far, and of one more
 pub lines_more : {X : Type 0} (table : Table) (means : X → Store) (xs : List X) (i : ℕ) (d : X) → i < length xs →
@@ -54,10 +53,10 @@ text_more table means xs i x before text new within is so_far added =
     ∙ ap (λ k. answer_lines table (map means (take k xs))) (sym next))
 
 -- a fact of each is one of that at a place
-pub each-at : {X : Type 0} (means : X → Store) (xs : List X) (i : ℕ) (d : X) → i < length xs → Each HasEquations (map means xs) → HasEquations (means (get_or xs i d))
-each-at means [] i d within each = absurd (omega (arith, within))
-each-at means (x ∷ xs) zero d within (first, rest) = first
-each-at means (x ∷ xs) (suc i) d within (first, rest) = each-at means xs i d (omega (arith, within)) rest
+pub each-at : {X : Type 0} (P : Store → Type 0) (means : X → Store) (xs : List X) (i : ℕ) (d : X) → i < length xs → Each P (map means xs) → P (means (get_or xs i d))
+each-at P means [] i d within each = absurd (omega (arith, within))
+each-at P means (x ∷ xs) zero d within (first, rest) = first
+each-at P means (x ∷ xs) (suc i) d within (first, rest) = each-at P means xs i d (omega (arith, within)) rest
 
 -- what is written of a batch and of what is left after it
 rest-joined : (table : Table) (n p : ℕ) (sts : List Store) (k : ℕ) (t : Taken) → rest_text table n p (joined sts k t) ≡ answer_lines table sts ++ rest_text table (n + length sts) (p + k) t
@@ -133,16 +132,17 @@ batch_less round before p sts after q some adv =
     from (inr whole) stores pulls = omega (arith, whole, stores, pulls, some)
 
 -- the stores that are left after a batch are among those that were left before it
-each-after : (xs ys : List Store) → Each HasEquations (xs ++ ys) → Each HasEquations ys
-each-after [] ys each = each
-each-after (x ∷ xs) ys (first, rest) = each-after xs ys rest
+each-after : (P : Store → Type 0) (xs ys : List Store) → Each P (xs ++ ys) → Each P ys
+each-after P [] ys each = each
+each-after P (x ∷ xs) ys (first, rest) = each-after P xs ys rest
 
-pub each-front : (xs ys : List Store) → Each HasEquations (xs ++ ys) → Each HasEquations xs
-each-front [] ys each = tt
-each-front (x ∷ xs) ys (first, rest) = (first, each-front xs ys rest)
+each-front : (P : Store → Type 0) (xs ys : List Store) → Each P (xs ++ ys) → Each P xs
+each-front P [] ys each = tt
+each-front P (x ∷ xs) ys (first, rest) = (first, each-front P xs ys rest)
 
-pub batch_equations : (round : ℕ) (before : Taken) (p : ℕ) (sts : List Store) (ended : Option Ended) (after : Taken) (q : ℕ) → Advances round before p sts ended after q → Each HasEquations before.stores → Each HasEquations sts
-batch_equations round before p sts ended after q adv each = each-front sts after.stores (subst (λ (t : Taken). Each HasEquations t.stores) adv.joins each)
+pub batch_named : (table : Table) (round : ℕ) (before : Taken) (p : ℕ) (sts : List Store) (ended : Option Ended) (after : Taken) (q : ℕ) → Advances round before p sts ended after q → Each (HasNames table) before.stores → Each (HasNames table) sts
+batch_named table round before p sts ended after q adv each =
+    each-front (HasNames table) sts after.stores (subst (λ (t : Taken). Each (HasNames table) t.stores) adv.joins each)
 
 -- how many answers there are after a batch
 pub batch_counted : {X : Type 0} (means : X → Store) (xs : List X) (m n k : ℕ) → m ≡ n + k → k ≡ length xs → m ≡ n + length (map means xs)
@@ -164,11 +164,11 @@ next_lines table round before n p sts (Some e) after m q adv counted = ([], last
 
 -- what the writing of a batch makes of the writing of a run, where the count of pulls is read after it
 pub next_written : (table : Table) (round : ℕ) (before : Taken) (n p : ℕ) (sts : List Store) (ended : Option Ended) (after : Taken) (m q r : ℕ) (a b : SinkView) →
-    1 ≤ round → Each HasEquations before.stores → Advances round before p sts ended after q → m ≡ n + length sts → r ≡ q →
+    1 ≤ round → Each (HasNames table) before.stores → Advances round before p sts ended after q → m ≡ n + length sts → r ≡ q →
     Appends a.put b.put (answer_lines table sts ++ end_text m r ended) × (b.faults ≡ a.faults) → WritesNext table before n p after m q a b (Ok ended)
 next_written table round before n p sts None after m q r a b some each adv counted read (put, still) = record {
   written = record { front = answer_lines table sts; parts = batch_parts table round before n p sts None after m q adv counted; put_front = subst (Appends a.put b.put) (append-nil (answer_lines table sts)) put; still = still };
-  equations = each-after sts after.stores (subst (λ (t : Taken). Each HasEquations t.stores) adv.joins each);
+  named = each-after (HasNames table) sts after.stores (subst (λ (t : Taken). Each (HasNames table) t.stores) adv.joins each);
   ending = sym (ap (λ (t : Taken). t.ending) adv.joins);
   less = batch_less round before p sts after q some adv;
 }
@@ -268,12 +268,12 @@ one_closed program qs i q within is all =
     (one_of (λ g. nat_lt g (length ts.goals)) goal_place qs i q within is parts.0)
     (both_hold (low && calls && bodies) (list_all (in_scope 1) (goal_at (goals_of ts) q.goal ∷ [])) scopes.0 (one_scoped (goals_of ts) qs i q within is scopes.1))
 
-pub can-one : (program : declared.Program) (qs : List declared.Query) (i : ℕ) (q : declared.Query) → i < length qs → q ≡ get_or qs i q → CanRun program qs → CanRun program (q ∷ [])
-can-one program qs i q within is can = record {
+can-one : (table : Table) (program : declared.Program) (qs : List declared.Query) (i : ℕ) (q : declared.Query) → i < length qs → q ≡ get_or qs i q → CanRun table program qs → CanRun table program (q ∷ [])
+can-one table program qs i q within is can = record {
   closed = one_closed program qs i q within is can.closed;
   small = can.small;
   bodies = can.bodies;
-  goals = one_of is_equational_query (query_of program) qs i q within is can.goals;
+  goals = one_of (is_query_named table) (query_of program) qs i q within is can.goals;
 }
 
 -- the same of the item at a place, whatever stands for one past the end
@@ -282,8 +282,8 @@ at_place [] i d e within = absurd (omega (arith, within))
 at_place (x ∷ xs) zero d e within = refl
 at_place (x ∷ xs) (suc i) d e within = at_place xs i d e (omega (arith, within))
 
-pub can-at : (program : declared.Program) (qs : List declared.Query) (i : ℕ) (d : declared.Query) → i < length qs → CanRun program qs → CanRun program (get_or qs i d ∷ [])
-can-at program qs i d within can = can-one program qs i (get_or qs i d) within (at_place qs i d (get_or qs i d) within) can
+pub can-at : (table : Table) (program : declared.Program) (qs : List declared.Query) (i : ℕ) (d : declared.Query) → i < length qs → CanRun table program qs → CanRun table program (get_or qs i d ∷ [])
+can-at table program qs i d within can = can-one table program qs i (get_or qs i d) within (at_place qs i d (get_or qs i d) within) can
 
 pub runs-written : (table : Table) (program : Program) (fuel : ℕ) (means : declared.Query → Query) (qs : List declared.Query) (i : ℕ) (d : declared.Query) (total : List ℕ) (a b c : SinkView) → i < length qs →
     Written total a b (runs_output table program fuel (map means (drop i qs))) → Appends b.put c.put (taken_text table (take_query program fuel (means (get_or qs i d)))) × (c.faults ≡ b.faults) →

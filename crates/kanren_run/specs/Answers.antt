@@ -1,4 +1,4 @@
--- What a text is answered with: the reply to it, but that some constraints aren't built yet.
+-- What a text is answered with, and what is said of it.
 use Rattle.std.specs.Prelude.{◌≡◌, ℕ, Bool, true, false, List, []}
 use Rattle.std.specs.List.{list_any}
 use Rattle.kan_model.specs.Programs.Goals.{Program, Query}
@@ -6,22 +6,10 @@ use Rattle.kan_model.specs.Streams.Taking.{take_query}
 use Rattle.kan_grammar.specs.declared.dialect.Dialect.TheVariants.{Book}
 use Rattle.kan_grammar.specs.Data.Faults.{fault}
 use Rattle.kan_grammar.specs.Texts.Reply.{Reply, reply, spends_fuel, is_spent}
-use Rattle.goal_syntax.specs.Building.Equations.{are_equational}
 
--- a reply where what it asks for is built, and else the refusal that says so
-abbrev pub where_built : Bool → Reply → Reply
-where_built true r = r
-where_built false r = Reply.refusal (fault 0 0)
-
--- a program is run where its only constraints are equations
-abbrev pub unless_unbuilt : Reply → Reply
-unless_unbuilt (Reply.refusal f) = Reply.refusal f
-unless_unbuilt (Reply.accepted table program queries) =
-    where_built (are_equational program.relations queries) (Reply.accepted table program queries)
-
--- what a text is answered with
+-- what a text is answered with: the reply to it without a library
 abbrev pub answer : List ℕ → Reply
-answer text = unless_unbuilt (reply [] text Book)
+answer text = reply [] text Book
 
 abbrev pub is_accepted : Reply → Bool
 is_accepted (Reply.refusal f) = false

@@ -1,10 +1,8 @@
-pub mod Walking
-pub mod Naming
-pub mod Printing
 pub mod Commands
 pub mod Answers
 pub mod Writing
-pub mod Equations
+pub mod Tags
 pub mod Replies
 pub mod Outcomes
 pub mod Complaints
+pub mod Headline

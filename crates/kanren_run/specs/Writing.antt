@@ -15,11 +15,10 @@ use Rattle.kan_model.specs.declared.program.Program.{Program}
 use Rattle.kan_model.specs.declared.nodes.Query.{Query}
 use Rattle.kan_terms.specs.Table.{Table}
 use Rattle.kan_model.specs.Answers.Output.{answer_line, summary_line}
-use Rattle.goal_syntax.specs.Building.Equations.{is_equational_body, is_equational_query}
 use Rattle.kan_search.specs.Batches.{ending_of}
 use Rattle.kan_model.specs.Programs.Closed.{query_of}
 use Rattle.kan_search.specs.declared.batch.Ended.{Ended}
-use Rattle.kanren_run.specs.Equations.{HasEquations, Each}
+use Rattle.kanren_run.specs.Tags.{HasNames, Each, is_body_named, is_query_named}
 use Rattle.kanren_run.specs.declared.writing.Stop.{Stop}
 use Rattle.kanren_run.specs.declared.writing.Stop.TheVariants.{Fault, Memory}
 
@@ -62,7 +61,7 @@ pub record Written (text : List ℕ) (old new : SinkView) (rest : List ℕ) : Ty
 -- what is left of a run after some of its lines were put: the lines that are still to come, less of them than before, and the same end
 pub record Continues (table : Table) (before : Taken) (answers pulls : ℕ) (after : Taken) (answers_after pulls_after : ℕ) (old new : SinkView) : Type 0 where
   pub written : Written (rest_text table answers pulls before) old new (rest_text table answers_after pulls_after after)
-  pub equations : Each HasEquations after.stores
+  pub named : Each (HasNames table) after.stores
   pub ending : after.ending ≡ before.ending
   pub less : length after.stores + after.pulls < length before.stores + before.pulls
 
@@ -73,9 +72,9 @@ WritesNext t before n p after m q old new (Ok (Some ended)) =
     Appends old.put new.put (rest_text t n p before) × (new.faults ≡ old.faults) × (ending_of ended ≡ before.ending)
 WritesNext t before n p after m q old new (Err stop) = Stops (rest_text t n p before) old new stop
 
--- a program may be run for some queries: nothing is open, it is small, and it has equations alone
-pub record CanRun (program : Program) (queries : List Query) : Type 0 where
+-- a program may be run for some queries: nothing is open, it is small, and its tags have names
+pub record CanRun (table : Table) (program : Program) (queries : List Query) : Type 0 where
   pub closed : are_closed (programs.tables program) (map goal_place queries) ≡ true
   pub small : is_small (programs.meaning program) ≡ true
-  pub bodies : list_all is_equational_body (programs.meaning program).relations ≡ true
-  pub goals : list_all is_equational_query (map (query_of program) queries) ≡ true
+  pub bodies : list_all (is_body_named table) (programs.meaning program).relations ≡ true
+  pub goals : list_all (is_query_named table) (map (query_of program) queries) ≡ true

@@ -1,46 +1,29 @@
 //! The lines of answers and of summaries.
 
-ghost use Rattle.std.specs.Prelude.{◌≡◌, ◌++◌, true, IfOk, OnOk, string_bytes};
-ghost use Rattle.std.specs.List.{list_all};
-ghost use Rattle.kan_terms.specs.Terms.{tree};
-ghost use Rattle.kan_model.specs.Stores.Solve.{image};
-ghost use Rattle.kan_model.specs.Answers.Answer.{in_names, named_variables as variables_named};
+ghost use Rattle.std.specs.Prelude.{◌≡◌, ◌++◌, IfOk, OnOk, string_bytes};
 ghost use Rattle.kan_model.specs.Answers.Output as output;
-ghost use Rattle.kan_model.specs.Stores.Calls.{answer, is_equation};
 ghost use Rattle.kan_search.specs.Batches.{ending_of};
+ghost use Rattle.kanren_run.specs.Tags.{HasNames};
 
-use crate::naming::{named_variables, rename_all};
-use crate::printing::print_term;
-use crate::walking::spell_in;
-use kan_model::{Store, build};
+use kan_model::Store;
 use kan_search::Ended;
-use kan_terms::{Memory, Names, Term};
+use kan_terms::{Memory, Names};
 use std::alloc::Global;
 
-// What the query variable stands for in a store, with its variables named.
-fn answer_term<St: Store>(alloc: Global, store: &St) -> Result<Term, Memory>
-    ensures { IfOk result (λ term. let value = image (answer (St.meaning store.now)) 0 in tree term ≡ in_names (variables_named value) value) }
-{
-    let letters = spell_in(alloc, store, &Term::Var(0))?;
-    let variables = named_variables(alloc, &letters)?;
-    let named = rename_all(alloc, &variables, &letters)?;
-    let term = build(alloc, named)?;
-    Ok(term)
-}
-
-/// Adds the line of a store's answer, where the store has equations alone.
+/// Adds the line of a store's answer.
 pub(crate) fn print_answer<St: Store>(
     alloc: Global,
     store: &St,
     names: &Names,
-    text: &mut String,
+    lines: &mut Vec<u8>,
 ) -> Result<(), Memory>
-    requires { list_all is_equation (St.meaning store.now).prims ≡ true }
-    ensures { OnOk result (string_bytes text.new ≡ string_bytes text.old ++ output.answer_line names.now (St.meaning store.now)) }
+    requires { HasNames names.now (St.meaning store.now) }
+    ensures { OnOk result (lines.new.items ≡ lines.old.items ++ output.answer_line names.now (St.meaning store.now)) }
 {
-    let term = answer_term(alloc, store)?;
-    print_term(alloc, &term, names, text)?;
-    text.push('\n')?;
+    let answer = reify::answer_of(alloc, store, names)?;
+    let text = reify::print_answer(alloc, &answer, names)?;
+    lines.extend_from_slice(&text)?;
+    lines.push(b'\n')?;
     Ok(())
 }
 
@@ -55,16 +38,27 @@ fn ending(ended: Ended) -> &'static str
     }
 }
 
+// The summary line of a run.
+fn summary(alloc: Global, answers: u64, pulls: u64, ended: Ended) -> Result<String, Memory>
+    ensures { IfOk result (λ line. string_bytes line ≡ output.summary_line answers pulls (ending_of ended)) }
+{
+    let mut line = String::new(alloc);
+    let ending = ending(ended);
+    writeln!(line, "; {answers} answers, {pulls} pulls, {ending}")?;
+    Ok(line)
+}
+
 /// Adds the summary line of a run.
 pub(crate) fn print_summary(
+    alloc: Global,
     answers: u64,
     pulls: u64,
     ended: Ended,
-    text: &mut String,
+    lines: &mut Vec<u8>,
 ) -> Result<(), Memory>
-    ensures { OnOk result (string_bytes text.new ≡ string_bytes text.old ++ output.summary_line answers pulls (ending_of ended)) }
+    ensures { OnOk result (lines.new.items ≡ lines.old.items ++ output.summary_line answers pulls (ending_of ended)) }
 {
-    let ending = ending(ended);
-    writeln!(text, "; {answers} answers, {pulls} pulls, {ending}")?;
+    let line = summary(alloc, answers, pulls, ended)?;
+    lines.extend_from_slice(line.as_bytes())?;
     Ok(())
 }

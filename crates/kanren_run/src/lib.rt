@@ -4,12 +4,9 @@
 mod answer;
 mod command;
 mod complaints;
-mod naming;
-mod printing;
 mod refusal;
 mod text;
 mod top;
-mod walking;
 mod writing;
 
 pub use complaints::complaint;

@@ -3,17 +3,13 @@
 ghost use Rattle.std.specs.Prelude.{◌≡◌, ◌+◌, ◌<◌, ◌≤◌, ◌^◌, length, List, ℕ, Ok};
 ghost use Rattle.kan_terms.specs.Table.{no_names};
 ghost use Rattle.kan_grammar.specs.Texts.TextNames.{with_prefixes, with_text_names};
-ghost use Rattle.kan_model.specs.Programs.Nodes.{goal_entry};
-ghost use Rattle.kan_model.specs.Programs.Closed as programs;
 ghost use Rattle.sexpr.specs.Reads.{Reads};
 ghost use Rattle.goal_syntax.specs.Compiling.Compiles.{AreOfText};
-ghost use Rattle.goal_syntax.specs.Building.Equations.{is_equational_entry, are_equational_entries};
-ghost use Rattle.kanren_run.specs.Replies.{ComesTo, EquationsAlone};
+ghost use Rattle.kanren_run.specs.Replies.{ComesTo};
 
 use crate::refusal::Fault;
 use goal_syntax::{Compiled, SyntaxError, compile};
 use kan_grammar::Dialect;
-use kan_model::{GoalNode, Program};
 use kan_terms::Names;
 use sexpr::{Datum, ReadError, read};
 use std::alloc::Global;
@@ -27,47 +23,6 @@ pub(crate) enum NotRun {
     Memory,
 }
 
-// Whether a goal is no constraint but an equation.
-fn is_equational(node: GoalNode) -> bool
-    ensures { result ≡ is_equational_entry (goal_entry node) }
-{
-    !matches!(
-        node,
-        GoalNode::Differ(_, _)
-            | GoalNode::Symbol(_)
-            | GoalNode::Number(_)
-            | GoalNode::Text(_)
-            | GoalNode::Absent(_, _)
-    )
-}
-
-// Whether the only constraints of a program are equations.
-fn has_equations_alone(program: &Program) -> bool
-    requires { length (programs.tables program.now).goals < 2 ^ 24 }
-    ensures { result ≡ are_equational_entries (programs.tables program.now).goals }
-{
-    let mut at = 0;
-    while let Some(node) = program.goal(at) {
-        if !is_equational(*node) {
-            return false;
-        }
-        at += 1;
-    }
-    true
-}
-
-// The text is run where its only constraints are equations.
-fn equations_alone(compiled: Compiled) -> Result<Compiled, NotRun>
-    requires { length (programs.tables compiled.program).goals < 2 ^ 24 }
-    ensures { EquationsAlone compiled result }
-{
-    if has_equations_alone(&compiled.program) {
-        Ok(compiled)
-    } else {
-        Err(NotRun::Fault(Fault { at: 0, number: 0 }))
-    }
-}
-
 // The program and the runs of a text's data. No text has more data than a u32 counts.
 fn compile_data(alloc: Global, forms: &[Datum], names: &mut Names) -> Result<Compiled, NotRun>
     requires few { length names.old.symbols + 3 < 2 ^ 32 }
@@ -79,14 +34,14 @@ fn compile_data(alloc: Global, forms: &[Datum], names: &mut Names) -> Result<Com
         return Err(NotRun::Memory);
     }
     match compile(alloc, &[], forms, names, Dialect::Book) {
-        Ok(compiled) => equations_alone(compiled),
+        Ok(compiled) => Ok(compiled),
         Err(SyntaxError::Fault(at, number)) => Err(NotRun::Fault(Fault { at, number })),
         Err(SyntaxError::Memory) => Err(NotRun::Memory),
     }
 }
 
 /// The program and the runs of a text, whose names get numbers; or the fault for which it isn't run: that of the reading
-/// of its data, or else that of the data, or else that it has a constraint that isn't built yet.
+/// of its data, or else that of the data.
 #[tactic(auto, using(goal_syntax::proofs::Compiling::OfTextLaws::read_of_text))]
 pub(crate) fn compile_text(
     alloc: Global,

@@ -1,7 +1,8 @@
 //! The top call: from a source of bytes to a sink.
 
 ghost use Rattle.std.specs.Prelude.{◌≤◌, length, List, ℕ};
-ghost use Rattle.kanren_run.specs.Commands.{texts};
+ghost use Rattle.kanren_run.specs.Commands.{fuel_of, texts};
+ghost use Rattle.kanren_run.specs.Headline.{TextMeans};
 ghost use Rattle.kanren_run.specs.Outcomes.{IsFaithful, IsFaithfulAt, WritesReply};
 ghost use Rattle.kan_terms.specs.Table.{no_names};
 ghost use Rattle.kanren_run.specs.Answers.{IsRefused};
@@ -31,7 +32,7 @@ pub fn kanren_alone<S: Source, K: Sink>(
     sink: &mut K,
 ) -> Status
     // Its outcome, when it is Usage, how many calls of its ends failed, and that it is complete.
-    ensures { IsFaithful (record {
+    ensures faithful { IsFaithful (record {
       words = texts words.now;
       ends = record {
         source = S.view source.old;
@@ -41,6 +42,8 @@ pub fn kanren_alone<S: Source, K: Sink>(
       };
       status = result;
     }) }
+    // What the answers mean that are written for an accepted text.
+    ensures means { (text : List ℕ) → TextMeans (fuel_of (texts words.now)) text }
 {
     match fuel_named(words) {
         Some(fuel) => answer_input(alloc, fuel, source, sink),
@@ -94,7 +97,7 @@ fn answer_runs<K: Sink>(
     sink: &mut K,
 ) -> Status
     requires fuel { 1 ≤ fuel × (fuel ≤ 1000000) }
-    requires can_run { CanRun compiled.now.program compiled.now.queries }
+    requires can_run { CanRun names.now compiled.now.program compiled.now.queries }
     ensures { (text : List ℕ)
         → HasRuns text names.now compiled.now.program compiled.now.queries
         → WritesReply fuel text (K.view sink.old) (K.view sink.new) result }

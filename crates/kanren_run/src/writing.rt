@@ -1,7 +1,6 @@
 //! Runs, whose answers are written as they come.
 
-ghost use Rattle.std.specs.Prelude.{◌≡◌, ◌+◌, ◌++◌, ◌≤◌, [], ◌∷◌, map, true, false, IfOk, OnOk, string_bytes};
-ghost use Rattle.std.specs.List.{list_all};
+ghost use Rattle.std.specs.Prelude.{◌≡◌, ◌+◌, ◌++◌, ◌≤◌, [], ◌∷◌, map, true, false, IfOk, OnOk};
 ghost use Rattle.kan_model.specs.Programs.Closed as programs;
 ghost use Rattle.kan_model.specs.Streams.Taking.{take_query};
 ghost use Rattle.kan_model.specs.Answers.Output.{taken_text, runs_output};
@@ -10,7 +9,7 @@ ghost use Rattle.kan_model.specs.Programs.Closed.{query_of};
 ghost use Rattle.kan_search.specs.Searches.{left, pulls_made, round_of};
 ghost use Rattle.kan_grammar.specs.Texts.Reply.{is_spent};
 ghost use Rattle.kanren_run.specs.Answers.{spends};
-ghost use Rattle.kanren_run.specs.Equations.{HasEquations, Each};
+ghost use Rattle.kanren_run.specs.Tags.{HasNames, Each};
 ghost use Rattle.kanren_run.specs.Writing.{CanRun, Puts, WritesNext, answer_lines, end_text, rest_text, memory_wanted, sink_failed};
 
 use crate::answer::{print_answer, print_summary};
@@ -50,34 +49,34 @@ fn print_answers<St: Store>(
     alloc: Global,
     answers: &[St],
     names: &Names,
-    text: &mut String,
+    lines: &mut Vec<u8>,
 ) -> Result<(), Memory>
-    requires { Each HasEquations (map St.meaning answers.now) }
-    ensures { OnOk result (string_bytes text.new ≡ string_bytes text.old ++ answer_lines names.now (map St.meaning answers.now)) }
+    requires { Each (HasNames names.now) (map St.meaning answers.now) }
+    ensures { OnOk result (lines.new.items ≡ lines.old.items ++ answer_lines names.now (map St.meaning answers.now)) }
 {
     for store in answers {
-        print_answer(alloc, store, names, text)?;
+        print_answer(alloc, store, names, lines)?;
     }
     Ok(())
 }
 
 // The lines of a batch: those of its answers and, where the run has ended with it, the run's summary line.
-fn batch_text<St: Store>(
+fn batch_lines<St: Store>(
     alloc: Global,
     batch: &Batch<St>,
     answers: u64,
     pulls: u64,
     names: &Names,
-) -> Result<String, Memory>
-    requires { Each HasEquations (map St.meaning batch.now.answers) }
-    ensures { IfOk result (λ text. string_bytes text ≡ answer_lines names.now (map St.meaning batch.now.answers) ++ end_text answers pulls batch.now.ended) }
+) -> Result<Vec<u8>, Memory>
+    requires { Each (HasNames names.now) (map St.meaning batch.now.answers) }
+    ensures { IfOk result (λ lines. lines.items ≡ answer_lines names.now (map St.meaning batch.now.answers) ++ end_text answers pulls batch.now.ended) }
 {
-    let mut text = String::new(alloc);
-    print_answers(alloc, batch.answers.items(), names, &mut text)?;
+    let mut lines = Vec::new(alloc);
+    print_answers(alloc, batch.answers.items(), names, &mut lines)?;
     if let Some(ended) = batch.ended {
-        print_summary(answers, pulls, ended, &mut text)?;
+        print_summary(alloc, answers, pulls, ended, &mut lines)?;
     }
-    Ok(text)
+    Ok(lines)
 }
 
 // Writes the lines of a batch, after which the run has given so many answers with so many pulls.
@@ -89,11 +88,11 @@ fn write_batch<K: Sink, St: Store>(
     names: &Names,
     sink: &mut K,
 ) -> Result<(), Stop>
-    requires { Each HasEquations (map St.meaning batch.now.answers) }
+    requires { Each (HasNames names.now) (map St.meaning batch.now.answers) }
     ensures { Puts (answer_lines names.now (map St.meaning batch.now.answers) ++ end_text answers pulls batch.now.ended) (K.view sink.old) (K.view sink.new) result }
 {
-    let text = batch_text(alloc, batch, answers, pulls, names)?;
-    put_all(sink, text.as_bytes())?;
+    let lines = batch_lines(alloc, batch, answers, pulls, names)?;
+    put_all(sink, &lines)?;
     Ok(())
 }
 
@@ -116,7 +115,7 @@ fn write_next<K: Sink, St: Store>(
     sink: &mut K,
 ) -> Result<Option<Ended>, Stop>
     requires round { 1 ≤ round_of search.old }
-    requires equations { Each HasEquations (left St.meaning search.old).stores }
+    requires named { Each (HasNames names.now) (left St.meaning search.old).stores }
     ensures next { WritesNext names.now (left St.meaning search.old) answers.old (pulls_made search.old) (left St.meaning search.new) answers.new (pulls_made search.new) (K.view sink.old) (K.view sink.new) result }
     ensures round { round_of search.new ≡ round_of search.old }
 {
@@ -136,7 +135,7 @@ fn write_search<K: Sink, St: Store>(
     sink: &mut K,
 ) -> Result<Ended, Stop>
     requires round { 1 ≤ round_of search.old }
-    requires equations { Each HasEquations (left St.meaning search.old).stores }
+    requires named { Each (HasNames names.now) (left St.meaning search.old).stores }
     ensures puts { Puts (rest_text names.now 0 (pulls_made search.old) (left St.meaning search.old)) (K.view sink.old) (K.view sink.new) result }
     ensures ended { IfOk result (λ ended. ending_of ended ≡ (left St.meaning search.old).ending) }
 {
@@ -160,7 +159,7 @@ fn write_query<K: Sink, St: Store>(
     names: &Names,
     sink: &mut K,
 ) -> Result<Ended, Stop>
-    requires can_run { CanRun program.now (query.now ∷ []) }
+    requires can_run { CanRun names.now program.now (query.now ∷ []) }
     requires fuel { 1 ≤ fuel × (fuel ≤ 1000000) }
     ensures puts { Puts (taken_text names.now (take_query (programs.meaning program.now) fuel (query_of program.now query.now))) (K.view sink.old) (K.view sink.new) result }
     ensures ended { IfOk result (λ ended. ending_of ended ≡ (take_query (programs.meaning program.now) fuel (query_of program.now query.now)).ending) }
@@ -186,7 +185,7 @@ pub(crate) fn write_runs<K: Sink, St: Store>(
     names: &Names,
     sink: &mut K,
 ) -> Result<bool, Stop>
-    requires can_run { CanRun program.now queries.now }
+    requires can_run { CanRun names.now program.now queries.now }
     requires fuel { 1 ≤ fuel × (fuel ≤ 1000000) }
     ensures puts { Puts (runs_output names.now (programs.meaning program.now) fuel (map (query_of program.now) queries.now)) (K.view sink.old) (K.view sink.new) result }
     ensures spent { IfOk result (λ spent. spent ≡ spends (programs.meaning program.now) fuel (map (query_of program.now) queries.now)) }

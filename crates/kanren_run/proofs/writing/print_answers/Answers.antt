@@ -1,12 +1,12 @@
 use Rattle.std.proofs.Common.{sym, subst}
-use Rattle.kanren_run.specs.Equations.{HasEquations}
+use Rattle.kanren_run.specs.Tags.{HasNames}
 use Rattle.kanren_run.proofs.WritingLaws.{each-at, text_more}
 use Rattle.kanren_run.proofs.writing.print_answers.Goals as goal
 
 pub print_answer-requires : goal.print_answer-requires
 print_answer-requires g c =
-    subst (λ x. HasEquations (g.St.Store.meaning x)) (sym c.store-item.is)
-    (each-at g.St.Store.meaning c.args.answers.now c.loop-store.store-index c.store-item.result c.loop-store-test.true c.requires)
+    subst (λ x. HasNames c.args.names.now (g.St.Store.meaning x)) (sym c.store-item.is)
+    (each-at (HasNames c.args.names.now) g.St.Store.meaning c.args.answers.now c.loop-store.store-index c.store-item.result c.loop-store-test.true c.requires)
 
 pub loop-store-preserved : goal.loop-store-preserved
 loop-store-preserved g c =

@@ -3,7 +3,7 @@ use Rattle.std.specs.Io.KnownBytes.{Appends}
 use Rattle.std.proofs.lemmas.Bool.{and_parts}
 use Rattle.kan_model.specs.Programs.Closed as programs
 use Rattle.kan_model.specs.Programs.Closed.{query_of}
-use Rattle.kanren_run.specs.Equations.{HasEquations, Each}
+use Rattle.kanren_run.specs.Tags.{HasNames, Each}
 use Rattle.kanren_run.specs.Writing.{Stops}
 use Rattle.kanren_run.specs.declared.writing.Stop.TheVariants.{Memory}
 use Rattle.kanren_run.proofs.RunLaws.{taken-has}
@@ -13,11 +13,11 @@ use Rattle.kanren_run.proofs.writing.write_query.Goals as goal
 pub returns-in_err-search-clause-puts : goal.returns-in_err-search-clause-puts
 returns-in_err-search-clause-puts g c = err_puts _ _ _ Memory c.from_residual.result c.from_residual.ensures.1 (nothing_put _ _)
 
-pub write_search-requires-clause-equations : goal.write_search-requires-clause-equations
-write_search-requires-clause-equations g c =
+pub write_search-requires-clause-named : goal.write_search-requires-clause-named
+write_search-requires-clause-named g c =
     let can = c.requires.can_run in
-    subst (λ t. Each HasEquations t.stores) (sym c.in_ok-search.ensures.left)
-    (taken-has (programs.meaning c.args.program.now) c.args.fuel (query_of c.args.program.now c.args.query.now) can.bodies (and_parts _ _ can.goals).0)
+    subst (λ t. Each (HasNames c.args.names.now) t.stores) (sym c.in_ok-search.ensures.left)
+    (taken-has c.args.names.now (programs.meaning c.args.program.now) c.args.fuel (query_of c.args.program.now c.args.query.now) can.bodies (and_parts _ _ can.goals).0)
 
 pub returns-in_err-ended-clause-puts : goal.returns-in_err-ended-clause-puts
 returns-in_err-ended-clause-puts g c =

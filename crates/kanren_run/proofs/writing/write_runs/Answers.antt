@@ -6,7 +6,7 @@ use Rattle.kanren_run.proofs.WritingLaws.{can-at, err_puts, runs-written, runs-s
 use Rattle.kanren_run.proofs.writing.write_runs.Goals as goal
 
 pub write_query-requires-clause-can_run : goal.write_query-requires-clause-can_run
-write_query-requires-clause-can_run g c = can-at c.args.program.now c.args.queries.now c.loop-query.query-index _ c.loop-query-test.true c.requires.can_run
+write_query-requires-clause-can_run g c = can-at c.args.names.now c.args.program.now c.args.queries.now c.loop-query.query-index _ c.loop-query-test.true c.requires.can_run
 
 pub returns-in_err-ended-clause-puts : goal.returns-in_err-ended-clause-puts
 returns-in_err-ended-clause-puts g c =

@@ -16,6 +16,6 @@ loop-ended-preserved g c =
     record {
       written = written_on _ _ _ _ _ _ c.loop-ended.invariant.written on.written;
       round = subst (λ r. 1 ≤ r) (sym c.in_ok-ended.ensures.round) c.loop-ended.invariant.round;
-      equations = on.equations;
+      named = on.named;
       ending = on.ending ∙ c.loop-ended.invariant.ending;
     }

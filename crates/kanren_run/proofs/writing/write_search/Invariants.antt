@@ -1,6 +1,6 @@
 use Rattle.std.proofs.Common.{◌≡◌, ◌+◌, ◌≤◌, length}
 use Rattle.kan_search.specs.Searches.{left}
-use Rattle.kanren_run.specs.Equations.{HasEquations, Each}
+use Rattle.kanren_run.specs.Tags.{HasNames, Each}
 use Rattle.kanren_run.specs.Writing.{Written, rest_text}
 use Rattle.kanren_run.proofs.writing.write_search.Given as goal
 
@@ -10,7 +10,7 @@ invariant-loop-ended g l = record {
   written : Written (rest_text l.names 0 l.fn.search.pulls (left g.St.Store.meaning l.fn.search)) (g.K.Sink.view l.fn.sink) (g.K.Sink.view l.sink)
       (rest_text l.names l.answers l.search.pulls (left g.St.Store.meaning l.search));
   round : 1 ≤ l.search.round;
-  equations : Each HasEquations (left g.St.Store.meaning l.search).stores;
+  named : Each (HasNames l.names) (left g.St.Store.meaning l.search).stores;
   ending : (left g.St.Store.meaning l.search).ending ≡ (left g.St.Store.meaning l.fn.search).ending;
 }
 
