@@ -6,7 +6,7 @@ use std::test::Fail;
 #[test]
 fn prints_lines(rt: HostRuntime) -> Result<(), Fail> {
     let table = [
-        (0, Refusal::NotBuiltYet, "error 0 at 0: not built yet\n"),
+        (0, Refusal::NotUtf8, "error 1 at 0: not UTF-8\n"),
         (2_049, Refusal::TooDeep, "error 6 at 2049: too deep\n"),
         (
             4_294_967_295,

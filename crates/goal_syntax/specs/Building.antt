@@ -6,6 +6,5 @@ pub mod GoalsBuilt
 pub mod GoalsLeft
 pub mod FormsBuilt
 pub mod CallsThere
-pub mod Equations
 pub mod LowTemplates
 pub mod InContext

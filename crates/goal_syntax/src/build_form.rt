@@ -13,7 +13,6 @@ ghost use Rattle.goal_forms.specs.Contexts.{data_of, datum_at};
 ghost use Rattle.goal_syntax.specs.Building.CallsThere.{KeepsClosed, all_named, bodies_named, calls_named};
 ghost use Rattle.goal_syntax.specs.Building.FormsBuilt.{name_symbol, query_asked, AddsNames, AddsRelations, AddsForms};
 ghost use Rattle.goal_syntax.specs.Building.GrownTables.{HasGoal, Grows, HasRoom};
-ghost use Rattle.goal_syntax.specs.Building.Equations.{is_equational, is_equational_body, are_equational, AddsEquational};
 ghost use Rattle.goal_forms.specs.FormSteps.{limit_at};
 ghost use Rattle.goal_forms.specs.Parts.{sites, site_at};
 
@@ -66,8 +65,6 @@ fn build_body(
     ensures closed { OnOk result
         (KeepsClosed (data_of context.now) (tables draft.old) (tables draft.new)
         (λ rows. calls_named rows (list_goal context.now (within [] params.now) goals))) }
-    ensures equational { OnOk result (AddsEquational (tables draft.old) (tables draft.new)
-        (is_equational (list_goal context.now (within [] params.now) goals))) }
 {
     let mut scope = Vec::new(context.alloc);
     enter(params, &mut scope)?;
@@ -92,8 +89,6 @@ pub(crate) fn build_relation(
     ensures closed { OnOk result
         (KeepsClosed (data_of context.now) (tables draft.old) (tables draft.new)
         (bodies_named (relation_at context.now head goals ∷ []))) }
-    ensures equational { OnOk result (AddsEquational (tables draft.old) (tables draft.new)
-        (is_equational_body (relation_at context.now head goals))) }
 {
     let bound = head_params(context.alloc, context.flat, head)?;
     let params = bound.len() as u32;
@@ -146,8 +141,6 @@ pub(crate) fn build_form(
     ensures closed { OnOk result
         (KeepsClosed (data_of context.now) (tables draft.old) (tables draft.new)
         (all_named (relations_parsed context.now form) (queries_parsed context.now form))) }
-    ensures equational { OnOk result (AddsEquational (tables draft.old) (tables draft.new)
-        (are_equational (relations_parsed context.now form) (queries_parsed context.now form))) }
 {
     match form {
         Form::Relation(head, goals) => build_relation(context, head, goals, draft)?,

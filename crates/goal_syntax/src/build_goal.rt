@@ -10,7 +10,6 @@ ghost use Rattle.kan_model.specs.Programs.Tables.{RelationEntry};
 ghost use Rattle.goal_syntax.specs.Building.CallsThere.{are_there, calls_named};
 ghost use Rattle.goal_syntax.specs.Building.GoalsBuilt.{built, with_maybe};
 ghost use Rattle.goal_syntax.specs.Building.GrownTables.{HasGoal, Grows, HasRoom};
-ghost use Rattle.goal_syntax.specs.Building.Equations.{is_equational, AddsEquational};
 ghost use Rattle.goal_forms.specs.GoalSteps.{inner_names};
 ghost use Rattle.goal_syntax.specs.Building.GoalsLeft.{first_work, inner_works, other_works, work_size, works_size};
 ghost use Rattle.goal_forms.specs.Shapes.{parts};
@@ -298,8 +297,6 @@ pub(crate) fn build_goals(
     ensures grows { OnOk result (Grows (tables draft.old) (tables draft.new)) }
     ensures room { OnOk result (HasRoom (tables draft.new)) }
     ensures low { OnOk result (KeepsLowIn context.now draft.old draft.new) }
-    ensures equational { OnOk result (AddsEquational (tables draft.old) (tables draft.new)
-        (is_equational (list_goal context.now scope.items place))) }
     ensures called { OnOk result
         ((rows : List RelationEntry) → are_there rows (tables draft.new).goals
         ≡ (are_there rows (tables draft.old).goals

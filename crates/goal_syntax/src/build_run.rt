@@ -12,7 +12,6 @@ ghost use Rattle.std.specs.List.{list_all};
 ghost use Rattle.kan_model.specs.Programs.Scope.{is_low};
 ghost use Rattle.kan_model.specs.Programs.Tables.{RelationEntry};
 ghost use Rattle.goal_syntax.specs.Building.GrownTables.{HasGoal, Grows, HasRoom};
-ghost use Rattle.goal_syntax.specs.Building.Equations.{is_equational, are_equational_entries, AddsEquational};
 ghost use Rattle.goal_syntax.specs.Building.FormsBuilt.{asked_equation};
 
 use crate::build_goal::build_goals;
@@ -39,8 +38,6 @@ pub(crate) fn build_one(
     ensures closed { OnOk result
         (KeepsClosed (data_of context.now) (tables draft.old) (tables draft.new)
         (λ rows. calls_named rows (list_goal context.now (within [] (symbol ∷ [])) goals))) }
-    ensures equational { OnOk result (AddsEquational (tables draft.old) (tables draft.new)
-        (is_equational (list_goal context.now (within [] (symbol ∷ [])) goals))) }
 {
     let mut scope = Vec::new(context.alloc);
     scope.push(Some(symbol))?;
@@ -61,9 +58,6 @@ fn build_equation(bound: &[u32], draft: &mut Draft) -> Result<u32, Memory>
     ensures called { OnOk result
         ((rows : List RelationEntry) → are_there rows (tables draft.new).goals
         ≡ are_there rows (tables draft.old).goals) }
-    ensures equational { OnOk result
-        (are_equational_entries (tables draft.new).goals
-        ≡ are_equational_entries (tables draft.old).goals) }
 {
     let list = build_slots(bound, draft)?;
     let asked = add_term(draft, TermNode::Slot(0))?;
@@ -88,8 +82,6 @@ fn build_behind(
     ensures closed { OnOk result
         (KeepsClosed (data_of context.now) (tables draft.old) (tables draft.new)
         (λ rows. calls_named rows (list_goal context.now scope.items goals))) }
-    ensures equational { OnOk result (AddsEquational (tables draft.old) (tables draft.new)
-        (is_equational (list_goal context.now scope.items goals))) }
 {
     if pair_parts(context.flat, goals).is_none() {
         return Ok(first);
@@ -109,8 +101,6 @@ fn build_fresh(context: &Context, binder: u32, goals: u32, draft: &mut Draft) ->
     ensures closed { OnOk result
         (KeepsClosed (data_of context.now) (tables draft.old) (tables draft.new)
         (λ rows. calls_named rows (fresh_goal context.now binder goals))) }
-    ensures equational { OnOk result (AddsEquational (tables draft.old) (tables draft.new)
-        (is_equational (fresh_goal context.now binder goals))) }
 {
     let bound = binder_names(context.alloc, context.flat, binder)?;
     let count = bound.len() as u32;
@@ -133,8 +123,6 @@ fn suspend_at(dialect: Dialect, goal: u32, draft: &mut Draft) -> Result<u32, Mem
     ensures terms { OnOk result ((tables draft.new).terms ≡ (tables draft.old).terms) }
     ensures called { OnOk result ((rows : List RelationEntry) →
         are_there rows (tables draft.new).goals ≡ are_there rows (tables draft.old).goals) }
-    ensures equational { OnOk result (are_equational_entries (tables draft.new).goals
-        ≡ are_equational_entries (tables draft.old).goals) }
 {
     match dialect {
         Dialect::Book => Ok(goal),
@@ -160,8 +148,6 @@ pub(crate) fn build_list(
     ensures closed { OnOk result
         (KeepsClosed (data_of context.now) (tables draft.old) (tables draft.new)
         (λ rows. calls_named rows (run_goal context.now binder goals))) }
-    ensures equational { OnOk result (AddsEquational (tables draft.old) (tables draft.new)
-        (is_equational (run_goal context.now binder goals))) }
 {
     let fresh = build_fresh(context, binder, goals, draft)?;
     let goal = suspend_at(context.dialect, fresh, draft)?;

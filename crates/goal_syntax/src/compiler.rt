@@ -22,7 +22,6 @@ ghost use Rattle.goal_syntax.specs.Building.CallsThere.{KeepsClosed, all_named, 
 ghost use Rattle.goal_syntax.specs.Compiling.CompiledForms.{CompilesForms, IsMeant};
 ghost use Rattle.goal_syntax.specs.Compiling.Compiles.{AreOfText, Compiles, IsAcceptedAlone, TableAfter};
 ghost use Rattle.goal_syntax.specs.Building.GrownTables.{HasRoom};
-ghost use Rattle.goal_syntax.specs.Building.Equations.{are_equational, is_equational_body, AddsEquational};
 ghost use Rattle.goal_syntax.specs.Compiling.SymbolNames.{are_named};
 ghost use Rattle.goal_forms.specs.Parts.{sites, site_at};
 ghost use Rattle.goal_forms.specs.RelationTables.{relations};
@@ -67,8 +66,6 @@ fn build_library_form(context: &Context, place: u32, draft: &mut Draft) -> Resul
     ensures closed { OnOk result
         (KeepsClosed (data_of context.now) (tables draft.old) (tables draft.new)
         (bodies_named (form_relations context.now place))) }
-    ensures equational { OnOk result (AddsEquational (tables draft.old) (tables draft.new)
-        (list_all is_equational_body (form_relations context.now place))) }
 {
     if let Form::Relation(head, goals) = parse_form(context.flat, context.names, place) {
         build_relation(context, head, goals, draft)?;
@@ -87,8 +84,6 @@ fn build_library(context: &Context, forms: &[u32], draft: &mut Draft) -> Result<
     ensures closed { OnOk result
         (KeepsClosed (data_of context.now) (tables draft.old) (tables draft.new)
         (bodies_named (forms_relations context.now forms.now))) }
-    ensures equational { OnOk result (AddsEquational (tables draft.old) (tables draft.new)
-        (list_all is_equational_body (forms_relations context.now forms.now))) }
 {
     for place in forms {
         build_library_form(context, *place, draft)?;
@@ -114,9 +109,6 @@ fn build_text(
     ensures closed { OnOk result
         (KeepsClosed (data_of context.now) (tables draft.old) (tables draft.new)
         (all_named (forms_relations context.now forms.now) (forms_queries context.now forms.now))) }
-    ensures equational { OnOk result (AddsEquational (tables draft.old) (tables draft.new)
-        (are_equational (forms_relations context.now forms.now)
-        (forms_queries context.now forms.now))) }
 {
     for place in forms {
         build_form(

@@ -9,7 +9,6 @@ ghost use Rattle.kan_model.specs.Programs.Drafts.{tables, templates, goals};
 ghost use Rattle.std.specs.List.{list_all};
 ghost use Rattle.kan_model.specs.Programs.Scope.{is_low};
 ghost use Rattle.goal_syntax.specs.Building.GrownTables.{HasTemplate, HasGoal, Grows, HasRoom};
-ghost use Rattle.goal_syntax.specs.Building.Equations.{is_equational_entry, are_equational_entries};
 
 use kan_model::{Draft, GoalNode, TermNode};
 use kan_terms::Memory;
@@ -69,10 +68,6 @@ pub(crate) fn add_goal(draft: &mut Draft, node: GoalNode) -> Result<u32, Memory>
         (goal_entry node))) }
     ensures grows { OnOk result (Grows (tables draft.old) (tables draft.new)) }
     ensures room { OnOk result (HasRoom (tables draft.new)) }
-    ensures equational { OnOk result
-        (are_equational_entries (tables draft.new).goals
-        ≡ (are_equational_entries (tables draft.old).goals
-        && is_equational_entry (goal_entry node))) }
     ensures terms { OnOk result ((tables draft.new).terms ≡ (tables draft.old).terms) }
     ensures called { OnOk result
         ((rows : List RelationEntry) → are_there rows (tables draft.new).goals

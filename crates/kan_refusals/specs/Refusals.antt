@@ -1,8 +1,8 @@
 -- The reasons for which a text is refused: the table of their numbers and names, and the line that says so.
-use Rattle.std.specs.Prelude.{ℕ, List, [], ◌∷◌, ◌++◌, slice_get, Option, codes}
+use Rattle.std.specs.Prelude.{ℕ, zero, List, [], ◌∷◌, ◌++◌, suc, slice_get, Option, None, codes}
 use Rattle.std.specs.Fmt.{decimal}
 use Rattle.kan_refusals.specs.declared.refusals.Refusal.{Refusal}
-use Rattle.kan_refusals.specs.declared.refusals.Refusal.TheVariants.{NotBuiltYet, NotUtf8, UnclosedList, StrayClose, BadToken, BadDot, TooDeep, NumberRange, ReservedName, UnknownForm, BadShape, UnboundName, UnknownRelation, WrongCount, DefinedTwice, BadTag, BadString}
+use Rattle.kan_refusals.specs.declared.refusals.Refusal.TheVariants.{NotUtf8, UnclosedList, StrayClose, BadToken, BadDot, TooDeep, NumberRange, ReservedName, UnknownForm, BadShape, UnboundName, UnknownRelation, WrongCount, DefinedTwice, BadTag, BadString}
 
 -- the number of a refusal, and what it is called
 pub record Entry : Type 0 where
@@ -11,7 +11,6 @@ pub record Entry : Type 0 where
 
 -- the table of refusals
 abbrev pub entry : Refusal → Entry
-entry NotBuiltYet = record { number = 0; text = codes "not built yet" }
 entry NotUtf8 = record { number = 1; text = codes "not UTF-8" }
 entry UnclosedList = record { number = 2; text = codes "list not closed" }
 entry StrayClose = record { number = 3; text = codes "close without open" }
@@ -35,14 +34,15 @@ number_of refusal = (entry refusal).number
 abbrev pub text_of : Refusal → List ℕ
 text_of refusal = (entry refusal).text
 
--- all refusals, in the order of their numbers
+-- all refusals, in the order of their numbers, which begin with 1
 abbrev pub all_refusals : List Refusal
 all_refusals =
-    NotBuiltYet ∷ NotUtf8 ∷ UnclosedList ∷ StrayClose ∷ BadToken ∷ BadDot ∷ TooDeep ∷ NumberRange ∷ ReservedName ∷ UnknownForm ∷ BadShape ∷ UnboundName ∷ UnknownRelation ∷ WrongCount ∷ DefinedTwice ∷ BadTag ∷ BadString ∷ []
+    NotUtf8 ∷ UnclosedList ∷ StrayClose ∷ BadToken ∷ BadDot ∷ TooDeep ∷ NumberRange ∷ ReservedName ∷ UnknownForm ∷ BadShape ∷ UnboundName ∷ UnknownRelation ∷ WrongCount ∷ DefinedTwice ∷ BadTag ∷ BadString ∷ []
 
 -- the refusal of a number, where it has one
 abbrev pub refusal_of : ℕ → Option Refusal
-refusal_of number = slice_get all_refusals number
+refusal_of zero = None
+refusal_of (suc number) = slice_get all_refusals number
 
 -- the one line of a refused text: the number of the refusal, the offset, and what it is
 abbrev pub error_line : ℕ → Refusal → List ℕ

@@ -1,6 +1,6 @@
 //! Refusals, their numbers and what they are called.
 
-ghost use Rattle.std.specs.Prelude.{◌≡◌, ◌<◌, Some, IfOk, MatchOption, string_bytes};
+ghost use Rattle.std.specs.Prelude.{◌≡◌, Some, IfOk, IfSome, string_bytes};
 ghost use Rattle.kan_refusals.specs.Refusals as refusals;
 
 use std::alloc::{AllocError, Global};
@@ -9,8 +9,6 @@ use std::fmt::Write;
 /// Why a text is refused.
 #[derive(Clone, Copy, Debug, PartialEq, Eq)]
 pub enum Refusal {
-    /// Well formed, with a goal that isn't solved yet.
-    NotBuiltYet,
     /// Bytes that are part of no character.
     NotUtf8,
     /// A list that nothing closes.
@@ -52,7 +50,6 @@ impl Refusal {
         ensures text { result.1.now ≡ refusals.text_of self }
     {
         match self {
-            Refusal::NotBuiltYet => (0, "not built yet"),
             Refusal::NotUtf8 => (1, "not UTF-8"),
             Refusal::UnclosedList => (2, "list not closed"),
             Refusal::StrayClose => (3, "close without open"),
@@ -87,13 +84,12 @@ impl Refusal {
         self.entry().1
     }
 
-    /// The refusal of a number, which is None above the last one.
+    /// The refusal of a number, which is None for 0 and above the last one.
     pub fn of_number(number: u8) -> Option<Refusal>
         ensures found { result ≡ refusals.refusal_of number }
-        ensures number { MatchOption result (16 < number) (λ refusal. refusals.number_of refusal ≡ number) }
+        ensures number { IfSome result (λ refusal. refusals.number_of refusal ≡ number) }
     {
         match number {
-            0 => Some(Refusal::NotBuiltYet),
             1 => Some(Refusal::NotUtf8),
             2 => Some(Refusal::UnclosedList),
             3 => Some(Refusal::StrayClose),

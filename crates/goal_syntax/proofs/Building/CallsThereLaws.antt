@@ -15,7 +15,6 @@ use Rattle.kan_grammar.specs.Texts.Resolved.{Names, conjunction, goals_in, suspe
 use Rattle.kan_grammar.specs.Texts.GoalForms.{GoalForms}
 use Rattle.kan_model.specs.Programs.Tables.{RelationEntry, Tables, templates_of, with_relation}
 use Rattle.kan_grammar.specs.Texts.TopForms.{Defined, form}
-use Rattle.goal_syntax.specs.Building.Equations.{is_equational}
 use Rattle.goal_syntax.specs.Building.FormsBuilt.{asked_equation, asked_fresh}
 use Rattle.goal_syntax.specs.Building.CallsThere.{calls_named, bodies_named, queries_named, all_named, are_there, KeepsClosed}
 use Rattle.goal_syntax.specs.Building.LowTemplates.{KeepsLow}
@@ -153,8 +152,3 @@ suspended_closed dialect ds ts us vs g kept terms called = record {
   low = low_on ds ts us vs kept.low (low_same ds us vs terms);
   called = λ rows. called rows ∙ kept.called rows ∙ ap (λ b. are_there rows ts.goals && b) (suspended_called dialect rows g);
 }
-
--- and the constraints
-pub suspended_equational : (dialect : Dialect) (g : Goal) (x y z : Bool) → y ≡ (x && is_equational g) → z ≡ y → z ≡ (x && is_equational (suspended_in dialect g))
-suspended_equational Book g x y z made same = same ∙ made
-suspended_equational All g x y z made same = same ∙ made

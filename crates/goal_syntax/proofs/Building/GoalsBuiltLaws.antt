@@ -9,7 +9,6 @@ use Rattle.kan_model.specs.declared.nodes.GoalNode.{GoalNode}
 use Rattle.kan_model.specs.Programs.Calls.{call_there}
 use Rattle.kan_model.specs.Programs.Tables.{Tables, GoalEntry, RelationEntry, goal_at, goals_of, is_goal_grown}
 use Rattle.goal_syntax.specs.Building.GrownTables.{HasGoal, Grows}
-use Rattle.goal_syntax.specs.Building.Equations.{is_equational, is_equational_entry, are_equational_entries}
 use Rattle.goal_syntax.specs.Building.CallsThere.{calls_named, are_there}
 use Rattle.goal_syntax.specs.Building.GoalsBuilt.{Built, built, entry_goal, with_entry, with_goal, with_maybe, Stands, StandsFor}
 use Rattle.goal_syntax.specs.Building.GoalsLeft.{both_of, empty_entry, join_entry, joined, row_goal}
@@ -42,30 +41,30 @@ below_top n (p ∷ ps) below =
     let both = and_parts _ _ below in
     ap (are_below n) (reverse-append (p ∷ []) ps) ∙ below-push n (reverse ps) p (below_top n ps both.1) (ltb-true p n both.0)
 
-abbrev pub built_from : List Goal → Bool → (List RelationEntry → Bool) → Built
-built_from gs e called = record { made = gs; equational = e; called = called }
+abbrev pub built_from : List Goal → (List RelationEntry → Bool) → Built
+built_from gs called = record { made = gs; called = called }
 
 -- what was built stays as it is in tables that grew
 pub built_kept : (ts us : Tables) (ps : List ℕ) → Grows ts us → us.goals ≡ ts.goals → are_below (length ts.goals) ps ≡ true → built us ps ≡ built ts ps
 built_kept ts us ps grows same below =
     let goals = goals_kept ts us (reverse ps) grows (below_top (length ts.goals) ps below) in
-    λ i. built_from (goals i) (are_equational_entries (same i)) (λ rows. are_there rows (same i))
+    λ i. built_from (goals i) (λ rows. are_there rows (same i))
 
 -- the goal of an entry that is added comes on top
 pub made_top : (ts us : Tables) (ps qs : List ℕ) (at : ℕ) (e : GoalEntry) → are_below (length ts.goals) ps ≡ true → Grows ts us →
-    HasGoal us at (entry_goal ts e) → are_equational_entries us.goals ≡ (are_equational_entries ts.goals && is_equational_entry e) →
+    HasGoal us at (entry_goal ts e) →
     ((rows : List RelationEntry) → are_there rows us.goals ≡ (are_there rows ts.goals && call_there rows e)) → qs ≡ ps ++ at ∷ [] → built us qs ≡ with_entry ts e (built ts ps)
-made_top ts us ps qs at e below grows added equational called pushed =
+made_top ts us ps qs at e below grows added called pushed =
     let top : reverse qs ≡ at ∷ reverse ps = ap reverse pushed ∙ reverse-append ps (at ∷ []) in
     let goals = ap (map (goal_at (goals_of us))) top ∙ ap₂ (λ x xs. x ∷ xs) added.is (goals_kept ts us (reverse ps) grows (below_top (length ts.goals) ps below)) in
-    λ i. built_from (goals i) (equational i) (λ rows. called rows i)
+    λ i. built_from (goals i) (λ rows. called rows i)
 
 pub made_below : (ts us : Tables) (ps qs : List ℕ) (at : ℕ) (g : Goal) → are_below (length ts.goals) ps ≡ true → Grows ts us → HasGoal us at g → qs ≡ ps ++ at ∷ [] → are_below (length us.goals) qs ≡ true
 made_below ts us ps qs at g below grows added pushed = ap (are_below (length us.goals)) pushed ∙ below-push (length us.goals) ps at (below_grown ts us ps grows below) added.there
 
 -- an entry that stands for a goal adds it
 pub stands_added : (ts : Tables) (e : GoalEntry) (g : Goal) (b : Built) → Stands ts e g → with_entry ts e b ≡ with_goal g b
-stands_added ts e g b stands = λ i. built_from (stands.is i ∷ b.made) (b.equational && stands.equational i) (λ rows. b.called rows && stands.called rows i)
+stands_added ts e g b stands = λ i. built_from (stands.is i ∷ b.made) (λ rows. b.called rows && stands.called rows i)
 
 -- a goal's own node was added, where it has one
 pub own_some : (us : Tables) (node : GoalNode) (r : Option GoalNode) (g : Option Goal) (b : Built) → r ≡ Some node → StandsFor us r g → with_entry us (goal_entry node) b ≡ with_maybe g b
@@ -109,9 +108,6 @@ goal_made ts us ps popped at g split below made =
     first_of z [] = z
     first_of z (x ∷ xs) = x
 
-pub goal_equational : (ts us : Tables) (ps : List ℕ) (g : Goal) → built us ps ≡ with_goal g (built ts []) → are_equational_entries us.goals ≡ (are_equational_entries ts.goals && is_equational g)
-goal_equational ts us ps g made = ap (λ (b : Built). b.equational) made
-
 pub goal_called : (ts us : Tables) (ps : List ℕ) (g : Goal) → built us ps ≡ with_goal g (built ts []) → (rows : List RelationEntry) → are_there rows us.goals ≡ (are_there rows ts.goals && calls_named rows g)
 goal_called ts us ps g made = λ rows. ap (λ (b : Built). b.called rows) made
 
@@ -120,10 +116,10 @@ and_true true = refl
 and_true false = refl
 
 join_entry_added : (ts : Tables) (row : Row) (g h : ℕ) (b : Built) →
-    with_entry ts (join_entry row g h) b ≡ built_from (both_of row (goal_at (goals_of ts) g) (goal_at (goals_of ts) h) ∷ b.made) b.equational b.called
-join_entry_added ts rows.All g h b = λ i. built_from (both_of rows.All (goal_at (goals_of ts) g) (goal_at (goals_of ts) h) ∷ b.made) (and_true b.equational i) (λ entries. and_true (b.called entries) i)
-join_entry_added ts rows.One g h b = λ i. built_from (both_of rows.One (goal_at (goals_of ts) g) (goal_at (goals_of ts) h) ∷ b.made) (and_true b.equational i) (λ entries. and_true (b.called entries) i)
-join_entry_added ts rows.Clauses g h b = λ i. built_from (both_of rows.Clauses (goal_at (goals_of ts) g) (goal_at (goals_of ts) h) ∷ b.made) (and_true b.equational i) (λ entries. and_true (b.called entries) i)
+    with_entry ts (join_entry row g h) b ≡ built_from (both_of row (goal_at (goals_of ts) g) (goal_at (goals_of ts) h) ∷ b.made) b.called
+join_entry_added ts rows.All g h b = λ i. built_from (both_of rows.All (goal_at (goals_of ts) g) (goal_at (goals_of ts) h) ∷ b.made) (λ entries. and_true (b.called entries) i)
+join_entry_added ts rows.One g h b = λ i. built_from (both_of rows.One (goal_at (goals_of ts) g) (goal_at (goals_of ts) h) ∷ b.made) (λ entries. and_true (b.called entries) i)
+join_entry_added ts rows.Clauses g h b = λ i. built_from (both_of rows.Clauses (goal_at (goals_of ts) g) (goal_at (goals_of ts) h) ∷ b.made) (λ entries. and_true (b.called entries) i)
 
 -- the two goals on top are joined
 pub two_joined : (ts : Tables) (row : Row) (p0 p1 p2 : List ℕ) (g h : ℕ) (e : GoalEntry) (after : Built) → p0 ≡ p1 ++ h ∷ [] → p1 ≡ p2 ++ g ∷ [] → e ≡ join_entry row g h →
@@ -131,13 +127,13 @@ pub two_joined : (ts : Tables) (row : Row) (p0 p1 p2 : List ℕ) (g h : ℕ) (e 
 two_joined ts row p0 p1 p2 g h e after top next is added =
     let all : reverse p0 ≡ h ∷ g ∷ reverse p2 = ap reverse top ∙ reverse-append p1 (h ∷ []) ∙ ap (λ l. h ∷ l) (ap reverse next ∙ reverse-append p2 (g ∷ [])) in
     added ∙ ap (λ x. with_entry ts x (built ts p2)) is ∙ join_entry_added ts row g h (built ts p2)
-    ∙ sym (ap (λ l. joined row (built_from (map (goal_at (goals_of ts)) l) (are_equational_entries ts.goals) (λ entries. are_there entries ts.goals))) all)
+    ∙ sym (ap (λ l. joined row (built_from (map (goal_at (goals_of ts)) l) (λ entries. are_there entries ts.goals))) all)
 
 -- the goal of an empty row
 pub empty_stands : (ts : Tables) (row : Row) → Stands ts (empty_entry row) (row_goal row [])
-empty_stands ts rows.All = record { grown = refl; is = refl; equational = refl; called = λ entries. refl }
-empty_stands ts rows.One = record { grown = refl; is = refl; equational = refl; called = λ entries. refl }
-empty_stands ts rows.Clauses = record { grown = refl; is = refl; equational = refl; called = λ entries. refl }
+empty_stands ts rows.All = record { grown = refl; is = refl; called = λ entries. refl }
+empty_stands ts rows.One = record { grown = refl; is = refl; called = λ entries. refl }
+empty_stands ts rows.Clauses = record { grown = refl; is = refl; called = λ entries. refl }
 
 -- a goal that was built has its place on the stack
 pub goal_left : (ts us : Tables) (ps : List ℕ) (g : Goal) → built us ps ≡ with_goal g (built ts []) → length ps ≡ 0 → ⊥

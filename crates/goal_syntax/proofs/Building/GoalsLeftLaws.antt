@@ -18,7 +18,6 @@ use Rattle.goal_forms.specs.GoalSteps.{inner_names}
 use Rattle.goal_syntax.specs.Building.GoalsBuilt.{Built, with_goal, with_maybe, own_goal}
 use Rattle.goal_forms.specs.Shapes.{parts}
 use Rattle.goal_syntax.specs.Building.CallsThere.{calls_named}
-use Rattle.goal_syntax.specs.Building.Equations.{is_equational}
 use Rattle.goal_syntax.specs.Building.GoalsLeft.{both_of, suspended, finish, first_form, first_work, inner_works, joined, other_works, row_forms, row_goal, row_size, work_size, works_size}
 use Rattle.goal_syntax.proofs.Judging.GoalsLeftLaws.{clauses-none, goals-none, parts-is}
 use Rattle.goal_syntax.proofs.Building.GoalsBuiltLaws.{built_from}
@@ -136,9 +135,9 @@ and-assoc false y z = refl
 
 -- the goals of a first element and of the others are joined
 joined-goal : (row : Row) (g h : Goal) (b : Built) → joined row (with_goal h (with_goal g b)) ≡ with_goal (both_of row g h) b
-joined-goal rows.All g h b = λ i. built_from (Goal.both g h ∷ b.made) (and-assoc b.equational (is_equational g) (is_equational h) i) (λ rows. and-assoc (b.called rows) (calls_named rows g) (calls_named rows h) i)
-joined-goal rows.One g h b = λ i. built_from (Goal.either g h ∷ b.made) (and-assoc b.equational (is_equational g) (is_equational h) i) (λ rows. and-assoc (b.called rows) (calls_named rows g) (calls_named rows h) i)
-joined-goal rows.Clauses g h b = λ i. built_from (Goal.either g h ∷ b.made) (and-assoc b.equational (is_equational g) (is_equational h) i) (λ rows. and-assoc (b.called rows) (calls_named rows g) (calls_named rows h) i)
+joined-goal rows.All g h b = λ i. built_from (Goal.both g h ∷ b.made) (λ rows. and-assoc (b.called rows) (calls_named rows g) (calls_named rows h) i)
+joined-goal rows.One g h b = λ i. built_from (Goal.either g h ∷ b.made) (λ rows. and-assoc (b.called rows) (calls_named rows g) (calls_named rows h) i)
+joined-goal rows.Clauses g h b = λ i. built_from (Goal.either g h ∷ b.made) (λ rows. and-assoc (b.called rows) (calls_named rows g) (calls_named rows h) i)
 
 -- the first goal of a row, and what the others on the stack make of it
 others_finish : (dialect : Dialect) (rs : List Defined) (t : Table) (ds : List Sited) (ns : Names) (row : Row) (d : ℕ) (g : Goal) (ws : List Work) (b : Built) (p : Option (Sited × Sited)) → p ≡ parts (site_at ds d) →

@@ -12,7 +12,6 @@ use Rattle.kan_model.specs.Programs.Tables.{TermEntry, GoalEntry, RelationEntry,
 use Rattle.kan_model.proofs.Programs.TableLaws.{templates-more, templates-length, goals-more, goals-length, grown-parts, term-same, goals-with_term, goals-with_argument}
 use Rattle.goal_syntax.specs.Building.GrownTables.{HasTemplate, HasGoal, Grows, HasRoom}
 use Rattle.goal_syntax.specs.Building.CallsThere.{are_there}
-use Rattle.goal_syntax.specs.Building.Equations.{is_equational_entry, are_equational_entries}
 
 -- tables grow from themselves
 pub grows_self : (ts : Tables) → Grows ts ts
@@ -122,10 +121,6 @@ and_last : (a b : Bool) → (a && (b && true)) ≡ (a && b)
 and_last true true = refl
 and_last true false = refl
 and_last false b = refl
-
--- one entry more is no primitive but an equation where it is none
-pub goal_equational : (ts us : Tables) (e : GoalEntry) → us ≡ with_goal ts e → are_equational_entries us.goals ≡ (are_equational_entries ts.goals && is_equational_entry e)
-goal_equational ts us e is = rw is (list_all-append is_equational_entry ts.goals (e ∷ []) ∙ and_last (are_equational_entries ts.goals) (is_equational_entry e))
 
 -- the calls are there where those before it are and its own is
 pub goal_called : (ts us : Tables) (e : GoalEntry) → us ≡ with_goal ts e → (rows : List RelationEntry) → are_there rows us.goals ≡ (are_there rows ts.goals && call_there rows e)

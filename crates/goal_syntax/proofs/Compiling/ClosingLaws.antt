@@ -152,7 +152,6 @@ compiled_of dialect names library text (Ok c) (accepted, is, named, heads) = rec
   small = is.small;
   room = is.room;
   named = named;
-  equational = is.equational;
 }
 compiled_of dialect names library text (Err (Fault at number)) h = h
 compiled_of dialect names library text (Err Memory) h = h

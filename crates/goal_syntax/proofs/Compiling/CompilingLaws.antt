@@ -24,7 +24,6 @@ use Rattle.kan_model.specs.declared.nodes.Query.{Query}
 use Rattle.goal_syntax.specs.Building.FormsBuilt.{AddsNames, Means, entry_names, names_in, query_made, relation_made, relation_names}
 use Rattle.goal_syntax.specs.Compiling.CompiledForms.{IsMeant}
 use Rattle.goal_syntax.specs.Building.GrownTables.{HasRoom}
-use Rattle.goal_syntax.specs.Building.Equations.{are_equational, are_equational_entries, is_equational_body, is_equational_query}
 use Rattle.goal_forms.specs.Parts.{site_at}
 
 abbrev pub empty_tables : Tables
@@ -45,17 +44,6 @@ flat_next f ds forms i here =
     ∙ flat_map-append f (map (site_at ds) (take i forms)) (site_at ds (get_or forms i 0) ∷ [])
     ∙ ap (λ l. flat_map f (map (site_at ds) (take i forms)) ++ l) (append-nil (f (site_at ds (get_or forms i 0))))
 
-and_four : (x r q s p : Bool) → ((x && (r && q)) && (s && p)) ≡ (x && ((r && s) && (q && p)))
-and_four false r q s p = refl
-and_four true false q s p = refl
-and_four true true true s p = refl
-and_four true true false true p = refl
-and_four true true false false p = refl
-
-and_three : (x y z : Bool) → ((x && y) && z) ≡ (x && (y && z))
-and_three false y z = refl
-and_three true y z = refl
-
 -- a form of a library adds its relation
 pub library_means : (dialect : Dialect) (t : Table) (rules : List Defined) (ds : List Sited) (forms : List ℕ) (i : ℕ) (ts us vs : Tables) → i < length forms →
     ((qs : List Query) → (rs : List model.Relation) → (asked : List model.Query) → Means ts qs rs asked → Means us qs (rs ++ relations_of dialect t rules (map (site_at ds) (take i forms))) asked) →
@@ -66,15 +54,6 @@ library_means dialect t rules ds forms i ts us vs here before step qs rs asked m
     let all : rs ++ relations_of dialect t rules (map (site_at ds) (take (i + 1) forms)) ≡ (rs ++ so_far) ++ relations_in dialect rules (form t (site_at ds (get_or forms i 0))) =
     ap (λ l. rs ++ l) (flat_next (λ d. relations_in dialect rules (form t d)) ds forms i here) ∙ sym (append_assoc rs so_far (relations_in dialect rules (form t (site_at ds (get_or forms i 0))))) in
     rw all (step qs (rs ++ so_far) asked (before qs rs asked means))
-
-pub library_equational : (dialect : Dialect) (t : Table) (rules : List Defined) (ds : List Sited) (forms : List ℕ) (i : ℕ) (x y z : Bool) → i < length forms →
-    y ≡ (x && list_all is_equational_body (relations_of dialect t rules (map (site_at ds) (take i forms)))) → z ≡ (y && list_all is_equational_body (relations_in dialect rules (form t (site_at ds (get_or forms i 0))))) →
-    z ≡ (x && list_all is_equational_body (relations_of dialect t rules (map (site_at ds) (take (i + 1) forms))))
-library_equational dialect t rules ds forms i x y z here before step =
-    let so_far : List model.Relation = relations_of dialect t rules (map (site_at ds) (take i forms)) in
-    let next : List model.Relation = relations_in dialect rules (form t (site_at ds (get_or forms i 0))) in
-    step ∙ ap (λ b. b && list_all is_equational_body next) before ∙ and_three x (list_all is_equational_body so_far) (list_all is_equational_body next)
-    ∙ ap (λ b. x && b) (sym (ap (list_all is_equational_body) (flat_next (λ d. relations_in dialect rules (form t d)) ds forms i here) ∙ list_all-append is_equational_body so_far next))
 
 -- a form of a text adds its relation or its run
 pub text_means : (dialect : Dialect) (t : Table) (rules : List Defined) (ds : List Sited) (forms : List ℕ) (i : ℕ) (ts us vs : Tables) (old qs new : List Query) → i < length forms →
@@ -90,21 +69,6 @@ text_means dialect t rules ds forms i ts us vs old qs new here before step rs as
     let all_runs : asked ++ queries_of dialect t rules (map (site_at ds) (take (i + 1) forms)) ≡ (asked ++ runs) ++ queries_in dialect rules (form t (site_at ds (get_or forms i 0))) =
     ap (λ l. asked ++ l) (flat_next (λ d. queries_in dialect rules (form t d)) ds forms i here) ∙ sym (append_assoc asked runs (queries_in dialect rules (form t (site_at ds (get_or forms i 0))))) in
     rw (all, all_runs) (step (rs ++ so_far) (asked ++ runs) (before rs asked means))
-
-pub text_equational : (dialect : Dialect) (t : Table) (rules : List Defined) (ds : List Sited) (forms : List ℕ) (i : ℕ) (x y z : Bool) → i < length forms →
-    y ≡ (x && are_equational (relations_of dialect t rules (map (site_at ds) (take i forms))) (queries_of dialect t rules (map (site_at ds) (take i forms)))) →
-    z ≡ (y && are_equational (relations_in dialect rules (form t (site_at ds (get_or forms i 0)))) (queries_in dialect rules (form t (site_at ds (get_or forms i 0))))) →
-    z ≡ (x && are_equational (relations_of dialect t rules (map (site_at ds) (take (i + 1) forms))) (queries_of dialect t rules (map (site_at ds) (take (i + 1) forms))))
-text_equational dialect t rules ds forms i x y z here before step =
-    let so_far : List model.Relation = relations_of dialect t rules (map (site_at ds) (take i forms)) in
-    let runs : List model.Query = queries_of dialect t rules (map (site_at ds) (take i forms)) in
-    let next : List model.Relation = relations_in dialect rules (form t (site_at ds (get_or forms i 0))) in
-    let next_runs : List model.Query = queries_in dialect rules (form t (site_at ds (get_or forms i 0))) in
-    step ∙ ap (λ b. b && are_equational next next_runs) before
-    ∙ and_four x (list_all is_equational_body so_far) (list_all is_equational_query runs) (list_all is_equational_body next) (list_all is_equational_query next_runs)
-    ∙ ap (λ b. x && b) (sym (ap₂ (λ p q. p && q)
-    (ap (list_all is_equational_body) (flat_next (λ d. relations_in dialect rules (form t d)) ds forms i here) ∙ list_all-append is_equational_body so_far next)
-    (ap (list_all is_equational_query) (flat_next (λ d. queries_in dialect rules (form t d)) ds forms i here) ∙ list_all-append is_equational_query runs next_runs)))
 
 -- the names of the first of some forms, and of the next one
 pub names_next : (t : Table) (ds : List Sited) (forms : List ℕ) (i : ℕ) (ts us vs : Tables) → i < length forms → AddsNames ts us (relation_names t (map (site_at ds) (take i forms))) →
@@ -155,29 +119,21 @@ narrow_all gs i e before = sym (ap (list_all is_narrow) (sym (take_all i gs (no_
 pub program_meant : (dialect : Dialect) (t : Table) (library forms : List Sited) (rules : List Defined) (start mid last : Tables) (program : Program) (none queries closed_with : List Query) →
     rules ≡ definitions t library ++ definitions t forms → start ≡ empty_tables → none ≡ [] →
     ((qs : List Query) → (rs : List model.Relation) → (asked : List model.Query) → Means start qs rs asked → Means mid qs (rs ++ relations_of dialect t rules library) asked) →
-    are_equational_entries mid.goals ≡ (are_equational_entries start.goals && list_all is_equational_body (relations_of dialect t rules library)) →
     ((rs : List model.Relation) → (asked : List model.Query) → Means mid none rs asked → Means last queries (rs ++ relations_of dialect t rules forms) (asked ++ queries_of dialect t rules forms)) →
-    are_equational_entries last.goals ≡ (are_equational_entries mid.goals && are_equational (relations_of dialect t rules forms) (queries_of dialect t rules forms)) →
     programs.tables program ≡ last → closed_with ≡ queries → are_closed last (map goal_place queries) ≡ true → is_small (programs.meaning program) ≡ true → HasRoom last →
     IsMeant (text_meaning dialect t library forms) program closed_with
 unfolding text_meaning
-program_meant dialect t library forms rules start mid last program none queries closed_with split begins no_queries library_builds library_equations text_builds text_equations same given closed small room =
+program_meant dialect t library forms rules start mid last program none queries closed_with split begins no_queries library_builds text_builds same given closed small room =
     let all : rules ≡ definitions t (library ++ forms) = split ∙ sym (flat_map-append (definitions_of t) library forms) in
     let first : Means start none [] [] = rw (begins, no_queries) nothing_means in
     let means : Means last queries (relations_of dialect t rules library ++ relations_of dialect t rules forms) (queries_of dialect t rules forms) = text_builds (relations_of dialect t rules library) [] (library_builds none [] [] first) in
     let joined : relations_of dialect t rules library ++ relations_of dialect t rules forms ≡ relations_of dialect t (definitions t (library ++ forms)) (library ++ forms) =
     sym (flat_map-append (λ d. relations_in dialect rules (form t d)) library forms) ∙ ap (λ ds. relations_of dialect t ds (library ++ forms)) all in
     let runs : queries_of dialect t rules forms ≡ queries_of dialect t (definitions t (library ++ forms)) forms = ap (λ ds. queries_of dialect t ds forms) all in
-    let begun : are_equational_entries start.goals ≡ true = ap (λ (ts : Tables). are_equational_entries ts.goals) begins in
-    let entries : are_equational_entries last.goals ≡ are_equational (relations_of dialect t rules library ++ relations_of dialect t rules forms) (queries_of dialect t rules forms) =
-    text_equations ∙ ap (λ b. b && are_equational (relations_of dialect t rules forms) (queries_of dialect t rules forms)) (library_equations ∙ ap (λ b. b && list_all is_equational_body (relations_of dialect t rules library)) begun)
-    ∙ sym (and_three (list_all is_equational_body (relations_of dialect t rules library)) (list_all is_equational_body (relations_of dialect t rules forms)) (list_all is_equational_query (queries_of dialect t rules forms)))
-    ∙ ap (λ b. b && list_all is_equational_query (queries_of dialect t rules forms)) (sym (list_all-append is_equational_body (relations_of dialect t rules library) (relations_of dialect t rules forms))) in
     rw given (record {
       relations = ap (λ (ts : Tables). map (relation_made (goals_of ts)) ts.relations) same ∙ means.relations ∙ joined;
       queries_are = ap (λ ts. map (query_made (goals_of ts)) queries) same ∙ means.queries ∙ runs;
       closed = ap (λ ts. are_closed ts (map goal_place queries)) same ∙ closed;
       small = small;
       room = rw same room;
-      equational = ap (λ (ts : Tables). are_equational_entries ts.goals) same ∙ entries ∙ ap₂ are_equational joined runs;
     })

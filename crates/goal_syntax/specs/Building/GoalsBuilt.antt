@@ -10,25 +10,23 @@ use Rattle.kan_model.specs.Programs.Calls.{call_there}
 use Rattle.kan_model.specs.Programs.Tables.{GoalEntry, RelationEntry, Tables, templates_of, goal_at, goals_of, goal_of, is_goal_grown}
 use Rattle.kan_model.specs.Programs.Nodes.{goal_entry}
 use Rattle.kan_model.specs.declared.nodes.GoalNode.{GoalNode}
-use Rattle.goal_syntax.specs.Building.Equations.{is_equational, is_equational_entry, are_equational_entries}
 use Rattle.goal_syntax.specs.Building.CallsThere.{calls_named, are_there}
 use Rattle.goal_forms.specs.GoalSteps.{step_goal}
 use Rattle.goal_forms.specs.declared.goal.Goal as opened
 use Rattle.goal_forms.specs.declared.goal.Goal.TheVariants.{Fresh, AllOf, OneOf, Clauses}
 
--- the goals that were built and wait to be joined, the last one first; whether all goals of the table are equational, and under which relations their calls are there
+-- the goals that were built and wait to be joined, the last one first; under which relations the calls of the table are there
 pub record Built : Type 0 where
   pub made : List Goal
-  pub equational : Bool
   pub called : List RelationEntry → Bool
 
 -- the goals at the places on a stack
 abbrev pub built : Tables → List ℕ → Built
-built ts places = record { made = map (goal_at (goals_of ts)) (reverse places); equational = are_equational_entries ts.goals; called = λ rows. are_there rows ts.goals }
+built ts places = record { made = map (goal_at (goals_of ts)) (reverse places); called = λ rows. are_there rows ts.goals }
 
 -- one goal more
 abbrev pub with_goal : Goal → Built → Built
-with_goal g b = record { made = g ∷ b.made; equational = b.equational && is_equational g; called = λ rows. b.called rows && calls_named rows g }
+with_goal g b = record { made = g ∷ b.made; called = λ rows. b.called rows && calls_named rows g }
 
 abbrev pub with_maybe : Option Goal → Built → Built
 with_maybe None b = b
@@ -39,13 +37,12 @@ abbrev pub entry_goal : Tables → GoalEntry → Goal
 entry_goal ts e = goal_of (templates_of ts.terms) ts.arguments (goals_of ts) e
 
 abbrev pub with_entry : Tables → GoalEntry → Built → Built
-with_entry ts e b = record { made = entry_goal ts e ∷ b.made; equational = b.equational && is_equational_entry e; called = λ rows. b.called rows && call_there rows e }
+with_entry ts e b = record { made = entry_goal ts e ∷ b.made; called = λ rows. b.called rows && call_there rows e }
 
 -- an entry that may be added stands for a goal
 pub record Stands (ts : Tables) (e : GoalEntry) (g : Goal) : Type 0 where
   pub grown : is_goal_grown ts (length ts.goals) e ≡ true
   pub is : entry_goal ts e ≡ g
-  pub equational : is_equational_entry e ≡ is_equational g
   pub called : (rows : List RelationEntry) → call_there rows e ≡ calls_named rows g
 
 abbrev pub StandsFor : Tables → Option GoalNode → Option Goal → Type 0

@@ -15,7 +15,6 @@ use Rattle.kan_model.specs.declared.nodes.Query.{Query}
 use Rattle.goal_syntax.specs.Compiling.SymbolNames.{are_named}
 use Rattle.goal_syntax.specs.Building.FormsBuilt.{entry_names, relation_names}
 use Rattle.goal_syntax.specs.Building.GrownTables.{HasRoom}
-use Rattle.goal_syntax.specs.Building.Equations.{are_equational, are_equational_entries}
 use Rattle.goal_syntax.specs.declared.refusal.SyntaxError.{SyntaxError}
 use Rattle.goal_syntax.specs.declared.refusal.SyntaxError.TheVariants.{Fault, Memory}
 use Rattle.goal_syntax.specs.declared.compiler.Compiled.{Compiled}
@@ -27,7 +26,6 @@ pub record IsMeant (m : Meant) (program : Program) (queries : List Query) : Type
   pub closed : are_closed (programs.tables program) (map goal_place queries) ≡ true
   pub small : is_small (programs.meaning program) ≡ true
   pub room : HasRoom (programs.tables program)
-  pub equational : are_equational_entries (programs.tables program).goals ≡ are_equational m.relations m.queries
 
 -- the forms of a text behind those of a library give their program and runs, or the fault that is answered
 abbrev pub CompilesForms : Dialect → Table → List Sited → List Sited → Result Compiled SyntaxError → Type 0

@@ -20,7 +20,6 @@ use Rattle.sexpr.specs.Seen.{written, as_kept}
 use Rattle.sexpr.specs.declared.data.Datum.{Datum}
 use Rattle.goal_syntax.specs.Building.GrownTables.{HasRoom}
 use Rattle.goal_syntax.specs.Building.FormsBuilt.{entry_names, relation_names}
-use Rattle.goal_syntax.specs.Building.Equations.{are_equational, are_equational_entries}
 use Rattle.goal_syntax.specs.Compiling.SymbolNames.{are_named}
 use Rattle.goal_syntax.specs.declared.refusal.SyntaxError.{SyntaxError}
 use Rattle.goal_syntax.specs.declared.refusal.SyntaxError.TheVariants.{Fault, Memory}
@@ -55,8 +54,6 @@ pub record IsCompiled (dialect : Dialect) (names : Table) (library text : List D
   pub room : HasRoom (programs.tables program)
   -- each symbol in it has a name, and each string a text
   pub named : are_named names (programs.tables program) ≡ true
-  -- its goals are equational exactly where those of the text are
-  pub equational : are_equational_entries (programs.tables program).goals ≡ are_equational (relations_meant dialect names library text) (queries_meant dialect names library text)
 
 -- a text gives its program and runs, or the fault that is answered; want of memory says nothing
 abbrev pub Compiles : Dialect → Table → List Datum → List Datum → Result Compiled SyntaxError → Type 0

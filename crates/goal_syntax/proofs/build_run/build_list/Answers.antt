@@ -1,7 +1,7 @@
 use Rattle.kan_model.specs.Programs.Drafts.{tables}
 use Rattle.goal_forms.specs.Parts.{sites}
 use Rattle.goal_syntax.proofs.Building.TableLaws.{grows_on}
-use Rattle.goal_syntax.proofs.Building.CallsThereLaws.{suspended_closed, suspended_equational}
+use Rattle.goal_syntax.proofs.Building.CallsThereLaws.{suspended_closed}
 use Rattle.goal_syntax.proofs.build_run.build_list.Goals as goal
 
 pub suspend_at-requires-clause-there : goal.suspend_at-requires-clause-there
@@ -17,6 +17,3 @@ pub returns-clause-closed : goal.returns-clause-closed
 returns-clause-closed c =
     suspended_closed c.args.context.now.dialect (sites c.args.context.now.flat.now) (tables c.args.draft.now) (tables c.build_fresh.new.draft) (tables c.suspend_at.new.draft) _
     c.in_ok-fresh.ensures.closed c.in_ok-goal.ensures.terms c.in_ok-goal.ensures.called
-
-pub returns-clause-equational : goal.returns-clause-equational
-returns-clause-equational c = suspended_equational c.args.context.now.dialect _ _ _ _ c.in_ok-fresh.ensures.equational c.in_ok-goal.ensures.equational

@@ -3,7 +3,7 @@ use Rattle.std.proofs.lemmas.List.{take_all}
 use Rattle.kan_model.specs.Programs.Drafts.{tables}
 use Rattle.goal_forms.specs.Parts.{sites}
 use Rattle.goal_forms.specs.RelationTables.{relations}
-use Rattle.goal_syntax.proofs.Compiling.CompilingLaws.{names_next, library_means, library_equational}
+use Rattle.goal_syntax.proofs.Compiling.CompilingLaws.{names_next, library_means}
 use Rattle.goal_syntax.proofs.Building.CallsThereLaws.{library_closed}
 use Rattle.goal_syntax.proofs.compiler.build_library.Goals as goal
 
@@ -15,7 +15,6 @@ loop-place-preserved c =
     record {
       means = library_means c.args.context.now.dialect t rules ds c.args.forms.now c.loop-place.place-index (tables c.args.draft.now) (tables c.loop-place.draft) (tables c.build_library_form.new.draft) (omega arith)
           c.loop-place.invariant.means c.in_ok-build_library_form.ensures.means;
-      equational = library_equational c.args.context.now.dialect t rules ds c.args.forms.now c.loop-place.place-index _ _ _ (omega arith) c.loop-place.invariant.equational c.in_ok-build_library_form.ensures.equational;
       names = names_next t ds c.args.forms.now c.loop-place.place-index (tables c.args.draft.now) (tables c.loop-place.draft) (tables c.build_library_form.new.draft) (omega arith) c.loop-place.invariant.names c.in_ok-build_library_form.ensures.names;
       room = c.in_ok-build_library_form.ensures.room;
       closed = library_closed c.args.context.now.dialect t rules ds c.args.forms.now c.loop-place.place-index (tables c.args.draft.now) (tables c.loop-place.draft) (tables c.build_library_form.new.draft) (omega arith)

@@ -12,7 +12,7 @@ returns-clause-meant c =
     let ds = sites c.args.context.now.flat.now in
     program_meant c.args.context.now.dialect c.args.context.now.names.now (map (site_at ds) c.args.library.now) (map (site_at ds) c.args.forms.now) (relations c.args.context.now.relations.now)
     (tables c.new-draft.result) (tables c.build_library.new.draft) (tables c.build_text.new.draft) c.in_ok-compiled.compiled.program c.new-queries.result c.build_text.new.queries c.in_ok-compiled.compiled.queries
-    c.requires.relations c.new-draft.ensures c.new-queries.ensures c.in_ok-build_library.ensures.means c.in_ok-build_library.ensures.equational c.in_ok-build_text.ensures.means c.in_ok-build_text.ensures.equational
+    c.requires.relations c.new-draft.ensures c.new-queries.ensures c.in_ok-build_library.ensures.means c.in_ok-build_text.ensures.means
     c.in_ok-compiled.ensures.tables c.in_ok-compiled.ensures.queries c.in_ok-compiled.ensures.closed c.in_ok-compiled.ensures.small c.in_ok-build_text.ensures.room
 
 pub close-requires-clause-closed : goal.close-requires-clause-closed

@@ -3,7 +3,7 @@ use Rattle.std.proofs.lemmas.List.{take_all}
 use Rattle.kan_model.specs.Programs.Drafts.{tables}
 use Rattle.goal_forms.specs.Parts.{sites}
 use Rattle.goal_forms.specs.RelationTables.{relations}
-use Rattle.goal_syntax.proofs.Compiling.CompilingLaws.{names_next, text_means, text_equational}
+use Rattle.goal_syntax.proofs.Compiling.CompilingLaws.{names_next, text_means}
 use Rattle.goal_syntax.proofs.Building.CallsThereLaws.{text_closed}
 use Rattle.goal_syntax.proofs.compiler.build_text.Goals as goal
 
@@ -15,7 +15,6 @@ loop-place-preserved c =
     record {
       means = text_means c.args.context.now.dialect t rules ds c.args.forms.now c.loop-place.place-index (tables c.args.draft.now) (tables c.loop-place.draft) (tables c.build_form.new.draft) c.args.queries.now c.loop-place.queries c.build_form.new.queries (omega arith)
           c.loop-place.invariant.means (rw c.parse_form.ensures at c.in_ok-build_form.ensures.means);
-      equational = text_equational c.args.context.now.dialect t rules ds c.args.forms.now c.loop-place.place-index _ _ _ (omega arith) c.loop-place.invariant.equational (rw c.parse_form.ensures at c.in_ok-build_form.ensures.equational);
       names = names_next t ds c.args.forms.now c.loop-place.place-index (tables c.args.draft.now) (tables c.loop-place.draft) (tables c.build_form.new.draft) (omega arith) c.loop-place.invariant.names (rw c.parse_form.ensures at c.in_ok-build_form.ensures.names);
       room = c.in_ok-build_form.ensures.room;
       closed = text_closed c.args.context.now.dialect t rules ds c.args.forms.now c.loop-place.place-index (tables c.args.draft.now) (tables c.loop-place.draft) (tables c.build_form.new.draft) (omega arith)

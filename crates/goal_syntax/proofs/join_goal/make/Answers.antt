@@ -5,7 +5,7 @@ use Rattle.goal_syntax.proofs.join_goal.make.Goals as goal
 
 pub returns-clause-made : goal.returns-clause-made
 returns-clause-made c = made_top (tables c.args.draft.now) (tables c.add_goal.new.draft) c.args.places.now.items _ _ (goal_entry c.args.node) c.requires.below c.in_ok-place.ensures.grows
-    c.in_ok-place.ensures.made c.in_ok-place.ensures.equational c.in_ok-place.ensures.called c.in_ok-push.ensures.items
+    c.in_ok-place.ensures.made c.in_ok-place.ensures.called c.in_ok-push.ensures.items
 
 pub returns-clause-below : goal.returns-clause-below
 returns-clause-below c = made_below (tables c.args.draft.now) (tables c.add_goal.new.draft) c.args.places.now.items _ _ _ c.requires.below c.in_ok-place.ensures.grows c.in_ok-place.ensures.made c.in_ok-push.ensures.items
