@@ -3,3 +3,4 @@ pub mod JoinLaws
 pub mod KnownLaws
 pub mod PullLaws
 pub mod StartLaws
+pub mod SolutionLaws

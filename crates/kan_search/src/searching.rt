@@ -51,6 +51,7 @@ impl<'a, St: Store> Search<'a, St> {
     ghost use Rattle.kan_search.specs.Batches.{Advances, GaveAll, joined, greatest_batch};
     ghost use Rattle.kan_search.specs.Searches.{left, stream_left, pulls_made, round_of, is_spent};
     ghost use Rattle.kan_search.specs.Searches.{ComesNext};
+    ghost use Rattle.kan_search.specs.SolutionsLeft.{KeepsSolutions, MissesNone};
     ghost use Rattle.kan_search.specs.Waiting.{GivesNone, WantsPull};
 
     /// The search of a run at a fuel from 1 to 1,000,000. A batch makes at most so many pulls as a
@@ -71,6 +72,8 @@ impl<'a, St: Store> Search<'a, St> {
         ensures pulls { IfOk result (λ search. pulls_made search ≡ 0) }
         ensures round { IfOk result (λ search. round_of search ≡ round) }
         ensures whole { IfOk result (λ search. is_spent search ≡ false) }
+        ensures misses_none { IfOk result (λ search. MissesNone (programs.meaning program.now)
+            (programs.query_of program.now query.now) fuel (left St.meaning search)) }
     {
         let mut nodes = PlainNodes::new(alloc, program);
         let pulled = start(alloc, query.goal, &mut nodes)?;
@@ -225,6 +228,8 @@ impl<'a, St: Store> Search<'a, St> {
             batch.ended (left St.meaning self.new) (pulls_made self.new)) }
         ensures gave_all { IfOk result (λ batch. GaveAll (length batch.answers) batch.ended
             (stream_left St.meaning self.new)) }
+        ensures keeps { IfOk result (λ batch. KeepsSolutions (left St.meaning self.old)
+            (map St.meaning batch.answers) (left St.meaning self.new)) }
         ensures round { round_of self.new ≡ round_of self.old }
         ensures whole { OnOk result ((is_spent self.new) ≡ false) }
         ensures spent { OnErr result ((is_spent self.new) ≡ true) }

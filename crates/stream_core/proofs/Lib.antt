@@ -11,4 +11,5 @@ pub mod WayLaws
 pub mod ClosedLaws
 pub mod FitLaws
 pub mod TaskLaws
+pub mod SolutionLaws
 pub mod PlainRowLaws

@@ -10,3 +10,4 @@ pub mod WaysDown
 pub mod PlainTrees
 pub mod PlainRows
 pub mod PlainTables
+pub mod SolutionsFound

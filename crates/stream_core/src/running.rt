@@ -12,6 +12,7 @@ ghost use Rattle.kan_model.specs.Programs.Environments.{terms_of};
 ghost use Rattle.kan_model.specs.Programs.Closed as programs;
 ghost use Rattle.stream_core.specs.CallArguments.{ArgumentsPlaced};
 ghost use Rattle.stream_core.specs.CounterBounds.{TailFits, FitsAsBound};
+ghost use Rattle.stream_core.specs.SolutionsFound.{FindsSolutions, GivesFew};
 ghost use Rattle.stream_core.specs.Suspensions.{going_on};
 ghost use Rattle.stream_core.specs.Tables.{IsTableOf, OnlyAdds, HasStream, stream_in};
 ghost use Rattle.stream_core.specs.Tasks as pending;
@@ -267,6 +268,9 @@ pub(crate) fn run_with<N: Nodes<St>, St: Store>(
 }
 
 /// The stream of a goal at a store, with the slots standing for the environment's terms.
+///
+/// A solution of the store at whose values the goal has a derivation is found: a store with a
+/// solution that begins with it comes within the derivation's pulls.
 pub fn run_goal<N: Nodes<St>, St: Store>(
     alloc: Global,
     program: &Program,
@@ -287,6 +291,11 @@ pub fn run_goal<N: Nodes<St>, St: Store>(
         (St.meaning store).counter
         ((St.meaning store).counter + width (programs.goal program.now goal))
         (stream_in (N.table nodes.new) St.meaning made)) }
+    ensures finds { IfOk result (λ made. FindsSolutions (programs.meaning program.now)
+        (programs.goal program.now goal) (terms_of env.now) (St.meaning store)
+        (stream_in (N.table nodes.new) St.meaning made)) }
+    ensures few { IfOk result (λ made. GivesFew (programs.meaning program.now)
+        (programs.goal program.now goal) (stream_in (N.table nodes.new) St.meaning made)) }
     ensures adds { OnlyAdds (N.table nodes.old) (N.table nodes.new) }
 {
     let env = env.again(alloc)?;

@@ -6,6 +6,7 @@ use Rattle.kan_model.specs.Programs.Environments.{terms_of}
 use Rattle.kan_model.specs.Programs.Closed as programs
 use Rattle.stream_core.specs.Tasks.{IsOf}
 use Rattle.stream_core.proofs.ClosedLaws.{program-closed, goal-there}
+use Rattle.stream_core.proofs.SolutionLaws.{finds_solutions, gives_few}
 use Rattle.stream_core.proofs.FitLaws.{run-fits, fits-moved}
 use Rattle.stream_core.proofs.running.run_goal.Goals as goal
 
@@ -28,3 +29,14 @@ returns-clause-fits g c =
     fits-moved (programs.meaning p) (programs.meaning p) _ _ _ _ refl (returns-clause-made g c)
     (run-fits (programs.meaning p) (programs.goal p c.args.goal) (terms_of c.args.env.now) (g.St.Store.meaning c.args.store) (program-closed p c.requires.table.small)
     (goal-there (programs.goals p) c.args.goal c.requires.there) c.requires.slots c.requires.below)
+
+pub returns-clause-finds : goal.returns-clause-finds
+returns-clause-finds g c =
+    let p = c.args.program.now in
+    finds_solutions (programs.meaning p) (programs.goal p c.args.goal) (terms_of c.args.env.now) (g.St.Store.meaning c.args.store) _ (returns-clause-made g c)
+    (g.met.St.Store.counted c.args.store) c.requires.below
+
+pub returns-clause-few : goal.returns-clause-few
+returns-clause-few g c =
+    let p = c.args.program.now in
+    gives_few (programs.meaning p) (programs.goal p c.args.goal) (terms_of c.args.env.now) (g.St.Store.meaning c.args.store) _ (returns-clause-made g c)

@@ -5,6 +5,7 @@ use Rattle.kan_model.specs.Streams.Running.{start}
 use Rattle.kan_model.specs.Programs.Scope.{is_small}
 use Rattle.kan_model.specs.Streams.Taking.{take}
 use Rattle.kan_search.specs.Suspensions.{LeavesRoom, tree_of}
+use Rattle.kan_search.proofs.SolutionLaws.{run_misses_none}
 use Rattle.kan_search.proofs.searching.Search.open.Goals as goal
 
 pub invariant_of-result-clause-small : goal.invariant_of-result-clause-small
@@ -26,3 +27,7 @@ start-requires-clause-table g c = record {
   program = refl;
   small = ap (λ p. is_small (programs.meaning p)) c.new-nodes.ensures.program ∙ c.requires.small;
 }
+
+pub returns-clause-misses_none : goal.returns-clause-misses_none
+returns-clause-misses_none g c =
+    run_misses_none (programs.meaning c.args.program.now) (programs.query_of c.args.program.now c.args.query.now) c.args.fuel _ (returns-clause-left g c)
