@@ -1,0 +1,2 @@
+//! The words after the program's name, read into options.
+#![tactic(auto)]
