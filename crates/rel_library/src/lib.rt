@@ -1,0 +1,8 @@
+//! The relation library and the generated loads, as texts.
+#![tactic(auto)]
+
+mod library;
+mod load;
+
+pub use library::library_text;
+pub use load::make_load;
