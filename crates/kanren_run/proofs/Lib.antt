@@ -1,6 +1,5 @@
 pub mod TagLaws
 pub mod RunLaws
-pub mod CommandLaws
 pub mod TextLaws
 pub mod WritingLaws
 pub mod Declared

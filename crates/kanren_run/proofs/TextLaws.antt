@@ -1,75 +1,113 @@
 -- What becomes of a text: its program, or its refusal.
-use Rattle.std.proofs.Common.{◌≡◌, ℕ, List, [], map, None, Ok, Err, refl, sym, ap, subst, ◌∙◌}
+use Rattle.std.proofs.Common.{◌≡◌, ◌≤◌, ℕ, Bool, true, false, List, [], ◌∷◌, map, length, None, Ok, Err, refl, sym, ap, subst, ◌∙◌, arith}
 use Rattle.std.specs.Prelude.{Some}
 use Rattle.std.specs.Str.{is_utf8, chars}
 use Rattle.kan_terms.specs.Table.{Table, no_names}
-use Rattle.kan_grammar.specs.declared.dialect.Dialect.TheVariants.{Book}
 use Rattle.kan_grammar.specs.Data.Faults.{run, read_tokens, read_text, fault}
-use Rattle.kan_grammar.specs.Data.Tokens.{tokens, tokens_from}
-use Rattle.kan_grammar.specs.Texts.TextNames.{with_prefixes, with_text_names, text_table}
+use Rattle.kan_grammar.specs.Data.Tokens.{Placed, placed, tokens, tokens_from}
+use Rattle.kan_grammar.specs.Texts.TextNames.{GoesOn, with_prefixes, with_text_names, with_token, with_tokens, text_table}
 use Rattle.kan_grammar.specs.Texts.Reply.{Reply, reply, reply_to_data, unless_fault}
 use Rattle.kan_grammar.specs.Texts.ProgramText.{program_of_text, queries_of_text}
+use Rattle.kan_grammar.proofs.Texts.NameLaws.{goes_on_same, goes_on_further, extends_token, extends_prefixes}
 use Rattle.sexpr.specs.Seen.{written}
 use Rattle.sexpr.specs.Reads.{Reads}
 use Rattle.sexpr.specs.declared.data.Datum.{Datum}
 use Rattle.sexpr.specs.declared.data.ReadError.{ReadError}
 use Rattle.sexpr.specs.declared.data.ReadError.TheVariants as reading
 use Rattle.sexpr.proofs.ReplyLaws.{replies_as_read}
-use Rattle.goal_syntax.specs.Compiling.Compiles.{Compiles, IsCompiled, fault_found}
+use Rattle.goal_syntax.specs.Compiling.Compiles.{AreOfText, Compiles, IsAcceptedAlone, IsCompiled, fault_found}
 use Rattle.goal_syntax.specs.declared.refusal.SyntaxError.{SyntaxError}
 use Rattle.goal_syntax.specs.declared.refusal.SyntaxError.TheVariants as syntax
 use Rattle.goal_syntax.specs.declared.compiler.Compiled.{Compiled}
+use Rattle.goal_syntax.proofs.Compiling.LibraryLaws.{prefixes_again}
 use Rattle.kanren_run.specs.Answers.{answer, IsRefused}
-use Rattle.kanren_run.specs.Replies.{HasRuns}
+use Rattle.kanren_run.specs.Replies.{HasRuns, LibraryRead, TextRead}
+use Rattle.kanren_run.specs.Settings.{library_before}
+use Rattle.kanren_run.specs.declared.settings.Settings.{Settings}
 use Rattle.kanren_run.proofs.TagLaws.{bodies-named, queries-named}
 
--- a text without a library in front of it names what its own tokens do
+-- no library names nothing
 no_tokens : tokens [] ≡ []
 unfolding tokens tokens_from
 no_tokens = refl
 
-own_table : (text : List ℕ) → text_table [] text ≡ with_prefixes (with_text_names no_names text)
-unfolding tokens tokens_from
-own_table text = refl
+pub none_named : no_names ≡ with_text_names no_names []
+none_named = ap (with_tokens no_names) (sym no_tokens)
 
--- the empty library has no data
-none_read : (table : Table) → Reads [] table (Ok [])
+-- and has no data
+pub none_read : (table : Table) → Reads [] table (Ok [])
 unfolding run read_tokens read_text tokens tokens_from is_utf8 chars
 none_read table = refl
 
--- what is answered where the reading comes to data, and where it comes to a fault
-to_data : (text : List ℕ) (names : Table) (ds : List Datum) → names ≡ with_text_names no_names text → Reads text (with_prefixes names) (Ok ds) →
-    reply [] text Book ≡ reply_to_data Book (with_prefixes names) [] (map (written (with_prefixes names)) ds)
-to_data text names ds is read =
-    let same : text_table [] text ≡ with_prefixes names = own_table text ∙ ap with_prefixes (sym is) in
-    subst (λ t. reply [] text Book ≡ reply_to_data Book t [] (map (written t) ds)) same
-    (replies_as_read [] text Book [] (Ok ds) (none_read (text_table [] text)) (subst (λ t. Reads text t (Ok ds)) (sym same) read))
+pub no_library : (library : Bool) (names : Table) (ds : List Datum) → library ≡ false → names ≡ no_names → ds ≡ [] → LibraryRead library names ds
+no_library library names ds off empty none = rw (off, empty, none) (record { named = none_named; reads = λ later goes_on. none_read later })
+
+-- the names of a text go on those before them
+goes_on_tokens : (table : Table) (ts : List Placed) → GoesOn table (with_tokens table ts)
+goes_on_tokens table [] = goes_on_same table
+goes_on_tokens table (placed at t ∷ ts) = goes_on_further table (with_token table t) (with_tokens (with_token table t) ts) (extends_token table t).goes_on (goes_on_tokens (with_token table t) ts)
+
+goes_on_text : (table : Table) (text : List ℕ) → GoesOn table (with_prefixes (with_text_names table text))
+goes_on_text table text =
+    goes_on_further table (with_text_names table text) (with_prefixes (with_text_names table text)) (goes_on_tokens table (tokens text)) (extends_prefixes (with_text_names table text)).goes_on
+
+-- the library is read under the names of it and of a text behind it
+pub library_reads : (s : Settings) (text : List ℕ) (names : Table) (ls : List Datum) → LibraryRead s.library names ls → Reads (library_before s.library) (text_table (library_before s.library) text) (Ok ls)
+library_reads s text names ls h =
+    h.reads (text_table (library_before s.library) text) (subst (λ t. GoesOn t (text_table (library_before s.library) text)) (sym h.named) (goes_on_text (with_text_names no_names (library_before s.library)) text))
+
+-- what data that were read are answered with
+to_data : (s : Settings) (text : List ℕ) (names : Table) (ls ds : List Datum) → TextRead s text names ls ds →
+    answer s text ≡ reply_to_data s.dialect names (map (written names) ls) (map (written names) ds)
+to_data s text names ls ds h =
+    let library : List ℕ = library_before s.library in
+    subst (λ t. answer s text ≡ reply_to_data s.dialect t (map (written t) ls) (map (written t) ds)) h.named
+    (replies_as_read library text s.dialect ls (Ok ds) (subst (λ t. Reads library t (Ok ls)) (sym h.named) h.library) (subst (λ t. Reads text t (Ok ds)) (sym h.named) h.forms))
 
 -- a text that can't be read is refused
-pub reading_refused : (text : List ℕ) (names : Table) (x : ReadError) (at number : ℕ) → x ≡ reading.Fault at number → Reads text names (Err x) → IsRefused text at number
-reading_refused text names x at number is read =
-    replies_as_read [] text Book [] (Err (reading.Fault at number)) (none_read (text_table [] text)) (subst (λ y. Reads text names (Err y)) is read)
+pub reading_refused : (s : Settings) (text : List ℕ) (before names : Table) (ls : List Datum) (x : ReadError) (at number : ℕ) → LibraryRead s.library before ls →
+    x ≡ reading.Fault at number → Reads text names (Err x) → IsRefused s text at number
+reading_refused s text before names ls x at number library is read =
+    replies_as_read (library_before s.library) text s.dialect ls (Err (reading.Fault at number)) (library_reads s text before ls library) (subst (λ y. Reads text names (Err y)) is read)
 
--- the table of a text that was read into an empty one
-pub numbered_from : (text : List ℕ) (old new : Table) → old ≡ no_names → new ≡ with_text_names old text → new ≡ with_text_names no_names text
-numbered_from text old new is numbered = numbered ∙ ap (λ t. with_text_names t text) is
+-- a text that was read behind the library
+pub text_read : (s : Settings) (text : List ℕ) (before old : Table) (ls ds : List Datum) → LibraryRead s.library before ls → old ≡ with_text_names before text →
+    Reads text (with_prefixes old) (Ok ds) → TextRead s text (with_prefixes old) ls ds
+text_read s text before old ls ds library numbered read =
+    let same : text_table (library_before s.library) text ≡ with_prefixes old = ap with_prefixes (ap (λ t. with_text_names t text) (sym library.named) ∙ sym numbered) in
+    record { named = same; library = subst (λ t. Reads (library_before s.library) t (Ok ls)) same (library_reads s text before ls library); forms = read }
+
+-- the symbols of the prefixes come once
+pub prefixes_same : (old new : Table) → new ≡ with_prefixes old → with_prefixes new ≡ with_prefixes old
+prefixes_same old new same = ap with_prefixes same ∙ prefixes_again old
+
+-- the same under a table that has the symbols of the prefixes already
+pub read_again : (s : Settings) (text : List ℕ) (old new : Table) (ls ds : List Datum) → new ≡ with_prefixes old → TextRead s text (with_prefixes old) ls ds → TextRead s text (with_prefixes new) ls ds
+read_again s text old new ls ds same h = subst (λ t. TextRead s text t ls ds) (sym (prefixes_same old new same)) h
+
+pub of_text_again : (old new : Table) (ds : List Datum) → new ≡ with_prefixes old → AreOfText (with_prefixes old) ds → AreOfText (with_prefixes new) ds
+of_text_again old new ds same h = subst (λ t. AreOfText t ds) (sym (prefixes_same old new same)) h
+
+pub alone_again : (old new : Table) (ds : List Datum) → new ≡ with_prefixes old → IsAcceptedAlone (with_prefixes old) ds → IsAcceptedAlone (with_prefixes new) ds
+alone_again old new ds same h = subst (λ t. IsAcceptedAlone t ds) (sym (prefixes_same old new same)) h
 
 -- what data that were compiled are answered with
-compiled_answer : (names : Table) (ds : List Datum) (text : List ℕ) → reply [] text Book ≡ reply_to_data Book names [] (map (written names) ds) → fault_found names [] ds ≡ None →
-    answer text ≡ Reply.accepted names (program_of_text Book names [] (map (written names) ds)) (queries_of_text Book names [] (map (written names) ds))
-compiled_answer names ds text same none =
-    same ∙ ap (λ f. unless_fault f (Reply.accepted names (program_of_text Book names [] (map (written names) ds)) (queries_of_text Book names [] (map (written names) ds)))) none
+compiled_answer : (s : Settings) (names : Table) (ls ds : List Datum) (text : List ℕ) →
+    answer s text ≡ reply_to_data s.dialect names (map (written names) ls) (map (written names) ds) → fault_found names ls ds ≡ None →
+    answer s text ≡ Reply.accepted names (program_of_text s.dialect names (map (written names) ls) (map (written names) ds)) (queries_of_text s.dialect names (map (written names) ls) (map (written names) ds))
+compiled_answer s names ls ds text same none =
+    same ∙ ap (λ f. unless_fault f (Reply.accepted names (program_of_text s.dialect names (map (written names) ls) (map (written names) ds)) (queries_of_text s.dialect names (map (written names) ls) (map (written names) ds)))) none
 
 -- what data that were compiled come to
-pub data_come : (text : List ℕ) (old later : Table) (ds : List Datum) (c : Compiled) →
-    old ≡ with_text_names no_names text → Reads text (with_prefixes old) (Ok ds) → later ≡ with_prefixes old → IsCompiled Book (with_prefixes old) [] ds c.program c.queries → HasRuns text later c.program c.queries
-data_come text old later ds c is read table compiled =
+pub data_come : (s : Settings) (text : List ℕ) (old later : Table) (ls ds : List Datum) (c : Compiled) →
+    TextRead s text (with_prefixes old) ls ds → later ≡ with_prefixes old → IsCompiled s.dialect (with_prefixes old) ls ds c.program c.queries → HasRuns s text later c.program c.queries
+data_come s text old later ls ds c read table compiled =
     let names : Table = with_prefixes old in
-    subst (λ t. HasRuns text t c.program c.queries) (sym table)
+    subst (λ t. HasRuns s text t c.program c.queries) (sym table)
     (record {
-      meant = program_of_text Book names [] (map (written names) ds);
-      answered = compiled_answer names ds text (to_data text old ds is read) compiled.accepted
-          ∙ ap (λ qs. Reply.accepted names (program_of_text Book names [] (map (written names) ds)) qs) (sym compiled.queries_are);
+      meant = program_of_text s.dialect names (map (written names) ls) (map (written names) ds);
+      answered = compiled_answer s names ls ds text (to_data s text names ls ds read) compiled.accepted
+          ∙ ap (λ qs. Reply.accepted names (program_of_text s.dialect names (map (written names) ls) (map (written names) ds)) qs) (sym compiled.queries_are);
       relations = compiled.relations;
       can = record {
         closed = compiled.closed;
@@ -80,14 +118,14 @@ data_come text old later ds c is read table compiled =
     })
 
 -- data that have a fault are refused for it
-pub data_refused : (text : List ℕ) (old : Table) (ds : List Datum) (x : SyntaxError) (at number : ℕ) → x ≡ syntax.Fault at number →
-    old ≡ with_text_names no_names text → Reads text (with_prefixes old) (Ok ds) → Compiles Book (with_prefixes old) [] ds (Err x) → IsRefused text at number
-data_refused text old ds x at number same is read found =
+pub data_refused : (s : Settings) (text : List ℕ) (old : Table) (ls ds : List Datum) (x : SyntaxError) (at number : ℕ) → x ≡ syntax.Fault at number →
+    TextRead s text (with_prefixes old) ls ds → Compiles s.dialect (with_prefixes old) ls ds (Err x) → IsRefused s text at number
+data_refused s text old ls ds x at number same read found =
     let names : Table = with_prefixes old in
-    let first : fault_found names [] ds ≡ Some (fault at number) = subst (λ y. Compiles Book names [] ds (Err y)) same found in
-    to_data text old ds is read
-    ∙ ap (λ f. unless_fault f (Reply.accepted names (program_of_text Book names [] (map (written names) ds)) (queries_of_text Book names [] (map (written names) ds)))) first
+    let first : fault_found names ls ds ≡ Some (fault at number) = subst (λ y. Compiles s.dialect names ls ds (Err y)) same found in
+    to_data s text names ls ds read
+    ∙ ap (λ f. unless_fault f (Reply.accepted names (program_of_text s.dialect names (map (written names) ls) (map (written names) ds)) (queries_of_text s.dialect names (map (written names) ls) (map (written names) ds)))) first
 
 -- the same of equal offsets and numbers
-pub refused_same : (text : List ℕ) (a b m n : ℕ) → a ≡ b → m ≡ n → IsRefused text a m → IsRefused text b n
-refused_same text a b m n p q refused = subst (λ at. IsRefused text at n) p (subst (λ number. IsRefused text a number) q refused)
+pub refused_same : (s : Settings) (text : List ℕ) (a b m n : ℕ) → a ≡ b → m ≡ n → IsRefused s text a m → IsRefused s text b n
+refused_same s text a b m n p q refused = subst (λ at. IsRefused s text at n) p (subst (λ number. IsRefused s text a number) q refused)

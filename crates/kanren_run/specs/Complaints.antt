@@ -5,7 +5,8 @@ use Rattle.kan_base.specs.declared.status.Status.TheVariants.{Usage, ReadFault, 
 
 -- the line of a status, where it has one
 abbrev pub complaint : Status → Option (List ℕ)
-complaint Usage = Some (codes "usage: kanren [--fuel N]")
+complaint Usage =
+    Some (codes "usage: kanren [--workers N] [--fuel N] [--ahead N] [--round N] [--dialect D] [--lib] [--gen N] [FILE]")
 complaint ReadFault = Some (codes "kanren: read fault")
 complaint WriteFault = Some (codes "kanren: write fault")
 complaint TooLong = Some (codes "kanren: text too long")

@@ -1,5 +1,5 @@
 -- What the answers of an accepted text mean.
-use Rattle.std.specs.Prelude.{◌≡◌, ◌⊎◌, ◌↔◌, ℕ, true, List, [], ◌∷◌, Contains}
+use Rattle.std.specs.Prelude.{◌≡◌, ◌⊎◌, ◌↔◌, ℕ, true, List, [], ◌∷◌, Contains, Option, Some, None, ⊤}
 use Rattle.kan_terms.specs.Table.{Table}
 use Rattle.kan_terms.specs.Tree.{Gd}
 use Rattle.kan_model.specs.Answers.AnswerText.{answer_of}
@@ -13,6 +13,9 @@ use Rattle.kan_grammar.specs.Texts.Reply.{Reply}
 use Rattle.kan_meaning.specs.Answers.{IsCovered}
 use Rattle.pull_bounds.specs.Finding.{IsCutBefore}
 use Rattle.kanren_run.specs.Answers.{answer}
+use Rattle.kanren_run.specs.Settings.{settings_of}
+use Rattle.kanren_run.specs.declared.settings.Settings.{Settings}
+use Rattle.command_line.specs.Lines.{Line}
 
 -- What the answers of a run mean, of which each is written on a line of its own: the answer of a store that is taken. Each ground term that one of them covers is a
 -- solution of the run. Each solution is covered by one of them, or the run met its limit of answers, or it spent a fuel below the pulls of the solution's derivation.
@@ -24,5 +27,12 @@ pub record RunMeans (table : Table) (program : Program) (fuel : ℕ) (q : Query)
   pub all_at_end : (u : Gd) → (take_query program fuel q).ending ≡ Ending.end → IsCovered table (take_query program fuel q).stores u ↔ IsRunSolution program q.goal u
 
 -- so for each run of a text that is accepted
-abbrev pub TextMeans : ℕ → List ℕ → Type 0
-TextMeans fuel text = (table : Table) (program : Program) (queries : List Query) → answer text ≡ Reply.accepted table program queries → (q : Query) → Contains queries q → RunMeans table program fuel q
+abbrev pub TextMeans : Settings → List ℕ → Type 0
+TextMeans s text =
+    (table : Table) (program : Program) (queries : List Query) → answer s text ≡ Reply.accepted table program queries →
+    (q : Query) → Contains queries q → RunMeans table program s.fuel q
+
+-- and of every text, under the settings of the line that words are
+abbrev pub TextsMean : Option Line → Type 0
+TextsMean None = ⊤
+TextsMean (Some l) = (text : List ℕ) → TextMeans (settings_of l) text

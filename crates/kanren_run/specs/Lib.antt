@@ -1,3 +1,5 @@
+pub mod Settings
+pub mod Origins
 pub mod Commands
 pub mod Answers
 pub mod Writing

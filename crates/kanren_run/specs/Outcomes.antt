@@ -1,23 +1,17 @@
 -- What a call of the program did, by its status.
-use Rattle.std.specs.Prelude.{◌≡◌, ℕ, ◌+◌, ◌≤◌, Bool, List, length, Option, Some, true, false, not, ⊤}
+use Rattle.std.specs.Prelude.{◌≡◌, ℕ, Bool, List, Option, Some, None, true, false, not, ⊤}
 use Rattle.std.specs.Io.KnownBytes.{Appends}
 use Rattle.kan_base.specs.Faults.{one_more}
-use Rattle.kan_base.specs.Spots.{Spot}
-use Rattle.kan_base.specs.Views.{SourceView, SinkView}
+use Rattle.kan_base.specs.Views.{SinkView}
 use Rattle.kan_base.specs.Writes.{PutsFront}
-use Rattle.kan_base.specs.Texts.{greatest_text, IsWhole, TakesCount, TakesAtMost}
 use Rattle.kan_base.specs.declared.status.Status.{Status}
 use Rattle.kan_base.specs.declared.status.Status.TheVariants.{Done, Fuel, Usage, Text, ReadFault, WriteFault, TooLong, Memory}
-use Rattle.kanren_run.specs.Commands.{fuel_of, is_command}
-use Rattle.kan_grammar.specs.Texts.Reply.{reply_bytes}
-use Rattle.kanren_run.specs.Answers.{answer, Runs, IsRefused}
-
--- the source and the sink of a call, before and after it
-pub record Ends : Type 0 where
-  pub source : SourceView
-  pub source_after : SourceView
-  pub sink : SinkView
-  pub sink_after : SinkView
+use Rattle.command_line.specs.Lines.{Line}
+use Rattle.kanren_run.specs.Commands.{line_alone, is_command}
+use Rattle.kanren_run.specs.Settings.{settings_of}
+use Rattle.kanren_run.specs.Origins.{Origin, origin_of, Ends, GetsWhole, GetsAtMost, GetsTooMuch, IsThere}
+use Rattle.kanren_run.specs.Answers.{answer_bytes, Runs, IsRefused}
+use Rattle.kanren_run.specs.declared.settings.Settings.{Settings}
 
 -- a call of the program: its words, its ends and its status
 pub record Call : Type 0 where
@@ -25,50 +19,41 @@ pub record Call : Type 0 where
   pub ends : Ends
   pub status : Status
 
--- what standard input held before the call
-abbrev pub input : Ends → Option (List ℕ)
-input e = e.source.holds Spot.input
-
--- a text was read whole
-pub record ReadsWhole (e : Ends) (text : List ℕ) : Type 0 where
-  pub whole : IsWhole (input e) e.source_after.left text
-  pub short : length text ≤ greatest_text
-
--- all that is written for a text at a fuel was put
-abbrev pub PutWhole : ℕ → List ℕ → Option (List ℕ) → Option (List ℕ) → Type 0
-PutWhole fuel text put after = Appends put after (reply_bytes fuel (answer text))
+-- all that is written for a text was put
+abbrev pub PutWhole : Settings → List ℕ → Option (List ℕ) → Option (List ℕ) → Type 0
+PutWhole s text put after = Appends put after (answer_bytes s text)
 
 -- a front of what is written for a text was put
-abbrev pub PutFront : ℕ → List ℕ → Option (List ℕ) → Option (List ℕ) → Type 0
-PutFront fuel text put after = PutsFront put after (reply_bytes fuel (answer text))
+abbrev pub PutFront : Settings → List ℕ → Option (List ℕ) → Option (List ℕ) → Type 0
+PutFront s text put after = PutsFront put after (answer_bytes s text)
 
--- a text was read whole and accepted, and its output was put; it is said whether some run spent its fuel
-pub record Ran (fuel : ℕ) (e : Ends) (spent : Bool) : Type 0 where
+-- a text was got whole and is accepted, and its output was put; it is said whether some run spent its fuel
+pub record Ran (o : Origin) (s : Settings) (e : Ends) (spent : Bool) : Type 0 where
   pub text : List ℕ
-  pub read : ReadsWhole e text
-  pub runs : Runs fuel text spent
-  pub put : PutWhole fuel text e.sink.put e.sink_after.put
+  pub got : GetsWhole o e text
+  pub runs : Runs s text spent
+  pub put : PutWhole s text e.sink.put e.sink_after.put
 
--- a text was read whole and is refused, and the line that says so was put
-pub record Refused (fuel : ℕ) (e : Ends) (at number : ℕ) : Type 0 where
+-- a text was got whole and is refused, and the line that says so was put
+pub record Refused (o : Origin) (s : Settings) (e : Ends) (at number : ℕ) : Type 0 where
   pub text : List ℕ
-  pub read : ReadsWhole e text
-  pub refused : IsRefused text at number
-  pub put : PutWhole fuel text e.sink.put e.sink_after.put
+  pub got : GetsWhole o e text
+  pub refused : IsRefused s text at number
+  pub put : PutWhole s text e.sink.put e.sink_after.put
 
 -- nothing was put
 abbrev pub PutNothing : Ends → Type 0
 PutNothing e = e.sink_after.put ≡ e.sink.put
 
--- a text was read whole, and a front of what is written for it was put
-abbrev pub PutSome : ℕ → Ends → Type 0
-PutSome fuel e = (text : List ℕ) × ReadsWhole e text × PutFront fuel text e.sink.put e.sink_after.put
+-- a text was got whole, and a front of what is written for it was put
+abbrev pub PutSome : Origin → Settings → Ends → Type 0
+PutSome o s e = (text : List ℕ) × GetsWhole o e text × PutFront s text e.sink.put e.sink_after.put
 
--- want of memory: nothing was put, and the text was read as far as memory went; or it was read whole, and a front of what is
--- written for it was put
-pub data WantedMemory (fuel : ℕ) (e : Ends) : Type 0 where
-  before : PutNothing e → TakesAtMost greatest_text (input e) e.source_after.left → WantedMemory fuel e
-  while_writing : PutSome fuel e → WantedMemory fuel e
+-- Want of memory: nothing was put, and the text was read as far as memory went; or it was got whole,
+-- and a front of what is written for it was put.
+pub data WantedMemory (o : Origin) (s : Settings) (e : Ends) : Type 0 where
+  before : PutNothing e → GetsAtMost o e → WantedMemory o s e
+  while_writing : PutSome o s e → WantedMemory o s e
 
 -- the source and the sink are as they were
 pub record Untouched (e : Ends) : Type 0 where
@@ -80,18 +65,19 @@ abbrev pub is_usage : Status → Bool
 is_usage Usage = true
 is_usage s = false
 
--- what each status says of a call
-abbrev pub Outcome : ℕ → Ends → Status → Type 0
-Outcome fuel e Done = Ran fuel e false
-Outcome fuel e Fuel = Ran fuel e true
-Outcome fuel e Usage = Untouched e
-Outcome fuel e (Text at number) = Refused fuel e at number
-Outcome fuel e ReadFault = PutNothing e
-Outcome fuel e WriteFault = PutSome fuel e
-Outcome fuel e TooLong = TakesCount (greatest_text + 1) (input e) e.source_after.left × PutNothing e
-Outcome fuel e Memory = WantedMemory fuel e
+-- what each status says of a call that answers a text
+abbrev pub Outcome : Origin → Settings → Ends → Status → Type 0
+Outcome o s e Done = Ran o s e false
+Outcome o s e Fuel = Ran o s e true
+Outcome o s e Usage = Untouched e
+Outcome o s e (Text at number) = Refused o s e at number
+Outcome o s e ReadFault = PutNothing e
+Outcome o s e WriteFault = PutSome o s e
+Outcome o s e TooLong = GetsTooMuch o e × PutNothing e
+Outcome o s e Memory = WantedMemory o s e
 
--- how many calls of the source have failed, and of the sink: one more where the status says so, else as many as before
+-- How many calls of the source have failed, and of the sink: one more where the status says so, else
+-- as many as before.
 abbrev pub read_faults_after : Status → ℕ → ℕ
 read_faults_after ReadFault faults = one_more faults
 read_faults_after s faults = faults
@@ -110,47 +96,51 @@ pub record NoneFailed (e : Ends) : Type 0 where
   pub writes : e.sink_after.faults ≡ one_more e.sink.faults → ⊥
 
 -- what a text is answered with where nothing fails
-abbrev pub AnswersText : ℕ → List ℕ → Status → Type 0
-AnswersText fuel text Done = Runs fuel text false
-AnswersText fuel text Fuel = Runs fuel text true
-AnswersText fuel text (Text at number) = IsRefused text at number
-AnswersText fuel text Memory = ⊤
-AnswersText fuel text _ = ⊥
+abbrev pub AnswersText : Settings → List ℕ → Status → Type 0
+AnswersText s text Done = Runs s text false
+AnswersText s text Fuel = Runs s text true
+AnswersText s text (Text at number) = IsRefused s text at number
+AnswersText s text Memory = ⊤
+AnswersText s text _ = ⊥
 
--- Where none failed and standard input is told to hold a text that isn't too long, the answer is the one that the text has, or
+-- Where none failed and the text is told that is asked for, the answer is the one that it has, or
 -- want of memory.
-abbrev pub IsComplete : ℕ → Ends → Status → Type 0
-IsComplete fuel e s = (text : List ℕ) → input e ≡ Some text → length text ≤ greatest_text → NoneFailed e → AnswersText fuel text s
+abbrev pub IsComplete : Origin → Settings → Ends → Status → Type 0
+IsComplete o s e status = (text : List ℕ) → IsThere o e text → NoneFailed e → AnswersText s text status
 
--- what is said of the answering of standard input at a fuel
-pub record IsFaithfulAt (fuel : ℕ) (e : Ends) (s : Status) : Type 0 where
-  pub outcome : Outcome fuel e s
-  pub answered : is_usage s ≡ false
-  pub counts : CountsFaults e s
-  pub complete : IsComplete fuel e s
+-- what is said of the answering of a text from an origin under some settings
+pub record IsFaithfulAt (o : Origin) (s : Settings) (e : Ends) (status : Status) : Type 0 where
+  pub outcome : Outcome o s e status
+  pub answered : is_usage status ≡ false
+  pub counts : CountsFaults e status
+  pub complete : IsComplete o s e status
 
--- What is said of a call: its outcome by its status; that the status is Usage exactly where the words are no line of the
--- command; how many calls of its ends failed; and that it has the answer of the text where none did.
+-- what is said of a call by the line that its words are, if they are one
+abbrev pub IsFaithfulTo : Option Line → Ends → Status → Type 0
+IsFaithfulTo (Some l) e status = IsFaithfulAt (origin_of l) (settings_of l) e status
+IsFaithfulTo None e status = Untouched e × (status ≡ Usage)
+
+-- What is said of a call: where its words are a line of the command, its outcome by its status, how
+-- many calls of its ends failed, and that it has the answer of the text where none did; that the
+-- status is Usage exactly where they are none, and that all is then as it was.
 pub record IsFaithful (call : Call) : Type 0 where
-  pub outcome : Outcome (fuel_of call.words) call.ends call.status
+  pub faithful : IsFaithfulTo (line_alone call.words) call.ends call.status
   pub usage : is_usage call.status ≡ not (is_command call.words)
-  pub counts : CountsFaults call.ends call.status
-  pub complete : is_command call.words ≡ true → IsComplete (fuel_of call.words) call.ends call.status
 
 -- nothing was put, or a front of what is written for a text
-pub data Wanted (fuel : ℕ) (text : List ℕ) (put after : Option (List ℕ)) : Type 0 where
-  nothing : after ≡ put → Wanted fuel text put after
-  some : PutFront fuel text put after → Wanted fuel text put after
+pub data Wanted (s : Settings) (text : List ℕ) (put after : Option (List ℕ)) : Type 0 where
+  nothing : after ≡ put → Wanted s text put after
+  some : PutFront s text put after → Wanted s text put after
 
--- what a status says of the writing of a text that was read whole, into a sink
-abbrev pub WritesReply : ℕ → List ℕ → SinkView → SinkView → Status → Type 0
-WritesReply fuel text old new Done =
-    Runs fuel text false × PutWhole fuel text old.put new.put × (new.faults ≡ old.faults)
-WritesReply fuel text old new Fuel =
-    Runs fuel text true × PutWhole fuel text old.put new.put × (new.faults ≡ old.faults)
-WritesReply fuel text old new (Text at number) =
-    IsRefused text at number × PutWhole fuel text old.put new.put × (new.faults ≡ old.faults)
-WritesReply fuel text old new WriteFault =
-    PutFront fuel text old.put new.put × (new.faults ≡ one_more old.faults)
-WritesReply fuel text old new Memory = Wanted fuel text old.put new.put × (new.faults ≡ old.faults)
-WritesReply fuel text old new _ = ⊥
+-- what a status says of the writing of a text that was got whole, into a sink
+abbrev pub WritesReply : Settings → List ℕ → SinkView → SinkView → Status → Type 0
+WritesReply s text old new Done =
+    Runs s text false × PutWhole s text old.put new.put × (new.faults ≡ old.faults)
+WritesReply s text old new Fuel =
+    Runs s text true × PutWhole s text old.put new.put × (new.faults ≡ old.faults)
+WritesReply s text old new (Text at number) =
+    IsRefused s text at number × PutWhole s text old.put new.put × (new.faults ≡ old.faults)
+WritesReply s text old new WriteFault =
+    PutFront s text old.put new.put × (new.faults ≡ one_more old.faults)
+WritesReply s text old new Memory = Wanted s text old.put new.put × (new.faults ≡ old.faults)
+WritesReply s text old new _ = ⊥

@@ -5,13 +5,16 @@ ghost use Rattle.kanren_run.specs.Complaints as complaints;
 
 use kan_base::Status;
 
+// The form of the command.
+const USAGE: &str = "usage: kanren [--workers N] [--fuel N] [--ahead N] [--round N] [--dialect D] [--lib] [--gen N] [FILE]";
+
 /// The line that the program writes on standard error, where a status has one.
 pub fn complaint(status: Status) -> Option<&'static str>
     ensures { MatchOption result (complaints.complaint status ≡ None)
         (λ line. complaints.complaint status ≡ Some line.now) }
 {
     match status {
-        Status::Usage => Some("usage: kanren [--fuel N]"),
+        Status::Usage => Some(USAGE),
         Status::ReadFault => Some("kanren: read fault"),
         Status::WriteFault => Some("kanren: write fault"),
         Status::TooLong => Some("kanren: text too long"),

@@ -2,9 +2,9 @@
 #![tactic(auto)]
 
 mod answer;
-mod command;
 mod complaints;
 mod refusal;
+mod settings;
 mod text;
 mod top;
 mod writing;

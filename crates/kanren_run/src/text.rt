@@ -1,17 +1,19 @@
 //! Texts: their program and their runs.
 
-ghost use Rattle.std.specs.Prelude.{◌≡◌, ◌+◌, ◌<◌, ◌≤◌, ◌^◌, length, List, ℕ, Ok};
+ghost use Rattle.std.specs.Prelude.{◌≡◌, ◌+◌, ◌<◌, ◌≤◌, ◌^◌, length, List, ℕ, [], true, Ok};
+ghost use Rattle.std.specs.Prelude.{IfOk, OnOk};
 ghost use Rattle.kan_terms.specs.Table.{no_names};
 ghost use Rattle.kan_grammar.specs.Texts.TextNames.{with_prefixes, with_text_names};
-ghost use Rattle.sexpr.specs.Reads.{Reads};
-ghost use Rattle.goal_syntax.specs.Compiling.Compiles.{AreOfText};
-ghost use Rattle.kanren_run.specs.Replies.{ComesTo};
+ghost use Rattle.goal_syntax.specs.Compiling.Compiles.{AreOfText, IsAcceptedAlone};
+ghost use Rattle.kanren_run.specs.Replies.{ComesTo, LibraryRead, TextRead};
 
 use crate::refusal::Fault;
+use crate::settings::Settings;
 use goal_syntax::{Compiled, SyntaxError, compile};
 use kan_grammar::Dialect;
 use kan_terms::Names;
-use sexpr::{Datum, ReadError, read};
+use rel_library::library_text;
+use sexpr::{Data, Datum, ReadError, read};
 use std::alloc::Global;
 
 /// Why a text isn't run.
@@ -23,37 +25,120 @@ pub(crate) enum NotRun {
     Memory,
 }
 
-// The program and the runs of a text's data. No text has more data than a u32 counts.
-fn compile_data(alloc: Global, forms: &[Datum], names: &mut Names) -> Result<Compiled, NotRun>
-    requires few { length names.old.symbols + 3 < 2 ^ 32 }
-    requires texts { AreOfText (with_prefixes names.old) forms.now }
-    ensures { (text : List ℕ) → names.old ≡ with_text_names no_names text
-        → Reads text (with_prefixes names.old) (Ok forms.now) → ComesTo text names.new result }
+// Reads the library, where it is asked for. It has no fault.
+fn library_data(alloc: Global, library: bool, names: &mut Names) -> Result<Data, NotRun>
+    requires empty { names.old ≡ no_names }
+    ensures { IfOk result (λ data. LibraryRead library names.new data.items) }
+    ensures few { OnOk result (length names.new.symbols ≤ 1048576 × (length names.new.strings ≤ 1048576)) }
 {
-    if u32::try_from(forms.len()).is_err() {
-        return Err(NotRun::Memory);
+    if !library {
+        return Ok(Vec::new(alloc));
     }
-    match compile(alloc, &[], forms, names, Dialect::Book) {
+    match read(alloc, library_text().as_bytes(), names) {
+        Ok(data) => Ok(data),
+        Err(_) => Err(NotRun::Memory),
+    }
+}
+
+// Whether there are fewer data than a u32 counts. No text has more.
+fn are_few(library: &[Datum], forms: &[Datum]) -> bool
+    ensures { result ≡ true → length library.now + length forms.now < 2 ^ 32 }
+{
+    match library.len().checked_add(forms.len()) {
+        Some(count) => u32::try_from(count).is_ok(),
+        None => false,
+    }
+}
+
+// Whether data may stand in front of a text: they have no fault and no run.
+fn are_library(
+    alloc: Global,
+    library: &[Datum],
+    names: &mut Names,
+    dialect: Dialect,
+) -> Result<bool, NotRun>
+    requires names { length names.old.symbols + 3 < 2 ^ 32 }
+    requires few { length library.now < 2 ^ 32 }
+    requires texts { AreOfText (with_prefixes names.old) library.now }
+    ensures table { OnOk result (names.new ≡ with_prefixes names.old) }
+    ensures alone { IfOk result (λ alone. alone ≡ true
+        → IsAcceptedAlone (with_prefixes names.old) library.now) }
+{
+    match compile(alloc, &[], library, names, dialect) {
+        Ok(compiled) => Ok(compiled.queries.is_empty()),
+        Err(_) => Err(NotRun::Memory),
+    }
+}
+
+// The program and the runs of a text's data behind those of a library that may stand there.
+fn compile_behind(
+    alloc: Global,
+    settings: Settings,
+    library: &[Datum],
+    forms: &[Datum],
+    names: &mut Names,
+) -> Result<Compiled, NotRun>
+    requires names { length names.old.symbols + 3 < 2 ^ 32 }
+    requires few { length library.now + length forms.now < 2 ^ 32 }
+    requires library { AreOfText (with_prefixes names.old) library.now }
+    requires texts { AreOfText (with_prefixes names.old) forms.now }
+    requires alone { IsAcceptedAlone (with_prefixes names.old) library.now }
+    ensures { (text : List ℕ)
+        → TextRead settings text (with_prefixes names.old) library.now forms.now
+        → ComesTo settings text names.new result }
+{
+    match compile(alloc, library, forms, names, settings.dialect) {
         Ok(compiled) => Ok(compiled),
         Err(SyntaxError::Fault(at, number)) => Err(NotRun::Fault(Fault { at, number })),
         Err(SyntaxError::Memory) => Err(NotRun::Memory),
     }
 }
 
-/// The program and the runs of a text, whose names get numbers; or the fault for which it isn't run: that of the reading
-/// of its data, or else that of the data.
+// The program and the runs of a text's data behind those of the library, if there are any.
+fn compile_data(
+    alloc: Global,
+    settings: Settings,
+    library: &[Datum],
+    forms: &[Datum],
+    names: &mut Names,
+) -> Result<Compiled, NotRun>
+    requires names { length names.old.symbols + 6 < 2 ^ 32 }
+    requires library { AreOfText (with_prefixes names.old) library.now }
+    requires texts { AreOfText (with_prefixes names.old) forms.now }
+    ensures { (text : List ℕ)
+        → TextRead settings text (with_prefixes names.old) library.now forms.now
+        → ComesTo settings text names.new result }
+{
+    if !are_few(library, forms) {
+        return Err(NotRun::Memory);
+    }
+    if library.is_empty() {
+        return compile_behind(alloc, settings, library, forms, names);
+    }
+    if are_library(alloc, library, names, settings.dialect)? {
+        compile_behind(alloc, settings, library, forms, names)
+    } else {
+        Err(NotRun::Memory)
+    }
+}
+
+/// The program and the runs of a text behind the library, if that is asked for, whose names get
+/// numbers; or the fault for which it isn't run: that of the reading of its data, or else that of
+/// the data.
 #[tactic(auto, using(goal_syntax::proofs::Compiling::OfTextLaws::read_of_text))]
 pub(crate) fn compile_text(
     alloc: Global,
+    settings: Settings,
     text: &[u8],
     names: &mut Names,
 ) -> Result<Compiled, NotRun>
     requires short { length text.now ≤ 1048576 }
     requires empty { names.old ≡ no_names }
-    ensures { ComesTo text.now names.new result }
+    ensures { ComesTo settings text.now names.new result }
 {
+    let library = library_data(alloc, settings.library, names)?;
     match read(alloc, text, names) {
-        Ok(data) => compile_data(alloc, data.as_slice(), names),
+        Ok(data) => compile_data(alloc, settings, library.as_slice(), data.as_slice(), names),
         Err(ReadError::Fault(at, number)) => Err(NotRun::Fault(Fault { at, number })),
         Err(ReadError::Memory) => Err(NotRun::Memory),
     }

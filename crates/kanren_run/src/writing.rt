@@ -9,10 +9,12 @@ ghost use Rattle.kan_model.specs.Programs.Closed.{query_of};
 ghost use Rattle.kan_search.specs.Searches.{left, pulls_made, round_of};
 ghost use Rattle.kan_grammar.specs.Texts.Reply.{is_spent};
 ghost use Rattle.kanren_run.specs.Answers.{spends};
+ghost use Rattle.kanren_run.specs.Settings.{InRange};
 ghost use Rattle.kanren_run.specs.Tags.{HasNames, Each};
 ghost use Rattle.kanren_run.specs.Writing.{CanRun, Puts, WritesNext, answer_lines, end_text, rest_text, memory_wanted, sink_failed};
 
 use crate::answer::{print_answer, print_summary};
+use crate::settings::Settings;
 use kan_base::{Failed, Sink, put_all};
 use kan_model::{Program, Query, Store};
 use kan_search::{Batch, Ended, Search};
@@ -147,24 +149,22 @@ fn write_search<K: Sink, St: Store>(
     }
 }
 
-// How many pulls a batch makes at most.
-const ROUND: u32 = 8192;
-
 // Writes the lines of a run, and says how it ended.
 fn write_query<K: Sink, St: Store>(
     alloc: Global,
     program: &Program,
     query: &Query,
-    fuel: u64,
+    settings: Settings,
     names: &Names,
     sink: &mut K,
 ) -> Result<Ended, Stop>
     requires can_run { CanRun names.now program.now (query.now ∷ []) }
-    requires fuel { 1 ≤ fuel × (fuel ≤ 1000000) }
-    ensures puts { Puts (taken_text names.now (take_query (programs.meaning program.now) fuel (query_of program.now query.now))) (K.view sink.old) (K.view sink.new) result }
-    ensures ended { IfOk result (λ ended. ending_of ended ≡ (take_query (programs.meaning program.now) fuel (query_of program.now query.now)).ending) }
+    requires range { InRange settings }
+    ensures puts { Puts (taken_text names.now (take_query (programs.meaning program.now) settings.fuel (query_of program.now query.now))) (K.view sink.old) (K.view sink.new) result }
+    ensures ended { IfOk result (λ ended. ending_of ended ≡ (take_query (programs.meaning program.now) settings.fuel (query_of program.now query.now)).ending) }
 {
-    let mut search: Search<St> = Search::open(alloc, program, query, fuel, ROUND)?;
+    let mut search: Search<St> = 
+        Search::open(alloc, program, query, settings.fuel, settings.round)?;
     let ended = write_search(alloc, &mut search, names, sink)?;
     Ok(ended)
 }
@@ -181,18 +181,18 @@ pub(crate) fn write_runs<K: Sink, St: Store>(
     alloc: Global,
     program: &Program,
     queries: &[Query],
-    fuel: u64,
+    settings: Settings,
     names: &Names,
     sink: &mut K,
 ) -> Result<bool, Stop>
     requires can_run { CanRun names.now program.now queries.now }
-    requires fuel { 1 ≤ fuel × (fuel ≤ 1000000) }
-    ensures puts { Puts (runs_output names.now (programs.meaning program.now) fuel (map (query_of program.now) queries.now)) (K.view sink.old) (K.view sink.new) result }
-    ensures spent { IfOk result (λ spent. spent ≡ spends (programs.meaning program.now) fuel (map (query_of program.now) queries.now)) }
+    requires range { InRange settings }
+    ensures puts { Puts (runs_output names.now (programs.meaning program.now) settings.fuel (map (query_of program.now) queries.now)) (K.view sink.old) (K.view sink.new) result }
+    ensures spent { IfOk result (λ spent. spent ≡ spends (programs.meaning program.now) settings.fuel (map (query_of program.now) queries.now)) }
 {
     let mut spent = false;
     for query in queries {
-        let ended = write_query::<K, St>(alloc, program, query, fuel, names, sink)?;
+        let ended = write_query::<K, St>(alloc, program, query, settings, names, sink)?;
         spent |= ended_by_fuel(ended);
     }
     Ok(spent)

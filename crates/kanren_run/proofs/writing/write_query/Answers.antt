@@ -17,7 +17,7 @@ pub write_search-requires-clause-named : goal.write_search-requires-clause-named
 write_search-requires-clause-named g c =
     let can = c.requires.can_run in
     subst (λ t. Each (HasNames c.args.names.now) t.stores) (sym c.in_ok-search.ensures.left)
-    (taken-has c.args.names.now (programs.meaning c.args.program.now) c.args.fuel (query_of c.args.program.now c.args.query.now) can.bodies (and_parts _ _ can.goals).0)
+    (taken-has c.args.names.now (programs.meaning c.args.program.now) c.args.settings.fuel (query_of c.args.program.now c.args.query.now) can.bodies (and_parts _ _ can.goals).0)
 
 pub returns-in_err-ended-clause-puts : goal.returns-in_err-ended-clause-puts
 returns-in_err-ended-clause-puts g c =
