@@ -2,7 +2,12 @@
 #![tactic(auto)]
 
 mod given;
+mod name;
+mod options;
 mod reading;
 mod settings;
 mod spelled;
 mod values;
+
+pub use name::Name;
+pub use options::{Options, WordsFault, read_words};
