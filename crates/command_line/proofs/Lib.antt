@@ -1,1 +1,3 @@
 pub mod NumberLaws
+pub mod SpellingLaws
+pub mod ReadingLaws

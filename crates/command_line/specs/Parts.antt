@@ -14,45 +14,56 @@ pub data Spelling : Type 0 where
   dashed : Spelling
   plain : Spelling
 
--- a byte is a dash, and one is an equals sign
-abbrev pub is_dash : ℕ → Bool
-is_dash b = b == 45
+-- what stands behind a first byte, where the text begins with it
+abbrev pub behind : ℕ → Text → Option Text
+behind c [] = None
+behind c (b ∷ bs) = if b == c then Some bs else None
 
+-- the name before the first equals sign, and the value behind it
 abbrev pub is_equals : ℕ → Bool
 is_equals b = b == 61
 
--- the value behind the first equals sign
+abbrev pub before_value : Text → Text
+before_value text = before_first is_equals text
+
 abbrev pub value_in : Text → Option Text
 value_in text = if list_any is_equals text then Some (after_first is_equals text) else None
 
 -- what two dashes begin
-abbrev pub behind_two : Text → Spelling
-behind_two [] = end
-behind_two (b ∷ bs) = named (before_first is_equals (b ∷ bs)) (value_in (b ∷ bs))
+abbrev pub of_name : Text → Spelling
+of_name [] = end
+of_name (b ∷ bs) = named (before_value (b ∷ bs)) (value_in (b ∷ bs))
+
+abbrev pub of_second : Option Text → Spelling
+of_second None = dashed
+of_second (Some text) = of_name text
 
 -- what one dash begins
-abbrev pub behind_one : Text → Spelling
-behind_one [] = plain
-behind_one (b ∷ bs) = if is_dash b then behind_two bs else dashed
+abbrev pub of_rest : Text → Spelling
+of_rest [] = plain
+of_rest (b ∷ bs) = of_second (behind 45 (b ∷ bs))
+
+abbrev pub of_first : Option Text → Spelling
+of_first None = plain
+of_first (Some text) = of_rest text
 
 abbrev pub spelling : Text → Spelling
-spelling [] = plain
-spelling (b ∷ bs) = if is_dash b then behind_one bs else plain
+spelling word = of_first (behind 45 word)
 
 -- the options that take a value, by their names
 abbrev pub setting_named : Text → Option Setting
 setting_named text =
-    if bytes_eq text (codes "workers") then Some Workers
-    else if bytes_eq text (codes "fuel") then Some Fuel
-    else if bytes_eq text (codes "ahead") then Some Ahead
-    else if bytes_eq text (codes "round") then Some Round
-    else if bytes_eq text (codes "dialect") then Some Dialect
-    else if bytes_eq text (codes "gen") then Some Gen
+    if bytes_eq (codes "workers") text then Some Workers
+    else if bytes_eq (codes "fuel") text then Some Fuel
+    else if bytes_eq (codes "ahead") text then Some Ahead
+    else if bytes_eq (codes "round") text then Some Round
+    else if bytes_eq (codes "dialect") text then Some Dialect
+    else if bytes_eq (codes "gen") text then Some Gen
     else None
 
 -- the one option that takes none
 abbrev pub names_library : Text → Bool
-names_library text = bytes_eq text (codes "lib")
+names_library text = bytes_eq (codes "lib") text
 
 -- a part of a line: an option with its value, the option for the library, or a file
 pub data Part : Type 0 where

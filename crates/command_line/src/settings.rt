@@ -1,4 +1,7 @@
-//! The options that take a value.
+//! The options by their names.
+
+ghost use Rattle.std.specs.Prelude.{◌≡◌};
+ghost use Rattle.command_line.specs.Parts.{names_library, setting_named};
 
 /// An option that takes a value.
 #[derive(Clone, Copy)]
@@ -15,4 +18,32 @@ pub(crate) enum Setting {
     Dialect,
     /// Which generated load is run.
     Gen,
+}
+
+/// The option of a name that takes a value.
+pub(crate) fn setting_named(name: &str) -> Option<Setting>
+    ensures { result ≡ setting_named name.now }
+{
+    if "workers" == name {
+        Some(Setting::Workers)
+    } else if "fuel" == name {
+        Some(Setting::Fuel)
+    } else if "ahead" == name {
+        Some(Setting::Ahead)
+    } else if "round" == name {
+        Some(Setting::Round)
+    } else if "dialect" == name {
+        Some(Setting::Dialect)
+    } else if "gen" == name {
+        Some(Setting::Gen)
+    } else {
+        None
+    }
+}
+
+/// Whether a name is that of the option for the library.
+pub(crate) fn names_library(name: &str) -> bool
+    ensures { result ≡ names_library name.now }
+{
+    "lib" == name
 }
