@@ -1,3 +1,4 @@
 pub mod NumberLaws
+pub mod RangeLaws
 pub mod SpellingLaws
 pub mod ReadingLaws

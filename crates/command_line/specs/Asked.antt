@@ -1,5 +1,5 @@
 -- What reading the words answers.
-use Rattle.std.specs.Prelude.{◌≡◌, ℕ, List, Option, Some, None, option_map, Result, Ok, Err}
+use Rattle.std.specs.Prelude.{◌≡◌, ℕ, List, true, Option, Some, None, is_some, option_map, Result, Ok, Err}
 use Rattle.command_line.specs.Lines as lines
 use Rattle.command_line.specs.Seen.{text_of}
 use Rattle.command_line.specs.declared.options.Line.{Line}
@@ -14,8 +14,8 @@ line_seen l = record { workers = l.workers; fuel = l.fuel; ahead = l.ahead; roun
 abbrev pub line_asked : Options → lines.Line
 line_asked o = record { workers = o.workers; fuel = o.fuel; ahead = o.ahead; round = o.round; library = o.library; load = o.load; dialect = o.dialect; file = o.file }
 
--- the options are those of the line, and there is a fault of usage where there is no line; want of memory says nothing
+-- the options are those of the line, and there is a fault of usage exactly where there is no line
 abbrev pub Reads : Option lines.Line → Result Options WordsFault → Type 0
 Reads line (Ok options) = line ≡ Some (line_asked options)
 Reads line (Err Usage) = line ≡ None
-Reads line (Err Memory) = Unit {0}
+Reads line (Err Memory) = is_some line ≡ true

@@ -1,5 +1,5 @@
 -- The lines of the command: what the words ask for.
-use Rattle.std.specs.Prelude.{◌≡◌, ℕ, Bool, true, false, nat_le, ◌&&◌, ◌||◌, List, [], ◌∷◌, Option, Some, None, Result, Ok, Err, codes, bytes_eq, is_some, option_and_then, option_map, if◌then◌else◌}
+use Rattle.std.specs.Prelude.{◌≡◌, ◌≤◌, ℕ, Bool, true, false, nat_le, ◌&&◌, ◌||◌, List, [], ◌∷◌, Option, Some, None, Result, Ok, Err, codes, bytes_eq, is_some, option_and_then, option_map, if◌then◌else◌}
 use Rattle.std.specs.Borrow.{Bor}
 use Rattle.std.specs.Str.Parse.{digits_value}
 use Rattle.kan_grammar.specs.Data.Words.{all_digits}
@@ -112,6 +112,17 @@ asked g = line_of (number_asked 0 0 64 g.workers) (number_asked 100000 1 1000000
 -- the line of the command that words are, where they are one
 unfoldable pub line : List Text → Option Line
 line words = option_and_then asked (given words)
+
+-- what a line asks for lies in its range
+pub record IsInRange (l : Line) : Type 0 where
+  pub workers : l.workers ≤ 64
+  pub some_fuel : 1 ≤ l.fuel
+  pub fuel : l.fuel ≤ 1000000
+  pub some_ahead : 1 ≤ l.ahead
+  pub ahead : l.ahead ≤ 65536
+  pub some_round : 1 ≤ l.round
+  pub round : l.round ≤ 65536
+  pub load : (number : ℕ) → l.load ≡ Some number → number ≤ 400
 
 -- the words are a line of the command
 abbrev pub is_line : List Text → Bool

@@ -10,4 +10,4 @@ mod spelled;
 mod values;
 
 pub use name::Name;
-pub use options::{Options, WordsFault, read_words};
+pub use options::{Line, Options, WordsFault, read_line, read_words};

@@ -1,6 +1,6 @@
 //! What a line of the command asks for.
 
-ghost use Rattle.std.specs.Prelude.{◌≡◌, IfOk, List, ℕ, option_map};
+ghost use Rattle.std.specs.Prelude.{◌≡◌, IfOk, IfSome, List, ℕ, option_map};
 ghost use Rattle.command_line.specs.Asked.{Reads, line_seen, line_asked};
 ghost use Rattle.command_line.specs.Lines as lines;
 ghost use Rattle.command_line.specs.Lines.{texts};
@@ -44,17 +44,26 @@ pub enum WordsFault {
     Memory,
 }
 
-// What is asked for, with the file's name as its word has it.
+/// A line of the command: what it asks for, with the file's name as its word has it. It takes no
+/// memory. The fields are those of `Options`.
 #[derive(Clone, Copy)]
-struct Line<'a> {
-    workers: u32,
-    fuel: u32,
-    ahead: u32,
-    round: u32,
-    library: bool,
-    load: Option<u32>,
-    dialect: Dialect,
-    file: Option<&'a str>,
+pub struct Line<'a> {
+    /// How many threads work beside the one that answers.
+    pub workers: u32,
+    /// How many pulls each run makes at most.
+    pub fuel: u32,
+    /// How many pulls the workers may have begun ahead of those that are made.
+    pub ahead: u32,
+    /// How many pulls a round has at most.
+    pub round: u32,
+    /// Whether the relation library stands before the text.
+    pub library: bool,
+    /// The number of the generated load that is run in place of a text.
+    pub load: Option<u32>,
+    /// Which goals suspend.
+    pub dialect: Dialect,
+    /// The file that the text is read from, or none for standard input.
+    pub file: Option<&'a str>,
 }
 
 // What given values ask for.
@@ -100,10 +109,11 @@ fn options_of(alloc: Global, line: &Line) -> Result<Options, Memory>
     })
 }
 
-// The line of the command that the words are.
+/// The line of the command that words are, or none where they are no line of it. It takes no memory.
 #[tactic(auto, unfolding(crate::specs::Lines::line))]
-fn line_by<'a>(words: &[&'a str]) -> Option<Line<'a>>
-    ensures { option_map line_seen result ≡ lines.line (texts words.now) }
+pub fn read_line<'a>(words: &[&'a str]) -> Option<Line<'a>>
+    ensures is { option_map line_seen result ≡ lines.line (texts words.now) }
+    ensures range { IfSome result (λ line. lines.IsInRange (line_seen line)) }
 {
     asked(given_by(words)?)
 }
@@ -114,9 +124,10 @@ fn line_by<'a>(words: &[&'a str]) -> Option<Line<'a>>
 /// `--name=value`, each at most once, in any order and beside at most one name of a file; the word
 /// `--` ends the options.
 pub fn read_words(alloc: Global, words: &[&str]) -> Result<Options, WordsFault>
-    ensures { Reads (lines.line (texts words.now)) result }
+    ensures reads { Reads (lines.line (texts words.now)) result }
+    ensures range { IfOk result (λ options. lines.IsInRange (line_asked options)) }
 {
-    let Some(line) = line_by(words) else {
+    let Some(line) = read_line(words) else {
         return Err(WordsFault::Usage);
     };
     match options_of(alloc, &line) {

@@ -14,5 +14,5 @@ text_means s text table program queries accepted q there = record {
 }
 
 pub texts_mean : (l : Option Line) → TextsMean l
-texts_mean None = top
+texts_mean None = tt
 texts_mean (Some l) text = text_means (settings_of l) text

@@ -20,3 +20,7 @@ pub record InRange (s : Settings) : Type 0 where
   pub fuel : s.fuel ≤ 1000000
   pub some_round : 1 ≤ s.round
   pub round : s.round ≤ 65536
+
+-- settings, as clauses name them
+abbrev pub Answering : Type 0
+Answering = Settings

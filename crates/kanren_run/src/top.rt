@@ -1,15 +1,20 @@
 //! The top call: from a source of bytes to a sink.
 
-ghost use Rattle.std.specs.Prelude.{◌≡◌, ◌≤◌, length, List, ℕ, IfOk};
-ghost use Rattle.kan_base.specs.Faults.{faults_after_text};
-ghost use Rattle.command_line.specs.Lines.{texts};
-ghost use Rattle.kanren_run.specs.Commands.{line_alone};
-ghost use Rattle.kanren_run.specs.Headline.{TextsMean};
-ghost use Rattle.kanren_run.specs.Origins.{Ends, Origin, origin_of};
-ghost use Rattle.kanren_run.specs.Outcomes.{IsFaithful, IsFaithfulAt, WritesReply};
+ghost use Rattle.std.specs.Prelude.{◌≡◌, ◌≤◌, length, List, ℕ, IfSome, option_map};
+ghost use Rattle.kan_base.specs.Spots.{spot};
+ghost use Rattle.command_line.specs.Asked.{line_seen};
+ghost use Rattle.command_line.specs.Lines.{IsInRange, texts};
+ghost use Rattle.command_line.specs.Seen.{text_of};
+ghost use Rattle.rel_library.specs.Loads.{greatest_load, load};
 ghost use Rattle.kan_terms.specs.Table.{no_names};
 ghost use Rattle.kanren_run.specs.Answers.{IsRefused};
+ghost use Rattle.kanren_run.specs.Commands as commands;
+ghost use Rattle.kanren_run.specs.Headline.{TextsMean};
+ghost use Rattle.kanren_run.specs.Origins as origins;
+ghost use Rattle.kanren_run.specs.Origins.{origin_of, spot_of};
+ghost use Rattle.kanren_run.specs.Outcomes.{IsFaithful, IsFaithfulAt, WritesReply};
 ghost use Rattle.kanren_run.specs.Replies.{HasRuns};
+ghost use Rattle.kanren_run.specs.Settings as settings;
 ghost use Rattle.kanren_run.specs.Settings.{InRange};
 ghost use Rattle.kanren_run.specs.Writing.{CanRun};
 
@@ -17,8 +22,182 @@ use crate::refusal::{Fault, fault_line};
 use crate::settings::Settings;
 use crate::text::{NotRun, compile_text};
 use crate::writing::{Stop, write_runs};
+use command_line::{Line, read_line};
 use goal_syntax::Compiled;
 use kan_base::{Place, Sink, Source, Status, TextStop, put_all, take_text};
 use kan_plain::PlainStore;
-use kan_terms::Names;
+use kan_terms::{Memory, Names};
+use rel_library::make_load;
 use std::alloc::Global;
+
+/// Gets the text that the words ask for, runs it, and writes its output.
+///
+/// The words are those after the program's name: options and at most one name of a file. The answers
+/// of a run come in the order of its stream, each a line, and behind them the run's summary line;
+/// they are written as they are found. A text that is refused gives one line that says so.
+pub fn kanren_alone<S: Source, K: Sink>(
+    alloc: Global,
+    words: &[&str],
+    source: &mut S,
+    sink: &mut K,
+) -> Status
+    // Its outcome, when it is Usage, how many calls of its ends failed, and that it is complete.
+    ensures faithful { IsFaithful (record {
+      words = texts words.now;
+      ends = record {
+        source = S.view source.old;
+        source_after = S.view source.new;
+        sink = K.view sink.old;
+        sink_after = K.view sink.new;
+      };
+      status = result;
+    }) }
+    // What the answers mean that are written for an accepted text.
+    ensures means { TextsMean (commands.line_alone (texts words.now)) }
+{
+    match line_alone(words) {
+        Some(line) => answer_line(alloc, line, source, sink),
+        None => Status::Usage,
+    }
+}
+
+// The line of the command that words are, where they are one that asks for no workers.
+fn line_alone<'a>(words: &[&'a str]) -> Option<Line<'a>>
+    ensures is { option_map line_seen result ≡ commands.line_alone (texts words.now) }
+    ensures range { IfSome result (λ line. IsInRange (line_seen line)) }
+{
+    let line = read_line(words)?;
+    if line.workers == 0 { Some(line) } else { None }
+}
+
+// The place of a file's name, where none is standard input.
+fn place_of(file: Option<&str>) -> Place<'_>
+    ensures { spot result ≡ spot_of (text_of file.entry) }
+{
+    match file {
+        Some(name) => Place::File(name),
+        None => Place::Input,
+    }
+}
+
+// What a line asks for of the answering of its text.
+fn settings_of(line: Line<'_>) -> Settings
+    ensures { result ≡ settings.settings_of (line_seen line) }
+{
+    Settings {
+        library: line.library,
+        dialect: line.dialect,
+        fuel: u64::from(line.fuel),
+        round: line.round,
+    }
+}
+
+// Answers the text that a line asks for.
+fn answer_line<S: Source, K: Sink>(
+    alloc: Global,
+    line: Line<'_>,
+    source: &mut S,
+    sink: &mut K,
+) -> Status
+    requires { IsInRange (line_seen line) }
+    ensures { IsFaithfulAt (origin_of (line_seen line)) (settings.settings_of (line_seen line))
+        (record {
+          source = S.view source.old;
+          source_after = S.view source.new;
+          sink = K.view sink.old;
+          sink_after = K.view sink.new;
+        }) result }
+{
+    let settings = settings_of(line);
+    match line.load {
+        Some(number) => answer_load(alloc, number, settings, sink),
+        None => answer_place(alloc, place_of(line.file), settings, source, sink),
+    }
+}
+
+// Answers the text at a place of the source.
+fn answer_place<S: Source, K: Sink>(
+    alloc: Global,
+    place: Place<'_>,
+    settings: Settings,
+    source: &mut S,
+    sink: &mut K,
+) -> Status
+    requires { InRange settings }
+    ensures { IsFaithfulAt (origins.Origin.opened (spot place.entry)) settings (record {
+      source = S.view source.old;
+      source_after = S.view source.new;
+      sink = K.view sink.old;
+      sink_after = K.view sink.new;
+    }) result }
+{
+    match take_text(alloc, source, place) {
+        Ok(text) => answer_text(alloc, settings, &text, sink),
+        Err(TextStop::Fault) => Status::ReadFault,
+        Err(TextStop::TooLong) => Status::TooLong,
+        Err(TextStop::Memory) => Status::Memory,
+    }
+}
+
+// Answers a generated load.
+fn answer_load<K: Sink>(alloc: Global, number: u32, settings: Settings, sink: &mut K) -> Status
+    requires range { InRange settings }
+    requires number { number ≤ greatest_load }
+    ensures { WritesReply settings (load number) (K.view sink.old) (K.view sink.new) result }
+{
+    match make_load(alloc, number) {
+        Ok(text) => answer_text(alloc, settings, &text, sink),
+        Err(Memory) => Status::Memory,
+    }
+}
+
+// Writes what a text that was got whole is answered with.
+fn answer_text<K: Sink>(alloc: Global, settings: Settings, text: &[u8], sink: &mut K) -> Status
+    requires short { length text.now ≤ 1048576 }
+    requires range { InRange settings }
+    ensures { WritesReply settings text.now (K.view sink.old) (K.view sink.new) result }
+{
+    let mut names = Names::new(alloc);
+    match compile_text(alloc, settings, text, &mut names) {
+        Ok(compiled) => answer_runs(alloc, settings, &compiled, &names, sink),
+        Err(NotRun::Fault(fault)) => refuse(alloc, fault, sink),
+        Err(NotRun::Memory) => Status::Memory,
+    }
+}
+
+// Writes the runs of a text.
+fn answer_runs<K: Sink>(
+    alloc: Global,
+    settings: Settings,
+    compiled: &Compiled,
+    names: &Names,
+    sink: &mut K,
+) -> Status
+    requires range { InRange settings }
+    requires can_run { CanRun names.now compiled.now.program compiled.now.queries }
+    ensures { (text : List ℕ)
+        → HasRuns settings text names.now compiled.now.program compiled.now.queries
+        → WritesReply settings text (K.view sink.old) (K.view sink.new) result }
+{
+    let Compiled { program, queries } = compiled;
+    match write_runs::<K, PlainStore>(alloc, program, queries.items(), settings, names, sink) {
+        Ok(false) => Status::Done,
+        Ok(true) => Status::Fuel,
+        Err(Stop::Fault) => Status::WriteFault,
+        Err(Stop::Memory) => Status::Memory,
+    }
+}
+
+// Writes the line of a fault.
+fn refuse<K: Sink>(alloc: Global, fault: Fault, sink: &mut K) -> Status
+    ensures { (s : settings.Answering) (text : List ℕ) → IsRefused s text fault.at fault.number
+        → WritesReply s text (K.view sink.old) (K.view sink.new) result }
+{
+    let Ok(line) = fault_line(alloc, fault) else {
+        return Status::Memory;
+    };
+    match put_all(sink, line.as_bytes()) {
+        Ok(()) => Status::Text(fault.at, fault.number),
+        Err(_) => Status::WriteFault,
+    }
+}
