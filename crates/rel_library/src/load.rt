@@ -36,7 +36,10 @@ fn load_text(alloc: Global, number: u32) -> Result<String, Memory>
 {
     let list = numbers_below(alloc, number)?;
     let mut text = String::new(alloc);
-    writeln!(text, "(run* q (fresh (x y) (appendo x y '({list})) (membero 'none x)))")?;
+    writeln!(
+        text,
+        "(run* q (fresh (x y) (appendo x y '({list})) (membero 'none x)))"
+    )?;
     text.push_str("(run 4 q (conde ((alwayso) (== q 'a)) ((alwayso) (== q 'b))))\n")?;
     Ok(text)
 }
