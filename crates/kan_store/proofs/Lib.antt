@@ -11,3 +11,4 @@ pub mod StepLaws
 pub mod Observing
 pub mod Listing
 pub mod SolvedLaws
+pub mod ResolvingLaws

@@ -1,6 +1,7 @@
 //! The solved store.
 
-ghost use Rattle.std.specs.Prelude.{◌≡◌, ◌^◌, ◌≤◌, ◌+◌, ◌++◌, ◌∷◌, [], true, map, IfOk, IsTrue};
+ghost use Rattle.std.specs.Prelude.{◌≡◌, ◌^◌, ◌≤◌, ◌+◌, ◌++◌, ◌∷◌, [], true, map, IfOk, IsTrue, OnOk};
+ghost use Rattle.std.specs.Option.{option_to_list};
 ghost use Rattle.std.specs.Arc.{arc_value};
 ghost use Rattle.kan_model.specs.Programs.Scope.{is_counted};
 ghost use Rattle.kan_model.specs.Stores.Kept.{is_kept};
@@ -75,6 +76,19 @@ fn owned<B: Bindings>(held: Arc<Held<B>>) -> Result<Held<B>, Memory>
     }
 }
 
+// Adds what was found, if anything was, at the end of a list.
+fn keep_found(left: &mut PairLists, found: Option<TermPairs>) -> Result<(), Memory>
+    ensures { OnOk result (left.new ≡ left.old ++ option_to_list found) }
+{
+    match found {
+        None => Ok(()),
+        Some(pairs) => match left.push(pairs) {
+            Ok(()) => Ok(()),
+            Err(_) => Err(Memory),
+        },
+    }
+}
+
 // Of disequalities those whose sides may still become equal, each solved anew.
 fn still_open<B: Bindings>(
     alloc: Global,
@@ -87,11 +101,8 @@ fn still_open<B: Bindings>(
 {
     let mut left = ListOf::new(alloc);
     for pairs in lists {
-        if let Some(added) = would_add(alloc, pairs.items(), bindings)? {
-            if left.push(added).is_err() {
-                return Err(Memory);
-            }
-        }
+        let found = would_add(alloc, pairs.items(), bindings)?;
+        keep_found(&mut left, found)?;
     }
     Ok(left)
 }
