@@ -12,3 +12,4 @@ pub mod Observing
 pub mod Listing
 pub mod SolvedLaws
 pub mod ResolvingLaws
+pub mod StoreLaws
