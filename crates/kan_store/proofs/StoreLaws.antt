@@ -68,6 +68,16 @@ counted_more n k (p ∷ ps) e =
 pub fresh_counted : (st now : Store) (k : ℕ) → now.prims ≡ st.prims → now.counter ≡ st.counter + k → list_all (sides_below st.counter) st.prims ≡ true → list_all (sides_below now.counter) now.prims ≡ true
 fresh_counted st now k prims counter low = ap₂ (λ ps n. list_all (sides_below n) ps) prims counter ∙ counted_more st.counter k st.prims low
 
+-- one primitive more, whose variables lie below the counter
+all_longer : (n : ℕ) (ps : List (Primitive Tm)) (p : Primitive Tm) → list_all (sides_below n) ps ≡ true → sides_below n p ≡ true → list_all (sides_below n) (ps ++ p ∷ []) ≡ true
+all_longer n [] p low last = and_from (sides_below n p) true last refl
+all_longer n (q ∷ ps) p low last =
+    let (first, rest) = and_parts (sides_below n q) (list_all (sides_below n) ps) low in and_from (sides_below n q) (list_all (sides_below n) (ps ++ p ∷ [])) first (all_longer n ps p rest last)
+
+pub longer_counted : (st now : Store) (p : Primitive Tm) → now.prims ≡ st.prims ++ p ∷ [] → now.counter ≡ st.counter → list_all (sides_below st.counter) st.prims ≡ true → sides_below st.counter p ≡ true →
+    list_all (sides_below now.counter) now.prims ≡ true
+longer_counted st now p prims counter low last = ap₂ (λ ps n. list_all (sides_below n) ps) prims counter ∙ all_longer st.counter st.prims p low last
+
 -- one primitive more
 adding_makes : (old : Parts) (st : Store) → AreInStep old st → (p : Primitive Tm) (r : Option Parts) → Adding old p r → Makes (with_prim st p) r
 adding_makes old st step (Primitive.same a b) r d = equated_makes bringing_goes_on old st step a b r d
