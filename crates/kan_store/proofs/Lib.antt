@@ -11,3 +11,5 @@ pub mod StepLaws
 pub mod Observing
 pub mod Listing
 pub mod SolvedLaws
+pub mod ResolvingLaws
+pub mod StoreLaws

@@ -1,8 +1,14 @@
--- What the parts of the code stand for.
+-- What the code's store stands for.
+use Rattle.kan_model.specs.Stores.Store.{Store}
 use Rattle.unify_core.specs.Walking.{Pairs}
 use Rattle.type_absence.specs.Seen.{types, tags}
 use Rattle.kan_store.specs.Parts.{Parts}
 use Rattle.kan_store.specs.declared.solved.Solved.{Solved}
+use Rattle.kan_store.specs.declared.store.Held.{Held}
 
 abbrev pub parts_of : {B : Type 0} → (B → Pairs) → Solved B → Parts
 parts_of pairs solved = record { bound = pairs solved.bindings; types = types solved.kinds; tags = tags solved.absences; lists = solved.diseqs }
+
+-- the primitives that were asserted, and the counter
+abbrev pub store_of : {B : Type 0} → Held B → Store
+store_of held = record { prims = held.history.prims; counter = held.counter }

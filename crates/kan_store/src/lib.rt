@@ -5,6 +5,8 @@
 mod history;
 mod moving;
 mod solved;
+mod store;
 
 pub use history::{History, Tells};
 pub use solved::{Solved, add, copied, unsolved};
+pub use store::{Held, SolvedStore};

@@ -1,0 +1,10 @@
+use Rattle.std.proofs.Common.{◌∙◌}
+use Rattle.std.specs.Arc.{arc_value}
+use Rattle.kan_store.specs.Held.{parts_of, store_of}
+use Rattle.kan_store.proofs.Observing.{kind_known}
+use Rattle.kan_store.proofs.StoreLaws.{shown_known}
+use Rattle.kan_store.proofs.store.SolvedStoreStore.kind.Goals as goal
+
+pub returns : goal.returns
+returns g c = c.of.ensures ∙ kind_known (parts_of g.B.Bindings.pairs c.deref.result.now.solved) (store_of (arc_value c.args.self.now.held))
+    (shown_known g.B.Bindings.pairs c.deref.result.now (arc_value c.args.self.now.held) c.deref.ensures c.args.self.now.in_step) c.args.var c.requires

@@ -1,0 +1,227 @@
+//! The solved store.
+
+ghost use Rattle.std.specs.Prelude.{◌≡◌, ◌^◌, ◌≤◌, ◌+◌, ◌++◌, ◌∷◌, [], true, map, IfOk, IsTrue, OnOk};
+ghost use Rattle.std.specs.Option.{option_to_list};
+ghost use Rattle.std.specs.Arc.{arc_value};
+ghost use Rattle.kan_model.specs.Programs.Scope.{is_counted};
+ghost use Rattle.kan_model.specs.Stores.Kept.{is_kept};
+ghost use Rattle.kan_model.specs.Stores.Prims.{equation};
+ghost use Rattle.unify_core.specs.Cycles.{HasNoCycle};
+ghost use Rattle.kan_model.specs.Stores.Prims.{prim as primitive};
+ghost use Rattle.kan_store.specs.Parts.{AreInStep, Resolved, SameParts};
+ghost use Rattle.kan_store.specs.Held.{parts_of, store_of};
+
+use crate::history::{History, Tells};
+use crate::solved::{Solved, add, copied, unsolved};
+use kan_model::{Kind, Prim as Asserted, Store};
+use kan_terms::{Bindings, ListOf, Memory, PairLists, Tags, Term, TermPairs};
+use std::alloc::Global;
+use std::sync::Arc;
+use unify_core::{walk, would_add};
+
+/// What a store holds. What was asserted takes no memory.
+#[derive(Drop)]
+pub struct Held<B> {
+    solved: Solved<B>,
+    counter: u64,
+    history: History,
+}
+
+/// A store that keeps its constraints solved, behind one pointer.
+#[derive(Drop)]
+pub struct SolvedStore<B: Bindings> {
+    held: Arc<Held<B>>,
+    ghost kept: { IsTrue (is_kept (store_of (arc_value held))) },
+    ghost counted: { IsTrue (is_counted (store_of (arc_value held))) },
+    ghost bounded: { (arc_value held).counter ≤ 2 ^ 63 },
+    ghost in_step: { ∥ AreInStep (parts_of B.pairs (arc_value held).solved) (store_of (arc_value held)) ∥₁ },
+}
+
+// The primitives of a store with a primitive more.
+#[derive(Drop)]
+struct Longer<'a> {
+    older: &'a History,
+    prim: &'a Asserted,
+}
+
+// A primitive behind the older ones.
+struct Behind;
+
+impl<'a> Tells<Longer<'a>> for Behind {
+    ghost prims = { λ longer. longer.older.now.prims ++ primitive longer.prim.now ∷ [] };
+}
+
+// What is held once more, with a counter.
+fn copied_with<B: Bindings>(held: &Held<B>, counter: u64) -> Result<Held<B>, Memory>
+    ensures same { IfOk result (λ copy. SameParts (parts_of B.pairs held.now.solved) (parts_of B.pairs copy.solved)) }
+    ensures prims { IfOk result (λ copy. copy.history.prims ≡ held.now.history.prims) }
+    ensures counter { IfOk result (λ copy. copy.counter ≡ counter) }
+{
+    Ok(Held {
+        solved: copied(&held.solved)?,
+        counter,
+        history: held.history.again(),
+    })
+}
+
+// What a pointer holds: itself where nobody else has the pointer, and else a copy.
+fn owned<B: Bindings>(held: Arc<Held<B>>) -> Result<Held<B>, Memory>
+    ensures same { IfOk result (λ own. SameParts (parts_of B.pairs (arc_value held).solved) (parts_of B.pairs own.solved)) }
+    ensures prims { IfOk result (λ own. own.history.prims ≡ (arc_value held).history.prims) }
+    ensures counter { IfOk result (λ own. own.counter ≡ (arc_value held).counter) }
+{
+    match Arc::try_unwrap(held) {
+        Ok(own) => Ok(own),
+        Err(shared) => copied_with(&*shared, shared.counter),
+    }
+}
+
+// Adds what was found, if anything was, at the end of a list.
+fn keep_found(left: &mut PairLists, found: Option<TermPairs>) -> Result<(), Memory>
+    ensures { OnOk result (left.new ≡ left.old ++ option_to_list found) }
+{
+    match found {
+        None => Ok(()),
+        Some(pairs) => match left.push(pairs) {
+            Ok(()) => Ok(()),
+            Err(_) => Err(Memory),
+        },
+    }
+}
+
+// Of disequalities those whose sides may still become equal, each solved anew.
+fn still_open<B: Bindings>(
+    alloc: Global,
+    lists: &[TermPairs],
+    bindings: &B,
+) -> Result<PairLists, Memory>
+    requires { HasNoCycle (B.pairs bindings.now) }
+    ensures { IfOk result (λ left. Resolved (B.pairs bindings.now) (map (map equation) lists.now)
+        (map (map equation) left)) }
+{
+    let mut left = ListOf::new(alloc);
+    for pairs in lists {
+        let found = would_add(alloc, pairs.items(), bindings)?;
+        keep_found(&mut left, found)?;
+    }
+    Ok(left)
+}
+
+impl<B: Bindings> SolvedStore<B> {
+    // The store that holds this.
+    fn of(alloc: Global, held: Held<B>) -> Result<SolvedStore<B>, Memory>
+        requires kept { is_kept (store_of held) ≡ true }
+        requires counted { is_counted (store_of held) ≡ true }
+        requires bounded { held.counter ≤ 2 ^ 63 }
+        requires in_step { ∥ AreInStep (parts_of B.pairs held.solved) (store_of held) ∥₁ }
+        ensures { IfOk result (λ made. store_of (arc_value made.held) ≡ store_of held) }
+    {
+        Ok(SolvedStore {
+            held: Arc::new(alloc, held)?,
+        })
+    }
+}
+
+impl<B: Bindings> Store for SolvedStore<B> {
+    ghost use Rattle.std.specs.Arc.{arc_value};
+    ghost use Rattle.kan_store.specs.Held.{store_of};
+
+    ghost meaning = { λ store. store_of (arc_value store.held) };
+
+    ghost kept = { λ store. store.kept };
+
+    ghost counted = { λ store. store.counted };
+
+    ghost bounded = { λ store. store.bounded };
+
+    fn empty(alloc: Global) -> Result<SolvedStore<B>, Memory> {
+        SolvedStore::of(
+            alloc,
+            Held {
+                solved: unsolved(alloc)?,
+                counter: 0,
+                history: History::empty(),
+            },
+        )
+    }
+
+    fn counter(&self) -> u64 {
+        self.held.counter
+    }
+
+    fn fresh(&self, alloc: Global, count: u32) -> Result<SolvedStore<B>, Memory> {
+        let counter = self.held.counter + u64::from(count);
+        SolvedStore::of(alloc, copied_with(&*self.held, counter)?)
+    }
+
+    fn fresh_owned(self, alloc: Global, count: u32) -> Result<SolvedStore<B>, Memory> {
+        let Held {
+            solved,
+            counter,
+            history,
+        } = owned(self.held)?;
+        let counter = counter + u64::from(count);
+        SolvedStore::of(
+            alloc,
+            Held {
+                solved,
+                counter,
+                history,
+            },
+        )
+    }
+
+    fn assert(&self, alloc: Global, prim: &Asserted) -> Result<Option<SolvedStore<B>>, Memory> {
+        self.again(alloc)?.assert_owned(alloc, prim)
+    }
+
+    fn assert_owned(
+        self,
+        alloc: Global,
+        prim: &Asserted,
+    ) -> Result<Option<SolvedStore<B>>, Memory> {
+        let Held {
+            solved,
+            counter,
+            history,
+        } = owned(self.held)?;
+        let history = History::of::<Longer, Behind>(&Longer {
+            older: &history,
+            prim,
+        });
+        let Some(solved) = add(alloc, solved, prim)? else {
+            return Ok(None);
+        };
+        Ok(Some(SolvedStore::of(
+            alloc,
+            Held {
+                solved,
+                counter,
+                history,
+            },
+        )?))
+    }
+
+    fn again(&self, _alloc: Global) -> Result<SolvedStore<B>, Memory> {
+        Ok(SolvedStore {
+            held: Arc::try_clone(&self.held)?,
+        })
+    }
+
+    fn walk<'a>(&'a self, term: &'a Term) -> &'a Term {
+        walk(term, &self.held.solved.bindings)
+    }
+
+    fn kind(&self, var: u64) -> Option<Kind> {
+        self.held.solved.kinds.of(var)
+    }
+
+    fn tags(&self, alloc: Global, var: u64) -> Result<Tags, Memory> {
+        self.held.solved.absences.of(alloc, var)
+    }
+
+    fn differences(&self, alloc: Global) -> Result<PairLists, Memory> {
+        let lists = self.held.solved.diseqs.listed(alloc)?;
+        still_open(alloc, lists.items(), &self.held.solved.bindings)
+    }
+}
