@@ -3,7 +3,7 @@
 ghost use Rattle.std.specs.Prelude.{◌≡◌, ◌+◌, ◌<◌, ◌≤◌, ◌^◌, length, List, ℕ, [], true, Ok};
 ghost use Rattle.std.specs.Prelude.{IfOk, OnOk};
 ghost use Rattle.kan_terms.specs.Table.{no_names};
-ghost use Rattle.kan_grammar.specs.Texts.TextNames.{with_prefixes, with_text_names};
+ghost use Rattle.kan_grammar.specs.Texts.TextNames.{Extends, with_prefixes};
 ghost use Rattle.goal_syntax.specs.Compiling.Compiles.{AreOfText, IsAcceptedAlone};
 ghost use Rattle.kanren_run.specs.Replies.{ComesTo, LibraryRead, TextRead};
 
@@ -28,15 +28,16 @@ pub(crate) enum NotRun {
 // Reads the library, where it is asked for. It has no fault.
 fn library_data(alloc: Global, library: bool, names: &mut Names) -> Result<Data, NotRun>
     requires empty { names.old ≡ no_names }
-    ensures { IfOk result (λ data. LibraryRead library names.new data.items) }
-    ensures few { OnOk result (length names.new.symbols ≤ 1048576 × (length names.new.strings ≤ 1048576)) }
+    ensures read { IfOk result (λ data. LibraryRead library names.new data) }
+    ensures few { OnOk result (Extends 1048576 names.old names.new) }
 {
     if !library {
-        return Ok(Vec::new(alloc));
+        return Ok(Data::new(alloc));
     }
     match read(alloc, library_text().as_bytes(), names) {
         Ok(data) => Ok(data),
-        Err(_) => Err(NotRun::Memory),
+        Err(ReadError::Fault(_, _)) => unreachable!(),
+        Err(ReadError::Memory) => Err(NotRun::Memory),
     }
 }
 

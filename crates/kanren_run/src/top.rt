@@ -25,7 +25,8 @@ use crate::writing::{Stop, write_runs};
 use command_line::{Line, read_line};
 use goal_syntax::Compiled;
 use kan_base::{Place, Sink, Source, Status, TextStop, put_all, take_text};
-use kan_plain::PlainStore;
+use kan_store::SolvedStore;
+use kan_subst::TreeBindings;
 use kan_terms::{Memory, Names};
 use rel_library::make_load;
 use std::alloc::Global;
@@ -180,7 +181,7 @@ fn answer_runs<K: Sink>(
         → WritesReply settings text (K.view sink.old) (K.view sink.new) result }
 {
     let Compiled { program, queries } = compiled;
-    match write_runs::<K, PlainStore>(alloc, program, queries.items(), settings, names, sink) {
+    match write_runs::<K, SolvedStore<TreeBindings>>(alloc, program, queries.items(), settings, names, sink) {
         Ok(false) => Status::Done,
         Ok(true) => Status::Fuel,
         Err(Stop::Fault) => Status::WriteFault,
