@@ -1,0 +1,172 @@
+//! Derivations of the only run of a text.
+
+ghost use Rattle.std.specs.Prelude.{◌≡◌, ◌≤◌, length};
+ghost use Rattle.kan_terms.specs.Table.{no_names};
+
+use crate::spelled::{derivation, values};
+use goal_syntax::{Compiled, compile};
+use ground_meaning::check;
+use kan_grammar::Dialect;
+use kan_terms::Names;
+use sexpr::read;
+use std::alloc::Global;
+use std::process::Abort;
+use std::test::Fail;
+
+// The program and the runs of a text.
+fn compiled(
+    alloc: Global,
+    text: &str,
+    names: &mut Names,
+    dialect: Dialect,
+) -> Result<Compiled, Fail>
+    requires short { length text.now ≤ 1048576 }
+    requires empty { names.old ≡ no_names }
+{
+    let Ok(data) = read(alloc, text.as_bytes(), names) else {
+        return Err(Fail::from("data with a fault"));
+    };
+    if data.len() >= 1_048_577 {
+        return Err(Fail::from("too many data"));
+    }
+    match compile(alloc, &[], data.as_slice(), names, dialect) {
+        Ok(compiled) => Ok(compiled),
+        Err(_) => Err(Fail::from("a text with a fault")),
+    }
+}
+
+// Whether steps spell a derivation of the only run at a term.
+fn is_derived(
+    alloc: Global,
+    made: &Compiled,
+    names: &Names,
+    term: &str,
+    steps: &str,
+) -> Result<bool, Fail> {
+    let query = made.queries.get(0).ok_or("no run")?;
+    let values = values(alloc, term, names)?;
+    let derivation = derivation(alloc, steps, names)?;
+    let shown = check(alloc, &made.program, query.goal, &values, &derivation)?;
+    Ok(shown)
+}
+
+// A term, steps, and whether they spell a derivation at it.
+#[derive(Clone, Copy)]
+struct Case {
+    term: &'static str,
+    steps: &'static str,
+    shown: bool,
+}
+
+const fn case(term: &'static str, steps: &'static str, shown: bool) -> Case {
+    Case { term, steps, shown }
+}
+
+// Demands it of each case.
+fn expect(
+    rt: &(impl Abort + Alloc<A = Global>),
+    dialect: Dialect,
+    text: &str,
+    cases: &[Case],
+) -> Result<(), Fail>
+    requires { length text.now ≤ 1048576 }
+{
+    let mut names = Names::new(rt.alloc());
+    let made = compiled(rt.alloc(), text, &mut names, dialect)?;
+    for case in cases {
+        let shown = is_derived(rt.alloc(), &made, &names, case.term, case.steps)?;
+        assert_eq!(rt; shown, case.shown);
+    }
+    Ok(())
+}
+
+#[test]
+fn a_primitive_holds_or_not(rt: HostRuntime) -> Result<(), Fail> {
+    let cases = [
+        case("a", "holds", true),
+        case("b", "holds", false),
+        case("a", "enter", false),
+        case("a", "holds;holds", false),
+        case("a", "both;holds;holds", false),
+        case("a", "choose", false),
+    ];
+    expect(&rt, Dialect::Book, "(run* q (== q 'a) ) (run* q (== q 'b))", &cases)
+}
+
+#[test]
+fn both_goals_hold(rt: HostRuntime) -> Result<(), Fail> {
+    let cases = [
+        case("a", "both;holds;holds", true),
+        case("b", "both;holds;holds", false),
+        case("1", "both;holds;holds", false),
+        case("a", "both;holds", false),
+        case("a", "holds;holds", false),
+        case("a", "both;holds;holds;holds", false),
+    ];
+    expect(&rt, Dialect::Book, "(run* q (symbolo q) (=/= q 'b)) (run* q (== q 'a))", &cases)
+}
+
+#[test]
+fn one_goal_holds(rt: HostRuntime) -> Result<(), Fail> {
+    let cases = [
+        case("a", "left;holds", true),
+        case("a", "right;holds", false),
+        case("b", "right;left;holds", true),
+        case("b", "left;holds", false),
+        case("b", "right;right;holds", false),
+        case("1", "right;right;holds", true),
+        case("1", "right;holds", false),
+    ];
+    let text = "(run* q (conde ((== q 'a)) ((== q 'b)) ((numbero q))))";
+    expect(&rt, Dialect::Book, text, &cases)
+}
+
+#[test]
+fn new_slots_get_values(rt: HostRuntime) -> Result<(), Fail> {
+    let cases = [
+        case(". a . b -", "a,b;both;holds;holds", true),
+        case(". a . b -", "b,a;both;holds;holds", false),
+        case(". a . b -", "a;both;holds;holds", false),
+        case(". a . b -", "a,b,a;both;holds;holds", false),
+        case(". a . b -", "choose;both;holds;holds", false),
+        case(". a . b -", "both;holds;holds", false),
+        case(". a . a -", "a,a;both;holds;holds", false),
+    ];
+    let text = "(run* q (fresh (x y) (== q (list x y)) (=/= x y))) (run* q (== q '(a b)))";
+    expect(&rt, Dialect::Book, text, &cases)
+}
+
+#[test]
+fn a_relation_holds_where_its_body_does(rt: HostRuntime) -> Result<(), Fail> {
+    let cases = [
+        case("a", "enter;both;holds;holds", true),
+        case("a", "both;holds;holds", false),
+        case("1", "enter;both;holds;holds", false),
+        case("a", "enter;enter;both;holds;holds", false),
+    ];
+    let text = "(defrel (p x y) (symbolo x) (numbero y)) (run* q (p q 1)) (run* q (== q 'a))";
+    expect(&rt, Dialect::Book, text, &cases)
+}
+
+#[test]
+fn pauses_are_entered(rt: HostRuntime) -> Result<(), Fail> {
+    let cases = [
+        case("a", "enter;left;holds", true),
+        case("a", "left;holds", false),
+        case("a", "enter;enter;left;holds", false),
+        case("b", "enter;right;holds", true),
+    ];
+    expect(&rt, Dialect::All, "(run* q (conde ((== q 'a)) ((== q 'b))))", &cases)
+}
+
+#[test]
+fn constraints_hold_of_values(rt: HostRuntime) -> Result<(), Fail> {
+    let cases = [
+        case(". b . 1 -", "both;holds;holds", true),
+        case(". b . a -", "both;holds;holds", false),
+        case(". a -", "both;holds;holds", false),
+        case(". b . b -", "both;holds;holds", false),
+        case("2", "both;holds;holds", true),
+    ];
+    expect(&rt, Dialect::Book, "(run* q (absento 'a q) (=/= q '(b b)))", &cases)
+}
