@@ -2,3 +2,8 @@ pub mod NumberLaws
 pub mod SpellingLaws
 pub mod ReadingLaws
 mod CommandRows
+pub mod ClapRules
+pub mod ClapWords
+pub mod ClapRows
+pub mod ClapWalk
+pub mod ClapSteps

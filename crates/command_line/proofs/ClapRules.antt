@@ -1,0 +1,47 @@
+-- The command as clap sees it.
+use Rattle.std.proofs.Common.{◌≡◌, ℕ, Bool, true, false, List, [], ◌∷◌, ◌++◌, Option, Some, None, codes, refl}
+use Rattle.clap.specs.Walk.{Rule, Names, Held, Walk, Row, Waiting, idle, option, walked}
+use Rattle.clap.specs.Simple.{App, Shape, built, names_of, new_app, new_rule, with_rule, is_simple}
+use Rattle.clap.specs.Faults.{is_simple_and_free, turn_fault, settle_fault}
+use Rattle.clap.specs.declared.builder.action.ArgAction.TheVariants.{Set, SetTrue}
+use Rattle.command_line.specs.Parts.{Text}
+use Rattle.command_line.specs.declared.settings.Setting.{Setting}
+use Rattle.command_line.specs.declared.settings.Setting.TheVariants.{Workers, Fuel, Ahead, Round, Dialect, Gen}
+
+-- an option with a value, the option for the library, and the file, as they are declared
+abbrev pub option_rule : Text → Rule
+option_rule name = record (new_rule name) { long = Some name; action = Some Set }
+
+abbrev pub library_rule : Rule
+library_rule = record (new_rule (codes "lib")) { long = Some (codes "lib"); action = Some SetTrue }
+
+abbrev pub file_rule : Rule
+file_rule = record (new_rule (codes "file")) { action = Some Set }
+
+abbrev pub bare_app : App
+bare_app = record (new_app (codes "kanren")) { top = record (new_app (codes "kanren")).top { no_binary_name = true; disable_help_flag = true } }
+
+abbrev pub app : App
+app = with_rule (with_rule (with_rule (with_rule (with_rule (with_rule (with_rule (with_rule bare_app
+    (option_rule (codes "workers"))) (option_rule (codes "fuel"))) (option_rule (codes "ahead"))) (option_rule (codes "round")))
+    (option_rule (codes "dialect"))) (option_rule (codes "gen"))) library_rule) file_rule
+
+pub is_exact : is_simple_and_free app ≡ true
+is_exact = refl
+
+abbrev pub shape : Shape
+shape = (built app).top
+
+pub no_subcommands : names_of (built app) ≡ []
+no_subcommands = refl
+
+abbrev pub rules : List Rule
+rules = shape.rules
+
+abbrev pub name_of : Setting → Text
+name_of Workers = codes "workers"
+name_of Fuel = codes "fuel"
+name_of Ahead = codes "ahead"
+name_of Round = codes "round"
+name_of Dialect = codes "dialect"
+name_of Gen = codes "gen"

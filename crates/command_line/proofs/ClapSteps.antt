@@ -1,0 +1,86 @@
+-- What clap's walk makes of one word more.
+use Rattle.std.proofs.Common.{◌≡◌, ◌∙◌, ◌||◌, ◌&&◌, true≢false, ℕ, Bool, cond, true, false, not, List, [], ◌∷◌, ◌++◌, Option, Some, None, codes, refl, sym, ap}
+use Rattle.std.specs.Prelude.{bytes_eq, slice_get, option_and_then, is_some, find, length, ◌==◌}
+use Rattle.std.specs.Str.{chars}
+use Rattle.clap.specs.Lexer.{long_of, short_of}
+use Rattle.clap.specs.Walk.{Row, Rule, Held, Walk, Waiting, idle, option, walked, has_row, settled_rows, settled, arg_by_long, arg_by_id, reading_by, bundle_met, is_pending}
+use Rattle.clap.specs.Faults.{turn_fault, settle_fault, use_fault, flags_fault}
+use Rattle.clap.specs.declared.builder.value_parser.Reading.{Reading}
+use Rattle.command_line.specs.Parts.{Text, Part, setting, library, file, setting_named, names_library}
+use Rattle.command_line.specs.Lines.{Given}
+use Rattle.command_line.specs.declared.settings.Setting.{Setting}
+use Rattle.command_line.proofs.ClapRules.{name_of, rules, shape}
+use Rattle.command_line.proofs.ClapRows.{one_row, given_in, used_once, id_of, value_of}
+use Rattle.command_line.proofs.ClapWalk.{built_option, built_library, built_file, by_name, long_found, id_found, held_at, walk_at, unless, outcome}
+
+abbrev pub option_reading : Reading
+option_reading = reading_by (built_option [])
+
+-- what is held is as good as these rows
+module _ (rows0 : List Row) (p : Option (Text × List Text)) (rows : List Row) (clean : settle_fault rules false (held_at rows0 p) ≡ []) (settles : settled_rows rules p rows0 ≡ rows) (pos : ℕ) (x : Text) (xs : List Text) where
+  abbrev start : Walk
+  start = walk_at rows0 p idle pos false
+
+  pub end_step : bytes_eq x (45 ∷ 45 ∷ []) ≡ true → outcome start (x ∷ xs) ≡ outcome (walk_at rows0 p idle pos true) xs
+  unfolding walked outcome
+  end_step two = rw two refl
+
+  pub value_step : (s : Setting) (n v : Text) → bytes_eq x (45 ∷ 45 ∷ []) ≡ false → long_of x ≡ Some (n, Some v) → setting_named n ≡ Some s → has_row (name_of s) rows ≡ false
+      → outcome start (x ∷ xs) ≡ outcome (walk_at (rows ++ one_row option_reading (name_of s) v ∷ []) None idle pos false) xs
+  unfolding walked outcome
+  value_step s n v two long name none = rw (two, long, long_found n, name, clean, settles, none, used_once (name_of s) option_reading v rows none) refl
+
+  pub value_again : (s : Setting) (n v : Text) → bytes_eq x (45 ∷ 45 ∷ []) ≡ false → long_of x ≡ Some (n, Some v) → setting_named n ≡ Some s → has_row (name_of s) rows ≡ true → outcome start (x ∷ xs) ≡ None
+  unfolding walked outcome
+  value_again s n v two long name there = rw (two, long, long_found n, name, clean, settles, there) refl
+
+  pub await_step : (s : Setting) (n : Text) → bytes_eq x (45 ∷ 45 ∷ []) ≡ false → long_of x ≡ Some (n, None) → setting_named n ≡ Some s
+      → outcome start (x ∷ xs) ≡ outcome (walk_at rows (Some (name_of s, [])) (option (name_of s)) pos false) xs
+  unfolding walked outcome
+  await_step s n two long name = rw (two, long, long_found n, name, clean, settles) refl
+
+  pub library_step : (n : Text) → bytes_eq x (45 ∷ 45 ∷ []) ≡ false → long_of x ≡ Some (n, None) → setting_named n ≡ None → names_library n ≡ true → has_row (codes "lib") rows ≡ false
+      → outcome start (x ∷ xs) ≡ outcome (walk_at (rows ++ one_row (reading_by built_library) (codes "lib") (codes "true") ∷ []) None idle pos false) xs
+  unfolding walked outcome
+  library_step n two long name lib none = rw (two, long, long_found n, name, lib, clean, settles, none, used_once (codes "lib") (reading_by built_library) (codes "true") rows none) refl
+
+  pub library_again : (n : Text) → bytes_eq x (45 ∷ 45 ∷ []) ≡ false → long_of x ≡ Some (n, None) → setting_named n ≡ None → names_library n ≡ true → has_row (codes "lib") rows ≡ true → outcome start (x ∷ xs) ≡ None
+  unfolding walked outcome
+  library_again n two long name lib there = rw (two, long, long_found n, name, lib, clean, settles, there) refl
+
+  pub library_valued : (n v : Text) → bytes_eq x (45 ∷ 45 ∷ []) ≡ false → long_of x ≡ Some (n, Some v) → setting_named n ≡ None → names_library n ≡ true → outcome start (x ∷ xs) ≡ None
+  unfolding walked outcome
+  library_valued n v two long name lib = rw (two, long, long_found n, name, lib) refl
+
+  pub unknown_step : (n : Text) (v : Option Text) → bytes_eq x (45 ∷ 45 ∷ []) ≡ false → long_of x ≡ Some (n, v) → setting_named n ≡ None → names_library n ≡ false → outcome start (x ∷ xs) ≡ None
+  unfolding walked outcome
+  unknown_step n v two long name lib = rw (two, long, long_found n, name, lib) refl
+
+  pub dashed_step : (b c : ℕ) (flags : Text) → bytes_eq x (45 ∷ 45 ∷ []) ≡ false → long_of x ≡ None → short_of x ≡ Some (b ∷ flags) → slice_get (chars (b ∷ flags)) 0 ≡ Some c → outcome start (x ∷ xs) ≡ None
+  unfolding walked outcome bundle_met flags_fault
+  dashed_step b c flags two long short first = rw (two, long, short, first) refl
+
+  no_several : (o : Bool) → (o && false) ≡ false
+  no_several true = refl
+  no_several false = refl
+
+  pub plain_step : bytes_eq x (45 ∷ 45 ∷ []) ≡ false → long_of x ≡ None → short_of x ≡ None → pos ≡ 1
+      → outcome start (x ∷ xs) ≡ outcome (walk_at rows (Some (codes "file", x ∷ [])) idle 2 false) xs
+  unfolding walked outcome
+  plain_step two long short first = rw (two, long, short, first, no_several (is_pending built_file p), clean, settles) refl
+
+  pub plain_second : bytes_eq x (45 ∷ 45 ∷ []) ≡ false → long_of x ≡ None → short_of x ≡ None → pos ≡ 2 → outcome start (x ∷ xs) ≡ None
+  unfolding walked outcome
+  plain_second two long short second = rw (two, long, short, second) refl
+
+  pub trail_step : pos ≡ 1 → outcome (walk_at rows0 p idle pos true) (x ∷ xs) ≡ outcome (walk_at rows (Some (codes "file", x ∷ [])) idle 2 true) xs
+  unfolding walked outcome
+  trail_step first = rw (first, no_several (is_pending built_file p), clean, settles) refl
+
+  pub trail_second : pos ≡ 2 → outcome (walk_at rows0 p idle pos true) (x ∷ xs) ≡ None
+  unfolding walked outcome
+  trail_second second = rw second refl
+
+  pub nothing_left : (over : Bool) → outcome (walk_at rows0 p idle pos over) [] ≡ Some (given_in rows)
+  unfolding outcome
+  nothing_left over = rw (clean, settles) refl
