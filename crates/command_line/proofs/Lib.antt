@@ -7,3 +7,4 @@ pub mod ClapWords
 pub mod ClapRows
 pub mod ClapWalk
 pub mod ClapSteps
+pub mod ClapLine
