@@ -3,7 +3,7 @@ use Rattle.std.proofs.Common.{◌≡◌, ℕ, Bool, true, false, List, [], ◌�
 use Rattle.clap.specs.Walk.{Rule, Names, Held, Walk, Row, Waiting, idle, option, walked}
 use Rattle.clap.specs.Simple.{App, Shape, built, names_of, new_app, new_rule, with_rule, is_simple}
 use Rattle.clap.specs.Faults.{is_simple_and_free, turn_fault, settle_fault}
-use Rattle.clap.specs.declared.builder.action.ArgAction.TheVariants.{Set, SetTrue}
+use Rattle.clap.specs.declared.builder.action.ArgAction.TheVariants.{Set}
 use Rattle.command_line.specs.Parts.{Text}
 use Rattle.command_line.specs.declared.settings.Setting.{Setting}
 use Rattle.command_line.specs.declared.settings.Setting.TheVariants.{Workers, Fuel, Ahead, Round, Dialect, Gen}
@@ -13,7 +13,7 @@ abbrev pub option_rule : Text → Rule
 option_rule name = record (new_rule name) { long = Some name; action = Some Set }
 
 abbrev pub library_rule : Rule
-library_rule = record (new_rule (codes "lib")) { long = Some (codes "lib"); action = Some SetTrue }
+library_rule = record (new_rule (codes "lib")) { long = Some (codes "lib"); action = Some Set; range = Some (record { start_inclusive = 0; end_inclusive = 0 }); missing = codes "true" ∷ [] }
 
 abbrev pub file_rule : Rule
 file_rule = record (new_rule (codes "file")) { action = Some Set }

@@ -8,3 +8,4 @@ pub mod ClapRows
 pub mod ClapWalk
 pub mod ClapSteps
 pub mod ClapLine
+pub mod ClapReads
