@@ -9,7 +9,8 @@ use Rattle.clap.specs.Faults.{fault_of, turn_fault, walk_fault, settle_fault, de
 use Rattle.clap.proofs.FaultLemmas.{leaf_fault}
 use Rattle.command_line.specs.Parts.{Text}
 use Rattle.command_line.specs.Lines.{Given, given}
-use Rattle.command_line.proofs.ClapRules.{app, rules, shape}
+use Rattle.command_line.proofs.ClapRules.{rules, shape}
+use Rattle.command_line.specs.Clap.{app}
 use Rattle.command_line.proofs.ClapRows.{given_in}
 use Rattle.command_line.proofs.ClapWalk.{built_option, built_library, built_file, walk_at, outcome, unless}
 use Rattle.command_line.proofs.ClapLine.{AreUtf8, walk_gives}

@@ -4,27 +4,10 @@ use Rattle.clap.specs.Walk.{Rule, Names, Held, Walk, Row, Waiting, idle, option,
 use Rattle.clap.specs.Simple.{App, Shape, built, names_of, new_app, new_rule, with_rule, is_simple}
 use Rattle.clap.specs.Faults.{is_simple_and_free, turn_fault, settle_fault}
 use Rattle.clap.specs.declared.builder.action.ArgAction.TheVariants.{Set}
+use Rattle.command_line.specs.Clap.{app}
 use Rattle.command_line.specs.Parts.{Text}
 use Rattle.command_line.specs.declared.settings.Setting.{Setting}
 use Rattle.command_line.specs.declared.settings.Setting.TheVariants.{Workers, Fuel, Ahead, Round, Dialect, Gen}
-
--- an option with a value, the option for the library, and the file, as they are declared
-abbrev pub option_rule : Text → Rule
-option_rule name = record (new_rule name) { long = Some name; action = Some Set }
-
-abbrev pub library_rule : Rule
-library_rule = record (new_rule (codes "lib")) { long = Some (codes "lib"); action = Some Set; range = Some (record { start_inclusive = 0; end_inclusive = 0 }); missing = codes "true" ∷ [] }
-
-abbrev pub file_rule : Rule
-file_rule = record (new_rule (codes "file")) { action = Some Set }
-
-abbrev pub bare_app : App
-bare_app = record (new_app (codes "kanren")) { top = record (new_app (codes "kanren")).top { no_binary_name = true; disable_help_flag = true } }
-
-abbrev pub app : App
-app = with_rule (with_rule (with_rule (with_rule (with_rule (with_rule (with_rule (with_rule bare_app
-    (option_rule (codes "workers"))) (option_rule (codes "fuel"))) (option_rule (codes "ahead"))) (option_rule (codes "round")))
-    (option_rule (codes "dialect"))) (option_rule (codes "gen"))) library_rule) file_rule
 
 pub is_exact : is_simple_and_free app ≡ true
 is_exact = refl

@@ -12,7 +12,8 @@ use Rattle.command_line.specs.Parts.{Text, Part, setting, library, file, setting
 use Rattle.command_line.specs.Lines.{Given}
 use Rattle.command_line.specs.declared.settings.Setting.{Setting}
 use Rattle.command_line.specs.declared.settings.Setting.TheVariants.{Workers, Fuel, Ahead, Round, Dialect, Gen}
-use Rattle.command_line.proofs.ClapRules.{name_of, rules, shape, option_rule, library_rule, file_rule}
+use Rattle.command_line.proofs.ClapRules.{name_of, rules, shape}
+use Rattle.command_line.specs.Clap.{option_rule, library_rule, file_rule}
 use Rattle.command_line.proofs.ClapRows.{one_row, given_in, used_once, id_of, value_of}
 
 -- the rules as they are built

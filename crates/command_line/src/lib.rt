@@ -1,6 +1,7 @@
 //! The words after the program's name, read into options.
 #![tactic(auto)]
 
+mod command;
 mod given;
 mod name;
 mod options;
