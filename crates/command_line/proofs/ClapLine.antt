@@ -1,7 +1,6 @@
 -- Clap's walk over words gives what the words give.
-use Rattle.std.proofs.Common.{◌≡◌, ◌∙◌, ◌<◌, ◌≤◌, ◌||◌, ◌&&◌, true≢false, ℕ, Bool, cond, true, false, not, List, [], ◌∷◌, ◌++◌, map, length, drop, get_or, Option, Some, None, codes, refl, sym, ap, subst, inl, inr, arith}
+use Rattle.std.proofs.Common.{◌≡◌, ◌∙◌, ℕ, Bool, true, false, List, [], ◌∷◌, ◌++◌, map, length, Option, Some, None, codes, refl, sym, ap, subst, inl, inr, arith}
 use Rattle.std.specs.Prelude.{◌⊎◌, bytes_eq, slice_get, option_and_then}
-use Rattle.std.specs.List.{All}
 use Rattle.std.specs.Str.{chars, IsUtf8}
 use Rattle.std.proofs.Math.Utf8.{encodes}
 use Rattle.clap.specs.declared.builder.value_parser.Reading.{Reading}
@@ -13,17 +12,30 @@ use Rattle.clap.specs.Kinds.{Kinds}
 use Rattle.clap.specs.Lexer.{long_of, short_of}
 use Rattle.clap.specs.Faults.{settle_fault}
 use Rattle.clap.specs.Walk.{settled_rows}
-use Rattle.command_line.specs.Parts.{Text, Spelling, Part, setting, library, file, setting_named, names_library, with_part, parts_from, spelling, part_at, named_part, value_at, end, named, dashed, plain}
+use Rattle.command_line.specs.Parts.{Text, Spelling, Part, setting, library, file, setting_named, names_library, with_part, parts_from, part_at, named_part, value_at}
 use Rattle.command_line.specs.Lines.{Given, all_given, with_given, given}
-use Rattle.command_line.specs.Seen.{parts_left}
-use Rattle.command_line.specs.declared.settings.Setting.{Setting}
-use Rattle.command_line.specs.declared.settings.Setting.TheVariants.{Workers, Fuel, Ahead, Round, Dialect, Gen}
-use Rattle.command_line.proofs.ReadingLaws.{part_then}
+use Rattle.command_line.specs.Parts.{Setting}
+use Rattle.command_line.specs.Parts.{Workers, Fuel, Ahead, Round, Dialect, Gen}
+use Rattle.command_line.specs.Clap.{given_in, AreUtf8}
 use Rattle.command_line.proofs.ClapRules.{name_of, rules}
 use Rattle.command_line.proofs.ClapWords.{Seen, sees_end, sees_named, sees_dashed, sees_plain, seen}
-use Rattle.command_line.proofs.ClapRows.{one_row, given_in, are_filled, filled_more, has_other, has_own, given_more, given_again, id_of, value_of}
+use Rattle.command_line.proofs.ClapRows.{one_row, are_filled, filled_more, has_other, has_own, given_more, given_again, id_of, value_of}
 use Rattle.command_line.proofs.ClapWalk.{built_library, held_at, walk_at, outcome}
 use Rattle.command_line.proofs.ClapSteps.{option_reading, end_step, value_step, value_again, await_step, library_step, library_again, library_valued, unknown_step, dashed_step, plain_step, plain_second, trail_step, trail_second, nothing_left, half_step, held_clean, held_settles, file_clean, file_settles, held_again, half_fault, fails_nothing, fails_over, fails_named, fails_dashed, fails_plain, fails_end, half_end, half_named, half_dashed}
+
+-- the parts that are left: files alone, once the options have ended
+abbrev parts_left : Bool → Option Setting → List Text → Option (List Part)
+parts_left true awaited words = Some (map file words)
+parts_left false awaited words = parts_from awaited words
+
+-- a part is given before those behind it
+part_then : (g : Given) (p : Part) (rest : Option (List Part)) → option_and_then (all_given g) (with_part p rest) ≡ option_and_then (λ more. option_and_then (all_given more) rest) (with_given p g)
+part_then g p (Some ps) = refl
+part_then g p None = none (with_given p g)
+  where
+    none : (o : Option Given) → None ≡ option_and_then (λ more. option_and_then (all_given more) (with_part p None)) o
+    none None = refl
+    none (Some more) = refl
 
 -- where the next file goes
 abbrev position_at : Bool → ℕ
@@ -195,11 +207,6 @@ module _ (x : Text) (xs : List Text) (rest : Resting xs) (waits : Awaiting xs) (
 resting_more : (x : Text) (xs : List Text) → IsUtf8 x → Resting xs → Awaiting xs → Resting (x ∷ xs)
 resting_more x xs utf8 rest waits rows0 p rows clean settles filled pos at true = later_file x xs rest waits rows0 p rows clean settles filled pos at (has_row (codes "file") rows) refl
 resting_more x xs utf8 rest waits rows0 p rows clean settles filled pos at false = by_spelling x xs rest waits rows0 p rows clean settles filled pos at utf8 (seen x)
-
--- each word is UTF-8
-abbrev pub AreUtf8 : List Text → Type 0
-AreUtf8 [] = Unit {0}
-AreUtf8 (x ∷ xs) = IsUtf8 x × AreUtf8 xs
 
 all_words : (xs : List Text) → AreUtf8 xs → Resting xs × Awaiting xs × Failing xs
 all_words [] utf8 = (resting_end, awaiting_end, failing_end)

@@ -1,19 +1,25 @@
 -- What clap answers is what the words give.
-use Rattle.std.proofs.Common.{◌≡◌, ◌∙◌, ◌||◌, ℕ, Bool, cond, true, false, not, List, [], ◌∷◌, ◌++◌, Option, Some, None, codes, refl, sym, ap, ap₂}
-use Rattle.std.specs.Prelude.{fold, bytes_eq, is_some, option_map}
-use Rattle.std.specs.List.{list_any}
-use Rattle.clap.specs.Kinds.{Kinds, or_else}
-use Rattle.clap.specs.Walk.{Row, Rule, Walk, idle, walked, walk, has_row, settled, nothing_held, with_default, is_empty}
-use Rattle.clap.specs.Simple.{matches_of, built}
-use Rattle.clap.specs.Faults.{fault_of, turn_fault, walk_fault, settle_fault, default_fault, defaults_fault, level_fault}
+use Rattle.std.proofs.Common.{◌≡◌, ◌∙◌, Bool, true, false, List, [], ◌∷◌, Option, Some, None, true≢false, refl, sym, ap, ap₂, subst, inl, inr, map, Err}
+use Rattle.std.specs.Prelude.{fold}
+use Rattle.std.specs.Prelude.{◌⊎◌}
+use Rattle.std.specs.Borrow.{Bor}
+use Rattle.clap.specs.Kinds.{Kinds, IsAmong, or_else}
+use Rattle.clap.specs.declared.error.kind.ErrorKind.{ErrorKind}
+use Rattle.clap.specs.declared.error.kind.ErrorKind.TheVariants.{OutOfMemory}
+use Rattle.command_line.specs.declared.fault.WordsFault.{WordsFault}
+use Rattle.command_line.specs.declared.fault.WordsFault.TheVariants.{Usage, Memory}
+use Rattle.command_line.specs.Seen.{Gives, words_fault}
+use Rattle.clap.specs.Walk.{Row, Rule, Walk, idle, walked, has_row, settled, nothing_held, with_default}
+use Rattle.clap.specs.Simple.{App, matches_of, built, is_simple}
+use Rattle.clap.specs.Faults.{fault_of, is_simple_and_free, turn_fault, walk_fault, settle_fault, default_fault, defaults_fault}
 use Rattle.clap.proofs.FaultLemmas.{leaf_fault}
 use Rattle.command_line.specs.Parts.{Text}
-use Rattle.command_line.specs.Lines.{Given, given}
-use Rattle.command_line.proofs.ClapRules.{rules, shape}
+use Rattle.command_line.specs.Lines.{Given, given, texts}
+use Rattle.command_line.specs.Clap.{given_in, AreUtf8}
+use Rattle.command_line.proofs.ClapRules.{rules, shape, is_exact}
 use Rattle.command_line.specs.Clap.{app}
-use Rattle.command_line.proofs.ClapRows.{given_in}
-use Rattle.command_line.proofs.ClapWalk.{built_option, built_library, built_file, walk_at, outcome, unless}
-use Rattle.command_line.proofs.ClapLine.{AreUtf8, walk_gives}
+use Rattle.command_line.proofs.ClapWalk.{walk_at, outcome, unless}
+use Rattle.command_line.proofs.ClapLine.{walk_gives}
 
 abbrev end_of : Walk → List Text → Walk
 end_of w xs = fold (walked rules []) w xs
@@ -89,3 +95,36 @@ pub clap_reads : (words : List Text) → AreUtf8 words → given words ≡ unles
 clap_reads words utf8 =
     sym (walk_gives words utf8) ∙ outcome_is (walk_at [] None idle 1 false) words
     ∙ ap₂ (λ ks rows. unless ks (Some (given_in rows))) (sym (fault_is words)) (sym (matches_are words))
+
+-- the same by the kinds of faults
+gives_kinds : (words : List Text) (ks : Kinds) (rows : List Row) → given words ≡ unless ks (Some (given_in rows)) → ks ≡ [] → given words ≡ Some (given_in rows)
+gives_kinds words ks rows is none = is ∙ ap (λ kinds. unless kinds (Some (given_in rows))) none
+
+-- words that clap matches
+pub matched_gives : (words : List Text) (a : App) (rows : List Row) → AreUtf8 words → a ≡ app → (is_simple_and_free a ≡ true → fault_of a words ≡ []) → (is_simple a ≡ true → rows ≡ matches_of a words) → given words ≡ Some (given_in rows)
+matched_gives words a rows utf8 is faultless matches =
+    let none : fault_of app words ≡ [] = subst (λ x. fault_of x words ≡ []) is (faultless (ap is_simple_and_free is ∙ is_exact)) in
+    let found : rows ≡ matches_of app words = matches (ap is_simple is) ∙ ap (λ x. matches_of x words) is in
+    gives_kinds words (fault_of app words) (matches_of app words) (clap_reads words utf8) none ∙ ap (λ rs. Some (given_in rs)) (sym found)
+
+-- words that it refuses
+abbrev is_usage : WordsFault → Bool
+is_usage Usage = true
+is_usage Memory = false
+
+memory_is_no_usage : Memory ≡ Usage → ⊥
+memory_is_no_usage e = true≢false (sym (ap is_usage e))
+
+refused_by : (words : List Text) (ks : Kinds) (o : Option Given) (kind : ErrorKind) → given words ≡ unless ks o → (kind ≡ OutOfMemory) ⊎ IsAmong kind ks → (words_fault kind ≡ Usage) → given words ≡ None
+refused_by words ks o kind is (inl memory) usage = absurd (memory_is_no_usage (ap words_fault (sym memory) ∙ usage))
+refused_by words [] o kind is (inr among) usage = absurd among
+refused_by words (k ∷ ks) o kind is (inr among) usage = is
+
+pub refused_gives : (words : List Text) (a : App) (kind : ErrorKind) (fault : WordsFault) → AreUtf8 words → a ≡ app → (is_simple_and_free a ≡ true → (kind ≡ OutOfMemory) ⊎ IsAmong kind (fault_of a words)) → fault ≡ words_fault kind → Gives (given words) (Err fault)
+refused_gives words a kind Usage utf8 is kinds usage = refused_by words (fault_of app words) _ kind (clap_reads words utf8) (subst (λ x. (kind ≡ OutOfMemory) ⊎ IsAmong kind (fault_of x words)) is (kinds (ap is_simple_and_free is ∙ is_exact))) (sym usage)
+refused_gives words a kind Memory utf8 is kinds usage = tt
+
+-- words as clap sees them
+pub same_texts : (ws : List (Bor Text)) → map (λ w. w.now) ws ≡ texts ws
+same_texts [] = refl
+same_texts (w ∷ ws) = ap (λ more. w.now ∷ more) (same_texts ws)

@@ -1,33 +1,21 @@
 -- What the rows of clap's matches give.
-use Rattle.std.proofs.Common.{◌≡◌, ◌∙◌, ◌||◌, ◌&&◌, true≢false, ℕ, Bool, cond, true, false, not, List, [], ◌∷◌, ◌++◌, Option, Some, None, codes, refl, sym, ap}
-use Rattle.std.specs.Prelude.{bytes_eq, slice_get, option_and_then, is_some, find, length, ◌==◌}
-use Rattle.std.specs.List.{list_any, list_all}
-use Rattle.clap.specs.Walk.{Row, Rule, at_row, without, with_values, more_values, has_row, first_of, is_empty}
+use Rattle.std.proofs.Common.{◌≡◌, ◌∙◌, ◌||◌, ◌&&◌, true≢false, Bool, cond, true, false, not, List, [], ◌∷◌, ◌++◌, Some, None, codes, refl, sym, ap}
+use Rattle.std.specs.Prelude.{bytes_eq, slice_get, option_and_then, find}
+use Rattle.std.specs.List.{list_all}
+use Rattle.clap.specs.Walk.{Row, at_row, without, with_values, more_values, has_row, first_of, is_empty}
 use Rattle.clap.specs.declared.builder.value_parser.Reading.{Reading}
 use Rattle.clap.specs.declared.parser.matches.ValueSource.TheVariants.{CommandLine}
 use Rattle.command_line.specs.Parts.{Text}
 use Rattle.command_line.specs.Parts.{Part, setting, library, file}
-use Rattle.command_line.specs.Lines.{Given, with_setting, with_given, once}
-use Rattle.command_line.specs.declared.settings.Setting.{Setting}
-use Rattle.command_line.specs.declared.settings.Setting.TheVariants.{Workers, Fuel, Ahead, Round, Dialect, Gen}
+use Rattle.command_line.specs.Lines.{with_setting, with_given}
+use Rattle.command_line.specs.Parts.{Setting}
+use Rattle.command_line.specs.Parts.{Workers, Fuel, Ahead, Round, Dialect, Gen}
+use Rattle.command_line.specs.Clap.{given_in}
 use Rattle.command_line.proofs.ClapRules.{name_of}
 
 -- the row of one value
 abbrev pub one_row : Reading → Text → Text → Row
 one_row how id v = record { id = id; values = v ∷ []; count = None; source = Some CommandLine; reading = how }
-
--- what rows give
-abbrev pub given_in : List Row → Given
-given_in rows = record {
-  workers = first_of (codes "workers") rows;
-  fuel = first_of (codes "fuel") rows;
-  ahead = first_of (codes "ahead") rows;
-  round = first_of (codes "round") rows;
-  dialect = first_of (codes "dialect") rows;
-  gen = first_of (codes "gen") rows;
-  lib = has_row (codes "lib") rows;
-  file = first_of (codes "file") rows;
-}
 
 -- each row has a value
 abbrev pub has_values : Row → Bool

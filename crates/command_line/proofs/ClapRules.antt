@@ -1,13 +1,12 @@
 -- The command as clap sees it.
-use Rattle.std.proofs.Common.{◌≡◌, ℕ, Bool, true, false, List, [], ◌∷◌, ◌++◌, Option, Some, None, codes, refl}
-use Rattle.clap.specs.Walk.{Rule, Names, Held, Walk, Row, Waiting, idle, option, walked}
-use Rattle.clap.specs.Simple.{App, Shape, built, names_of, new_app, new_rule, with_rule, is_simple}
-use Rattle.clap.specs.Faults.{is_simple_and_free, turn_fault, settle_fault}
-use Rattle.clap.specs.declared.builder.action.ArgAction.TheVariants.{Set}
+use Rattle.std.proofs.Common.{◌≡◌, true, List, [], codes, refl}
+use Rattle.clap.specs.Walk.{Rule}
+use Rattle.clap.specs.Simple.{Shape, built, names_of}
+use Rattle.clap.specs.Faults.{is_simple_and_free}
 use Rattle.command_line.specs.Clap.{app}
 use Rattle.command_line.specs.Parts.{Text}
-use Rattle.command_line.specs.declared.settings.Setting.{Setting}
-use Rattle.command_line.specs.declared.settings.Setting.TheVariants.{Workers, Fuel, Ahead, Round, Dialect, Gen}
+use Rattle.command_line.specs.Parts.{Setting}
+use Rattle.command_line.specs.Parts.{Workers, Fuel, Ahead, Round, Dialect, Gen}
 
 pub is_exact : is_simple_and_free app ≡ true
 is_exact = refl

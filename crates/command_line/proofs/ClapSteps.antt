@@ -1,21 +1,21 @@
 -- What clap's walk makes of one word more.
-use Rattle.std.proofs.Common.{◌≡◌, ◌∙◌, ◌||◌, ◌&&◌, true≢false, ℕ, Bool, cond, true, false, not, List, [], ◌∷◌, ◌++◌, Option, Some, None, codes, refl, sym, ap, inl, inr}
-use Rattle.std.specs.Prelude.{◌⊎◌, bytes_eq, slice_get, option_and_then, is_some, find, length, ◌==◌}
+use Rattle.std.proofs.Common.{◌≡◌, ◌&&◌, ℕ, Bool, true, false, List, [], ◌∷◌, ◌++◌, Option, Some, None, codes, refl, inl, inr}
+use Rattle.std.specs.Prelude.{◌⊎◌, bytes_eq, slice_get}
 use Rattle.std.specs.Str.{chars}
 use Rattle.clap.specs.Lexer.{long_of, short_of}
-use Rattle.clap.specs.Walk.{Row, Rule, Held, Walk, Waiting, idle, option, walked, has_row, settled_rows, settled, arg_by_long, arg_by_id, reading_by, bundle_met, is_pending}
-use Rattle.clap.specs.Faults.{turn_fault, settle_fault, use_fault, flags_fault}
+use Rattle.clap.specs.Walk.{Row, Walk, Waiting, idle, option, walked, has_row, settled_rows, reading_by, bundle_met, is_pending}
+use Rattle.clap.specs.Faults.{settle_fault, flags_fault}
 use Rattle.clap.specs.declared.builder.value_parser.Reading.{Reading}
 use Rattle.clap.specs.Kinds.{Kinds}
 use Rattle.clap.specs.declared.error.kind.ErrorKind.{ErrorKind}
 use Rattle.clap.specs.declared.error.kind.ErrorKind.TheVariants.{ArgumentConflict, InvalidValue}
-use Rattle.command_line.specs.Parts.{Text, Part, setting, library, file, setting_named, names_library}
-use Rattle.command_line.specs.Lines.{Given}
-use Rattle.command_line.specs.declared.settings.Setting.{Setting}
-use Rattle.command_line.specs.declared.settings.Setting.TheVariants.{Workers, Fuel, Ahead, Round, Dialect, Gen}
-use Rattle.command_line.proofs.ClapRules.{name_of, rules, shape}
-use Rattle.command_line.proofs.ClapRows.{one_row, given_in, used_once, id_of, value_of}
-use Rattle.command_line.proofs.ClapWalk.{built_option, built_library, built_file, by_name, long_found, id_found, held_at, walk_at, unless, outcome}
+use Rattle.command_line.specs.Parts.{Text, setting_named, names_library}
+use Rattle.command_line.specs.Parts.{Setting}
+use Rattle.command_line.specs.Parts.{Workers, Fuel, Ahead, Round, Dialect, Gen}
+use Rattle.command_line.specs.Clap.{given_in}
+use Rattle.command_line.proofs.ClapRules.{name_of, rules}
+use Rattle.command_line.proofs.ClapRows.{one_row, used_once}
+use Rattle.command_line.proofs.ClapWalk.{built_option, built_library, built_file, long_found, id_found, held_at, walk_at, outcome}
 
 abbrev pub option_reading : Reading
 option_reading = reading_by (built_option [])

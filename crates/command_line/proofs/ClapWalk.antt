@@ -1,20 +1,17 @@
 -- One word of clap's walk.
-use Rattle.std.proofs.Common.{◌≡◌, ◌∙◌, ◌||◌, ◌&&◌, true≢false, ℕ, Bool, cond, true, false, not, List, [], ◌∷◌, ◌++◌, Option, Some, None, codes, refl, sym, ap}
-use Rattle.std.specs.Prelude.{bytes_eq, slice_get, option_and_then, is_some, find, length, ◌==◌}
-use Rattle.std.specs.Str.{chars}
-use Rattle.clap.specs.Lexer.{long_of, short_of}
+use Rattle.std.proofs.Common.{◌≡◌, ℕ, Bool, true, false, List, [], ◌∷◌, Option, Some, None, codes, refl}
+use Rattle.std.specs.Prelude.{bytes_eq}
 use Rattle.clap.specs.Kinds.{Kinds}
-use Rattle.clap.specs.Walk.{Row, Rule, Held, Walk, Waiting, idle, option, walked, has_row, settled_rows, settled, arg_by_long, arg_by_id, reading_by, bundle_met}
+use Rattle.clap.specs.Walk.{Row, Rule, Held, Walk, Waiting, walked, settled, arg_by_long, arg_by_id}
 use Rattle.clap.specs.Simple.{filled}
-use Rattle.clap.specs.Faults.{turn_fault, settle_fault, use_fault, flags_fault}
-use Rattle.clap.specs.declared.builder.value_parser.Reading.{Reading}
-use Rattle.command_line.specs.Parts.{Text, Part, setting, library, file, setting_named, names_library}
+use Rattle.clap.specs.Faults.{turn_fault, settle_fault}
+use Rattle.command_line.specs.Parts.{Text, setting_named, names_library}
 use Rattle.command_line.specs.Lines.{Given}
-use Rattle.command_line.specs.declared.settings.Setting.{Setting}
-use Rattle.command_line.specs.declared.settings.Setting.TheVariants.{Workers, Fuel, Ahead, Round, Dialect, Gen}
+use Rattle.command_line.specs.Parts.{Setting}
+use Rattle.command_line.specs.Parts.{Workers, Fuel, Ahead, Round, Dialect, Gen}
+use Rattle.command_line.specs.Clap.{given_in}
 use Rattle.command_line.proofs.ClapRules.{name_of, rules, shape}
 use Rattle.command_line.specs.Clap.{option_rule, library_rule, file_rule}
-use Rattle.command_line.proofs.ClapRows.{one_row, given_in, used_once, id_of, value_of}
 
 -- the rules as they are built
 abbrev pub built_option : Text → Rule

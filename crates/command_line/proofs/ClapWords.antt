@@ -1,10 +1,9 @@
 -- How a word is spelled, as clap reads it.
-use Rattle.std.proofs.Common.{◌≡◌, ◌≢◌, ◌<◌, ◌==◌, ℕ, Bool, true, false, List, [], ◌∷◌, ◌++◌, Option, Some, None, codes, refl, ap, cond, arith}
-use Rattle.std.specs.Prelude.{bytes_eq, slice_get}
-use Rattle.std.specs.Str.{chars, IsUtf8}
+use Rattle.std.proofs.Common.{◌≡◌, ◌==◌, ℕ, Bool, true, false, [], ◌∷◌, Option, Some, None, refl, arith}
+use Rattle.std.specs.Prelude.{bytes_eq}
 use Rattle.std.proofs.lemmas.Bool.Decides.{nat_tests}
-use Rattle.clap.specs.Lexer.{long_of, short_of, strip_byte, name_and_value}
-use Rattle.command_line.specs.Parts.{Text, Spelling, end, named, dashed, plain, spelling}
+use Rattle.clap.specs.Lexer.{long_of, short_of}
+use Rattle.command_line.specs.Parts.{Text, end, named, dashed, plain, spelling}
 
 -- what a word is: the four spellings, and what clap sees of each
 pub data Seen (w : Text) : Type 0 where

@@ -1,6 +1,4 @@
 pub mod NumberLaws
-pub mod SpellingLaws
-pub mod ReadingLaws
 mod CommandRows
 pub mod ClapRules
 pub mod ClapWords
@@ -9,3 +7,4 @@ pub mod ClapWalk
 pub mod ClapSteps
 pub mod ClapLine
 pub mod ClapReads
+pub mod MatchLaws

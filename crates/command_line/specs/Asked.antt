@@ -1,11 +1,11 @@
 -- What reading the words answers.
-use Rattle.std.specs.Prelude.{◌≡◌, ℕ, List, Option, Some, None, option_map, Result, Ok, Err}
+use Rattle.std.specs.Prelude.{◌≡◌, Option, Some, None, Result, Ok, Err}
 use Rattle.command_line.specs.Lines as lines
 use Rattle.command_line.specs.Seen.{text_of}
 use Rattle.command_line.specs.declared.options.Line.{Line}
 use Rattle.command_line.specs.declared.options.Options.{Options}
-use Rattle.command_line.specs.declared.options.WordsFault.{WordsFault}
-use Rattle.command_line.specs.declared.options.WordsFault.TheVariants.{Usage, Memory}
+use Rattle.command_line.specs.declared.fault.WordsFault.{WordsFault}
+use Rattle.command_line.specs.declared.fault.WordsFault.TheVariants.{Usage, Memory}
 
 abbrev pub line_seen : Line → lines.Line
 line_seen l = record { workers = l.workers; fuel = l.fuel; ahead = l.ahead; round = l.round; library = l.library; load = l.load; dialect = l.dialect; file = text_of l.file }
@@ -19,3 +19,9 @@ abbrev pub Reads : Option lines.Line → Result Options WordsFault → Type 0
 Reads line (Ok options) = line ≡ Some (line_asked options)
 Reads line (Err Usage) = line ≡ None
 Reads line (Err Memory) = Unit {0}
+
+-- the same of the line as the code has it first
+abbrev pub FindsLine : Option lines.Line → Result Line WordsFault → Type 0
+FindsLine line (Ok l) = line ≡ Some (line_seen l)
+FindsLine line (Err Usage) = line ≡ None
+FindsLine line (Err Memory) = Unit {0}

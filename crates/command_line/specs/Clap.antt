@@ -1,6 +1,8 @@
 -- The command as clap is told it.
-use Rattle.std.specs.Prelude.{true, [], ◌∷◌, Some, codes}
-use Rattle.clap.specs.Walk.{Rule, Text}
+use Rattle.std.specs.Prelude.{true, List, [], ◌∷◌, Some, codes}
+use Rattle.std.specs.Str.{IsUtf8}
+use Rattle.clap.specs.Walk.{Rule, Row, Text, first_of, has_row}
+use Rattle.command_line.specs.Lines.{Given}
 use Rattle.clap.specs.Simple.{App, new_app, new_rule, with_rule}
 use Rattle.clap.specs.declared.builder.action.ArgAction.TheVariants.{Set}
 
@@ -27,3 +29,21 @@ values_app = with_rule (with_rule numbers_app (option_rule (codes "dialect"))) (
 -- with the option for the library, and the file
 abbrev pub app : App
 app = with_rule (with_rule values_app library_rule) file_rule
+
+-- what was given, by the rows of clap's matches
+abbrev pub given_in : List Row → Given
+given_in rows = record {
+  workers = first_of (codes "workers") rows;
+  fuel = first_of (codes "fuel") rows;
+  ahead = first_of (codes "ahead") rows;
+  round = first_of (codes "round") rows;
+  dialect = first_of (codes "dialect") rows;
+  gen = first_of (codes "gen") rows;
+  lib = has_row (codes "lib") rows;
+  file = first_of (codes "file") rows;
+}
+
+-- each word is text
+abbrev pub AreUtf8 : List Text → Type 0
+AreUtf8 [] = Unit {0}
+AreUtf8 (w ∷ ws) = IsUtf8 w × AreUtf8 ws

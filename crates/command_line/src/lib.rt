@@ -2,13 +2,12 @@
 #![tactic(auto)]
 
 mod command;
+mod fault;
 mod given;
 mod name;
 mod options;
-mod reading;
-mod settings;
-mod spelled;
 mod values;
 
+pub use fault::WordsFault;
 pub use name::Name;
-pub use options::{Options, WordsFault, read_words};
+pub use options::{Options, read_words};
