@@ -7,7 +7,9 @@ mod given;
 mod name;
 mod options;
 mod values;
+mod words;
 
 pub use fault::WordsFault;
 pub use name::Name;
 pub use options::{Options, read_words};
+pub use words::process_words;
