@@ -1,5 +1,5 @@
 -- Lines of the command and words that are none, worked out.
-use Rattle.std.proofs.Common.{◌≡◌, ℕ, Bool, true, false, not, ◌==◌, List, [], ◌∷◌, ◌++◌, map, Option, Some, None, codes, refl, if◌then◌else◌}
+use Rattle.std.proofs.Common.{◌≡◌, true, false, ◌==◌, List, [], ◌∷◌, ◌++◌, map, Some, None, codes, refl, if◌then◌else◌}
 use Rattle.std.specs.List.{list_any}
 use Rattle.kan_grammar.specs.declared.dialect.Dialect.TheVariants.{Book, All}
 use Rattle.command_line.specs.Parts.{Text}

@@ -1,5 +1,11 @@
 pub mod NumberLaws
 pub mod RangeLaws
-pub mod SpellingLaws
-pub mod ReadingLaws
 mod CommandRows
+pub mod ClapRules
+pub mod ClapWords
+pub mod ClapRows
+pub mod ClapWalk
+pub mod ClapSteps
+pub mod ClapLine
+pub mod ClapReads
+pub mod MatchLaws

@@ -1,5 +1,5 @@
 -- Numbers in words.
-use Rattle.std.proofs.Common.{◌≡◌, ◌<◌, ◌≤◌, ◌^◌, true, List, ℕ, [], ◌∷◌, length, refl, ap, arith, None}
+use Rattle.std.proofs.Common.{◌≡◌, ◌<◌, ◌^◌, true, List, ℕ, [], ◌∷◌, length, refl, ap, arith, None}
 use Rattle.std.specs.Str.Parse.{digits_value}
 use Rattle.std.proofs.lemmas.Bool.Decides.{nat_tests}
 use Rattle.kan_grammar.specs.Data.Words.{all_digits}

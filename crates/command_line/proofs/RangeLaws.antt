@@ -1,12 +1,13 @@
 -- What a line of the command asks for lies in its range.
 use Rattle.std.proofs.Common.{◌≡◌, ◌≤◌, ℕ, Bool, true, false, List, [], ◌∷◌, Option, Some, None, refl, sym, ap, subst, ◌∙◌, arith}
-use Rattle.std.specs.Prelude.{nat_le, ◌&&◌, ◌||◌, is_some, option_and_then, option_map, IfSome, if◌then◌else◌}
+use Rattle.std.specs.Prelude.{nat_le, ◌&&◌, ◌||◌, is_some, option_and_then, option_map, Result, Ok, Err, IfOk, if◌then◌else◌}
 use Rattle.std.specs.Str.Parse.{digits_value}
 use Rattle.std.proofs.lemmas.Bool.Decides.{nat_tests}
 use Rattle.kan_grammar.specs.Data.Words.{all_digits}
 use Rattle.kan_grammar.specs.declared.dialect.Dialect.{Dialect}
-use Rattle.command_line.specs.Asked.{line_seen}
-use Rattle.command_line.specs.declared.options.Line as code
+use Rattle.command_line.specs.Asked.{Reads, line_asked}
+use Rattle.command_line.specs.declared.options.Options.{Options}
+use Rattle.command_line.specs.declared.fault.WordsFault.{WordsFault}
 use Rattle.command_line.specs.Lines.{Given, Line, given, in_range, number_in, number_asked, load_asked, dialect_asked, file_asked, line_of, asked, line, IsInRange}
 
 in_its_range : (low high n m : ℕ) → in_range low high n ≡ Some m → (low ≤ m) × (m ≤ high)
@@ -59,11 +60,16 @@ parts_in_range (Some w) (Some f) (Some a) (Some r) lib (Some ld) (Some d) (Some 
       some_round = (hr r refl).0;
       round = (hr r refl).1;
       load = λ n is. hl n (ap Some is);
+      library = λ h. behind lib (is_some ld) h;
     })
   where
     line_or : Line → Option Line → Line
     line_or z None = z
     line_or z (Some x) = x
+
+    behind : (x y : Bool) → y ≡ true → (x || y) ≡ true
+    behind true y h = refl
+    behind false y h = h
 
 given_in_range : (g : Given) (l : Line) → Some l ≡ asked g → IsInRange l
 given_in_range g l e =
@@ -83,7 +89,10 @@ line_in_range words l e = by (given words) e
     by None is = absurd cc
     by (Some g) is = given_in_range g l is
 
--- and so of the code's lines
-pub asked_range : (r : Option code.Line) (g : Given) → option_map line_seen r ≡ asked g → IfSome r (λ line. IsInRange (line_seen line))
-asked_range None g e = tt
-asked_range (Some l) g e = given_in_range g (line_seen l) e
+-- so do the options of a line
+options_in_range : (words : List (List ℕ)) (r : Result Options WordsFault) → Reads (line words) r → IfOk r (λ options. IsInRange (line_asked options))
+options_in_range words (Ok options) e = line_in_range words (line_asked options) (sym e)
+options_in_range words (Err fault) e = tt
+
+pub asked_in_its_range : (words : List (List ℕ)) (l : Line) (r : Result Options WordsFault) → line words ≡ Some l → Reads (Some l) r → IfOk r (λ options. IsInRange (line_asked options))
+asked_in_its_range words l r e h = options_in_range words r (subst (λ o. Reads o r) (sym e) h)

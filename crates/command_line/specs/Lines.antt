@@ -1,13 +1,12 @@
 -- The lines of the command: what the words ask for.
-use Rattle.std.specs.Prelude.{◌≡◌, ◌≤◌, ℕ, Bool, true, false, nat_le, ◌&&◌, ◌||◌, List, [], ◌∷◌, Option, Some, None, Result, Ok, Err, codes, bytes_eq, is_some, option_and_then, option_map, if◌then◌else◌}
+use Rattle.std.specs.Prelude.{◌≡◌, ◌≤◌, ℕ, Bool, true, false, nat_le, ◌&&◌, ◌||◌, List, [], ◌∷◌, Option, Some, None, codes, bytes_eq, is_some, option_and_then, option_map, if◌then◌else◌}
 use Rattle.std.specs.Borrow.{Bor}
 use Rattle.std.specs.Str.Parse.{digits_value}
 use Rattle.kan_grammar.specs.Data.Words.{all_digits}
 use Rattle.kan_grammar.specs.declared.dialect.Dialect.{Dialect}
 use Rattle.kan_grammar.specs.declared.dialect.Dialect.TheVariants.{Book, All}
-use Rattle.command_line.specs.Parts.{Text, Part, setting, library, file, parts}
-use Rattle.command_line.specs.declared.settings.Setting.{Setting}
-use Rattle.command_line.specs.declared.settings.Setting.TheVariants as names
+use Rattle.command_line.specs.Parts.{Text, Part, setting, library, file, parts, Setting, Workers, Fuel, Ahead, Round, Gen}
+use Rattle.command_line.specs.Parts as named
 
 -- what was given: the values of options, whether the library was, and the name of the file
 pub record Given : Type 0 where
@@ -29,12 +28,12 @@ once None g = Some g
 once (Some t) g = None
 
 abbrev pub with_setting : Setting → Text → Given → Option Given
-with_setting names.Workers v g = once g.workers (record g { workers = Some v })
-with_setting names.Fuel v g = once g.fuel (record g { fuel = Some v })
-with_setting names.Ahead v g = once g.ahead (record g { ahead = Some v })
-with_setting names.Round v g = once g.round (record g { round = Some v })
-with_setting names.Dialect v g = once g.dialect (record g { dialect = Some v })
-with_setting names.Gen v g = once g.gen (record g { gen = Some v })
+with_setting Workers v g = once g.workers (record g { workers = Some v })
+with_setting Fuel v g = once g.fuel (record g { fuel = Some v })
+with_setting Ahead v g = once g.ahead (record g { ahead = Some v })
+with_setting Round v g = once g.round (record g { round = Some v })
+with_setting named.Dialect v g = once g.dialect (record g { dialect = Some v })
+with_setting Gen v g = once g.gen (record g { gen = Some v })
 
 -- one part more, where it wasn't given before
 abbrev pub with_given : Part → Given → Option Given
@@ -123,6 +122,8 @@ pub record IsInRange (l : Line) : Type 0 where
   pub some_round : 1 ≤ l.round
   pub round : l.round ≤ 65536
   pub load : (number : ℕ) → l.load ≡ Some number → number ≤ 400
+  -- a load stands behind the library
+  pub library : is_some l.load ≡ true → l.library ≡ true
 
 -- the words are a line of the command
 abbrev pub is_line : List Text → Bool

@@ -1,8 +1,6 @@
 -- What the words of a command line are, one after another: options, flags and files.
 use Rattle.std.specs.Prelude.{ℕ, Bool, true, false, ◌==◌, List, [], ◌∷◌, Option, Some, None, map, option_map, codes, bytes_eq, if◌then◌else◌}
 use Rattle.std.specs.List.{list_any, before_first, after_first}
-use Rattle.command_line.specs.declared.settings.Setting.{Setting}
-use Rattle.command_line.specs.declared.settings.Setting.TheVariants.{Workers, Fuel, Ahead, Round, Dialect, Gen}
 
 abbrev pub Text : Type 0
 Text = List ℕ
@@ -49,6 +47,15 @@ of_first (Some text) = of_rest text
 
 abbrev pub spelling : Text → Spelling
 spelling word = of_first (behind 45 word)
+
+-- the options that take a value
+pub data Setting : Type 0 where
+  Workers : Setting
+  Fuel : Setting
+  Ahead : Setting
+  Round : Setting
+  Dialect : Setting
+  Gen : Setting
 
 -- the options that take a value, by their names
 abbrev pub setting_named : Text → Option Setting

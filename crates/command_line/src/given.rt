@@ -1,11 +1,17 @@
 //! What was given: the values of options, and a file.
 
-ghost use Rattle.std.specs.Prelude.{◌≡◌, Some, None, option_map};
+ghost use Rattle.std.specs.Prelude.{◌≡◌};
+ghost use Rattle.clap.specs.Words.{found_of, rows_of};
+ghost use Rattle.command_line.specs.Clap.{AreUtf8, given_in};
+ghost use Rattle.std.specs.Str.{IsUtf8};
 ghost use Rattle.command_line.specs.Lines as lines;
-ghost use Rattle.command_line.specs.Parts as parts;
-ghost use Rattle.command_line.specs.Seen.{given_of};
+ghost use Rattle.command_line.specs.Lines.{texts};
+ghost use Rattle.command_line.specs.Seen.{Gives, given_of};
 
-use crate::settings::Setting;
+use crate::command::command;
+use crate::fault::{WordsFault, fault_of};
+use clap::ArgMatches;
+use std::alloc::Global;
 
 /// The values of options, whether the library was given, and the name of the file.
 #[derive(Clone, Copy)]
@@ -20,81 +26,49 @@ pub(crate) struct Given<'a> {
     pub(crate) file: Option<&'a str>,
 }
 
-impl<'a> Given<'a> {
-    /// Nothing.
-    pub(crate) fn nothing() -> Given<'a>
-        ensures { given_of result ≡ lines.nothing_given }
-    {
-        Given {
-            workers: None,
-            fuel: None,
-            ahead: None,
-            round: None,
-            dialect: None,
-            load: None,
-            lib: false,
-            file: None,
-        }
+// What clap found.
+#[tactic(auto, using(crate::proofs::MatchLaws::value_found, crate::proofs::MatchLaws::is_found))]
+fn given_in<'a>(matches: &ArgMatches<'a>) -> Given<'a>
+    ensures { given_of result ≡ given_in (rows_of (found_of matches.now)) }
+{
+    Given {
+        workers: matches.get_str("workers"),
+        fuel: matches.get_str("fuel"),
+        ahead: matches.get_str("ahead"),
+        round: matches.get_str("round"),
+        dialect: matches.get_str("dialect"),
+        load: matches.get_str("gen"),
+        lib: matches.contains_id("lib"),
+        file: matches.get_str("file"),
     }
+}
 
-    /// With the value of an option that had none.
-    pub(crate) fn with_setting(self, setting: Setting, value: &'a str) -> Option<Given<'a>>
-        ensures { option_map given_of result
-            ≡ lines.with_setting setting value.entry.now (given_of self.entry) }
-    {
-        match setting {
-            Setting::Workers if self.workers.is_none() => Some(Given {
-                workers: Some(value),
-                ..self
-            }),
-            Setting::Fuel if self.fuel.is_none() => Some(Given {
-                fuel: Some(value),
-                ..self
-            }),
-            Setting::Ahead if self.ahead.is_none() => Some(Given {
-                ahead: Some(value),
-                ..self
-            }),
-            Setting::Round if self.round.is_none() => Some(Given {
-                round: Some(value),
-                ..self
-            }),
-            Setting::Dialect if self.dialect.is_none() => Some(Given {
-                dialect: Some(value),
-                ..self
-            }),
-            Setting::Gen if self.load.is_none() => Some(Given {
-                load: Some(value),
-                ..self
-            }),
-            _ => None,
-        }
+// A text is UTF-8.
+fn is_text(word: &str)
+    ensures { IsUtf8 word.now }
+{
+    let _word = word;
+}
+
+// So are words.
+fn are_texts(words: &[&str])
+    ensures { AreUtf8 (texts words.now) }
+{
+    for word in words {
+        is_text(word);
     }
+}
 
-    /// With the library, which wasn't given.
-    pub(crate) fn with_library(self) -> Option<Given<'a>>
-        ensures { option_map given_of result
-            ≡ lines.with_given parts.library (given_of self.entry) }
-    {
-        if self.lib {
-            None
-        } else {
-            Some(Given { lib: true, ..self })
-        }
-    }
-
-    /// With a file, where there was none.
-    pub(crate) fn with_file(self, name: &'a str) -> Option<Given<'a>>
-        ensures { option_map given_of result
-            ≡ lines.with_given (parts.file name.entry.now) (given_of self.entry) }
-    {
-        if self.file.is_some() {
-            None
-        } else {
-            Some(Given {
-                file: Some(name),
-                ..self
-            })
-        }
+/// What the words give, where they are parts of a line and each is given once.
+pub(crate) fn given_by<'a>(alloc: Global, words: &'a [&'a str]) -> Result<Given<'a>, WordsFault>
+    ensures { Gives (lines.given (texts words.now)) result }
+{
+    are_texts(words);
+    let Ok(command) = command(alloc) else {
+        return Err(WordsFault::Memory);
+    };
+    match command.try_get_matches_from(words) {
+        Ok(matches) => Ok(given_in(&matches)),
+        Err(error) => Err(fault_of(&error)),
     }
 }

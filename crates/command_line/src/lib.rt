@@ -1,13 +1,15 @@
 //! The words after the program's name, read into options.
 #![tactic(auto)]
 
+mod command;
+mod fault;
 mod given;
 mod name;
 mod options;
-mod reading;
-mod settings;
-mod spelled;
 mod values;
+mod words;
 
+pub use fault::WordsFault;
 pub use name::Name;
-pub use options::{Line, Options, WordsFault, read_line, read_words};
+pub use options::{Options, read_words};
+pub use words::process_words;

@@ -1,14 +1,14 @@
 //! What a line of the command asks for.
 
-ghost use Rattle.std.specs.Prelude.{◌≡◌, IfOk, IfSome, List, ℕ, option_map};
-ghost use Rattle.command_line.specs.Asked.{Reads, line_seen, line_asked};
+ghost use Rattle.std.specs.Prelude.{◌≡◌, IfOk, Some, option_map};
+ghost use Rattle.command_line.specs.Asked.{FindsLine, Reads, line_asked, line_seen};
 ghost use Rattle.command_line.specs.Lines as lines;
 ghost use Rattle.command_line.specs.Lines.{texts};
-ghost use Rattle.command_line.specs.Seen.{given_of};
+ghost use Rattle.command_line.specs.Seen.{given_of, text_of};
 
-use crate::given::Given;
+use crate::fault::WordsFault;
+use crate::given::{Given, given_by};
 use crate::name::Name;
-use crate::reading::given_by;
 use crate::values::{dialect_asked, file_asked, load_asked, number_asked};
 use kan_grammar::Dialect;
 use kan_terms::Memory;
@@ -35,35 +35,17 @@ pub struct Options {
     pub file: Option<Name>,
 }
 
-/// Why words give no options.
-#[derive(Clone, Copy, Debug, PartialEq, Eq)]
-pub enum WordsFault {
-    /// They aren't a line of the command.
-    Usage,
-    /// There was no memory.
-    Memory,
-}
-
-/// A line of the command: what it asks for, with the file's name as its word has it. It takes no
-/// memory. The fields are those of `Options`.
+// What is asked for, with the file's name as its word has it.
 #[derive(Clone, Copy)]
-pub struct Line<'a> {
-    /// How many threads work beside the one that answers.
-    pub workers: u32,
-    /// How many pulls each run makes at most.
-    pub fuel: u32,
-    /// How many pulls the workers may have begun ahead of those that are made.
-    pub ahead: u32,
-    /// How many pulls a round has at most.
-    pub round: u32,
-    /// Whether the relation library stands before the text.
-    pub library: bool,
-    /// The number of the generated load that is run in place of a text.
-    pub load: Option<u32>,
-    /// Which goals suspend.
-    pub dialect: Dialect,
-    /// The file that the text is read from, or none for standard input.
-    pub file: Option<&'a str>,
+struct Line<'a> {
+    workers: u32,
+    fuel: u32,
+    ahead: u32,
+    round: u32,
+    library: bool,
+    load: Option<u32>,
+    dialect: Dialect,
+    file: Option<&'a str>,
 }
 
 // What given values ask for.
@@ -89,13 +71,22 @@ fn asked<'a>(given: Given<'a>) -> Option<Line<'a>>
     })
 }
 
-// The options of a line.
-fn options_of(alloc: Global, line: &Line) -> Result<Options, Memory>
-    ensures { IfOk result (λ options. line_asked options ≡ line_seen line.now) }
+// The name of a file, if there is one.
+fn file_named(alloc: Global, file: Option<&str>) -> Result<Option<Name>, Memory>
+    ensures { IfOk result (λ name. name ≡ text_of file.entry) }
 {
-    let file = match line.file {
-        Some(text) => Some(Name::of(alloc, text)?),
-        None => None,
+    match file {
+        Some(text) => Ok(Some(Name::of(alloc, text)?)),
+        None => Ok(None),
+    }
+}
+
+// The options of a line.
+fn options_of(alloc: Global, line: &Line) -> Result<Options, WordsFault>
+    ensures { Reads (Some (line_seen line.now)) result }
+{
+    let Ok(file) = file_named(alloc, line.file) else {
+        return Err(WordsFault::Memory);
     };
     Ok(Options {
         workers: line.workers,
@@ -109,13 +100,15 @@ fn options_of(alloc: Global, line: &Line) -> Result<Options, Memory>
     })
 }
 
-/// The line of the command that words are, or none where they are no line of it. It takes no memory.
+// The line that is asked for, if what was given asks for one.
 #[tactic(auto, unfolding(crate::specs::Lines::line))]
-pub fn read_line<'a>(words: &[&'a str]) -> Option<Line<'a>>
-    ensures is { option_map line_seen result ≡ lines.line (texts words.now) }
-    ensures range { IfSome result (λ line. lines.IsInRange (line_seen line)) }
+fn line_by<'a>(alloc: Global, words: &'a [&'a str]) -> Result<Line<'a>, WordsFault>
+    ensures { FindsLine (lines.line (texts words.now)) result }
 {
-    asked(given_by(words)?)
+    match given_by(alloc, words) {
+        Ok(given) => asked(given).ok_or(WordsFault::Usage),
+        Err(fault) => Err(fault),
+    }
 }
 
 /// The options that words ask for, where they are a line of the command.
@@ -127,11 +120,8 @@ pub fn read_words(alloc: Global, words: &[&str]) -> Result<Options, WordsFault>
     ensures reads { Reads (lines.line (texts words.now)) result }
     ensures range { IfOk result (λ options. lines.IsInRange (line_asked options)) }
 {
-    let Some(line) = read_line(words) else {
-        return Err(WordsFault::Usage);
-    };
-    match options_of(alloc, &line) {
-        Ok(options) => Ok(options),
-        Err(Memory) => Err(WordsFault::Memory),
+    match line_by(alloc, words) {
+        Ok(line) => options_of(alloc, &line),
+        Err(fault) => Err(fault),
     }
 }

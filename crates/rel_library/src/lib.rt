@@ -1,6 +1,7 @@
 //! The relation library and the generated loads, as texts.
 #![tactic(auto)]
 
+pub mod laws;
 mod library;
 mod load;
 
