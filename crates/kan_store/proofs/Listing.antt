@@ -23,13 +23,8 @@ use Rattle.diseq.specs.Disequalities.{Disequality, SaysAsMuch, NeverEqual, Broug
 use Rattle.diseq.specs.Laws.{GroundMeaning}
 use Rattle.kan_store.specs.Parts.{Parts, AreInStep, Resolved}
 use Rattle.kan_store.proofs.AddedLaws.{solves-before, ends-solve}
-use Rattle.kan_store.proofs.Observing.{answer_is}
+use Rattle.kan_store.proofs.Observing.{answer_is, same_tests}
 use Rattle.kan_store.proofs.StepLaws.{test-known}
-
-same_tests : (a b : Bool) → (a ≡ true → b ≡ true) → (b ≡ true → a ≡ true) → a ≡ b
-same_tests true b f g = sym (f refl)
-same_tests false true f g = g refl
-same_tests false false f g = refl
 
 -- equations hold under a list of values exactly where it unifies them
 equal-unifies : (us : List Gd) (es : List Equation) → all_equal us es ≡ true → Unifies (value_at us) es

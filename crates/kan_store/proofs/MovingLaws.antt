@@ -50,15 +50,16 @@ next_pairs xs shown i item x same low is var =
     ∙ ap (λ y. sides y ∷ map sides (drop (i + 1) xs)) is ∙ ap (λ ys. sides (slice_index_or shown i item) ∷ map sides (drop (i + 1) ys)) (sym same)
     ∙ sym (left_pairs shown i item low) ∙ ap (λ ys. map sides (drop i ys)) same
 
+-- nothing is left past the end
+pub none_left : {X : Type 0} (xs : List X) (i : ℕ) → (i < length xs → ⊥) → drop i xs ≡ []
+none_left [] zero past = refl
+none_left [] (suc i) past = refl
+none_left (x ∷ xs) zero past = absurd (past (omega arith))
+none_left (x ∷ xs) (suc i) past = none_left xs i (λ low. past (omega (arith, low)))
+
 -- all pairs are moved
 pub all_left : (xs shown : List TermPair) (i : ℕ) → shown ≡ xs → (i < length shown → ⊥) → [] ≡ map sides (drop i xs)
-all_left xs shown i same past = ap (map sides) (sym (none shown i past)) ∙ ap (λ ys. map sides (drop i ys)) same
-  where
-    none : (ys : List TermPair) (i : ℕ) → (i < length ys → ⊥) → drop i ys ≡ []
-    none [] zero past = refl
-    none [] (suc i) past = refl
-    none (y ∷ ys) zero past = absurd (past (omega arith))
-    none (y ∷ ys) (suc i) past = none ys i (λ low. past (omega (arith, low)))
+all_left xs shown i same past = ap (map sides) (sym (none_left shown i past)) ∙ ap (λ ys. map sides (drop i ys)) same
 
 module _ (bound : Pairs) (xs shown : List TermPair) (i : ℕ) (item : TermPair) (x : ℕ) (same : shown ≡ xs) (low : i < length shown) (is : item ≡ slice_index_or shown i item) (var : item.first ≡ Var x) where
   pub types_go_on : (old mid : Types) (r : Option Types) → MovesTypes old (old x) (walked bound (tree item.rest)) (Some mid) → TypesMove bound mid (map sides (drop (i + 1) xs)) r → TypesMove bound old (map sides (drop i xs)) r

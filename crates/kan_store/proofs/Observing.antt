@@ -106,7 +106,8 @@ listed-contains tag (o ∷ tags) h = elim (or_cases (eqb o tag) (is_listed tag t
   | inr later ↦ Contains-append_right (o ∷ []) tags tag (listed-contains tag tags later)
 ]
 
-same_tests : (a b : Bool) → (a ≡ true → b ≡ true) → (b ≡ true → a ≡ true) → a ≡ b
+-- two tests that pass together are the same
+pub same_tests : (a b : Bool) → (a ≡ true → b ≡ true) → (b ≡ true → a ≡ true) → a ≡ b
 same_tests true b f g = sym (f refl)
 same_tests false true f g = g refl
 same_tests false false f g = refl

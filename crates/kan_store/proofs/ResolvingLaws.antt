@@ -1,5 +1,5 @@
 -- The steps of solving disequalities anew.
-use Rattle.std.proofs.Common.{◌≡◌, ℕ, zero, suc, ◌+◌, ◌<◌, List, [], ◌∷◌, ◌++◌, map, drop, length, Option, Some, None, sym, ap, subst, refl, ◌∙◌, arith}
+use Rattle.std.proofs.Common.{◌≡◌, ℕ, suc, ◌+◌, ◌<◌, List, [], ◌∷◌, ◌++◌, map, drop, length, Option, Some, None, sym, ap, subst, refl, ◌∙◌, arith}
 use Rattle.std.proofs.Math.Seq.{drop-cons}
 use Rattle.std.specs.Prelude.{slice_index_or}
 use Rattle.std.specs.Option.{option_map, option_to_list}
@@ -12,6 +12,7 @@ use Rattle.unify_core.specs.Walking.{Pairs}
 use Rattle.unify_core.specs.Unifying.{Unifying}
 use Rattle.unify_core.specs.Laws.{added_equations}
 use Rattle.kan_store.specs.Parts.{Resolved}
+use Rattle.kan_store.proofs.MovingLaws.{none_left}
 
 abbrev pub equations_of : List (List TermPair) → List (List Equation)
 equations_of = map (map equation)
@@ -46,12 +47,6 @@ module _ (bound : Pairs) (xs : List (List TermPair)) (i : ℕ) (item : List Term
   open_on old new found shown same unify more before r d =
       subst (λ l. Resolved bound (equations_of xs) l) (sym (ap (λ l. equations_of l ++ r) more ∙ ap (λ l. l ++ r) (map-append (map equation) old (option_to_list found)) ∙ append_assoc (equations_of old) (equations_of (option_to_list found)) r))
       (before (equations_of (option_to_list found) ++ r) (one found r (subst (λ x. Unifying bound (map equation x) (option_map (λ made. map sides made) found)) same unify) d))
-
-none_left : (xs : List (List TermPair)) (i : ℕ) → (i < length xs → ⊥) → drop i xs ≡ []
-none_left [] zero past = refl
-none_left [] (suc i) past = refl
-none_left (x ∷ xs) zero past = absurd (past (omega arith))
-none_left (x ∷ xs) (suc i) past = none_left xs i (λ low. past (omega (arith, low)))
 
 pub open_done : (bound : Pairs) (xs left : List (List TermPair)) (i : ℕ) → (i < length xs → ⊥) → StillOpen bound xs i left → Resolved bound (equations_of xs) (equations_of left)
 open_done bound xs left i past before =

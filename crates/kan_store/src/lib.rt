@@ -1,5 +1,5 @@
-//! The parts of a solved store: bindings, types, absences and disequalities in step with what was
-//! asserted.
+//! The solved store: bindings, types, absences and disequalities that are kept in step with what
+//! was asserted.
 #![tactic(auto)]
 
 mod history;
@@ -7,6 +7,4 @@ mod moving;
 mod solved;
 mod store;
 
-pub use history::{History, Tells};
-pub use solved::{Solved, add, copied, unsolved};
-pub use store::{Held, SolvedStore};
+pub use store::SolvedStore;

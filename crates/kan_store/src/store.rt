@@ -1,4 +1,4 @@
-//! The solved store.
+//! The solved store: constraints that are solved as they come.
 
 ghost use Rattle.std.specs.Prelude.{◌≡◌, ◌^◌, ◌≤◌, ◌+◌, ◌++◌, ◌∷◌, [], true, map, IfOk, IsTrue, OnOk};
 ghost use Rattle.std.specs.Option.{option_to_list};
@@ -19,7 +19,7 @@ use std::alloc::Global;
 use std::sync::Arc;
 use unify_core::{walk, would_add};
 
-/// What a store holds. What was asserted takes no memory.
+/// What a store holds. Of what was asserted only the solved parts take memory.
 #[derive(Drop)]
 pub struct Held<B> {
     solved: Solved<B>,
@@ -27,7 +27,8 @@ pub struct Held<B> {
     history: History,
 }
 
-/// A store that keeps its constraints solved, behind one pointer.
+/// A store that keeps its constraints solved, behind one pointer. An equal store is one more count
+/// of the pointer, and what nobody else holds is changed in place.
 #[derive(Drop)]
 pub struct SolvedStore<B: Bindings> {
     held: Arc<Held<B>>,
@@ -51,7 +52,7 @@ impl<'a> Tells<Longer<'a>> for Behind {
     ghost prims = { λ longer. longer.older.now.prims ++ primitive longer.prim.now ∷ [] };
 }
 
-// What is held once more, with a counter.
+// What is held once more, with another counter. The trees are shared.
 fn copied_with<B: Bindings>(held: &Held<B>, counter: u64) -> Result<Held<B>, Memory>
     ensures same { IfOk result (λ copy. SameParts (parts_of B.pairs held.now.solved) (parts_of B.pairs copy.solved)) }
     ensures prims { IfOk result (λ copy. copy.history.prims ≡ held.now.history.prims) }
