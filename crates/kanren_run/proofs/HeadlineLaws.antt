@@ -15,4 +15,4 @@ text_means s text table program queries accepted q there = record {
 
 pub texts_mean : (l : Option Line) → TextsMean l
 texts_mean None = tt
-texts_mean (Some l) text = text_means (settings_of l) text
+texts_mean (Some l) = λ text. text_means (settings_of l) text

@@ -1,16 +1,21 @@
 -- Lines of the command that ask for no workers.
 use Rattle.std.proofs.Common.{◌≡◌, ◌≢◌, ℕ, zero, suc, List, Some, None, refl, sym, ap, ◌∙◌}
-use Rattle.std.specs.Prelude.{option_and_then}
+use Rattle.std.specs.Prelude.{Option, option_and_then}
 use Rattle.command_line.specs.Lines.{Line, line}
-use Rattle.kanren_run.specs.Commands.{if_alone, line_alone}
+use Rattle.kanren_run.specs.Commands.{alone, if_alone, line_alone}
 
--- a line that asks for no workers is one without workers
-pub alone_line : (words : List (List ℕ)) (l : Line) → Some l ≡ line words → l.workers ≡ 0 → Some l ≡ line_alone words
-alone_line words l e none = ap (λ w. if_alone w l) (sym none) ∙ ap (option_and_then (λ (x : Line). if_alone x.workers x)) e
+-- a line that asks for no workers
+pub alone_line : (words : List (List ℕ)) (l : Line) → line words ≡ Some l → l.workers ≡ 0 → line_alone words ≡ Some l
+alone_line words l e none = ap (option_and_then alone) e ∙ ap (λ w. if_alone w l) none
 
-pub with_workers : (words : List (List ℕ)) (l : Line) → Some l ≡ line words → l.workers ≢ 0 → None ≡ line_alone words
-with_workers words l e some = by l.workers refl ∙ ap (option_and_then (λ (x : Line). if_alone x.workers x)) e
+-- and one that asks for some
+pub with_workers : (words : List (List ℕ)) (l : Line) → line words ≡ Some l → l.workers ≢ 0 → line_alone words ≡ None
+with_workers words l e some = ap (option_and_then alone) e ∙ by l.workers refl
   where
-    by : (w : ℕ) → l.workers ≡ w → None ≡ if_alone w l
+    by : (w : ℕ) → l.workers ≡ w → if_alone w l ≡ None
     by zero is = absurd (some is)
     by (suc n) is = refl
+
+-- and words that are no line
+pub no_line : (words : List (List ℕ)) → line words ≡ None → line_alone words ≡ None
+no_line words e = ap (option_and_then alone) e

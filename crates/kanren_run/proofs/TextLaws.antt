@@ -1,15 +1,20 @@
 -- What becomes of a text: its program, or its refusal.
 use Rattle.std.proofs.Common.{◌≡◌, ◌≤◌, ℕ, Bool, true, false, List, [], ◌∷◌, map, length, None, Ok, Err, refl, sym, ap, subst, ◌∙◌, arith}
-use Rattle.std.specs.Prelude.{Some}
+use Rattle.std.specs.Prelude.{Some, Result, IsErrAnd, nat_le, ◌==◌}
 use Rattle.std.specs.Str.{is_utf8, chars}
+use Rattle.std.proofs.lemmas.Bool.Decides.{nat_tests}
 use Rattle.kan_terms.specs.Table.{Table, no_names}
-use Rattle.kan_grammar.specs.Data.Faults.{run, read_tokens, read_text, fault}
+use Rattle.kan_grammar.specs.Data.Faults.{Reading, data_are, refused, run, read_tokens, read_text, fault}
+use Rattle.kan_grammar.specs.Data.Written.{Written}
+use Rattle.kan_grammar.specs.Data.Builds.{build_datum, map_reading}
+use Rattle.kan_grammar.specs.Data.Enclosing.{as_written}
 use Rattle.kan_grammar.specs.Data.Tokens.{Placed, placed, tokens, tokens_from}
 use Rattle.kan_grammar.specs.Texts.TextNames.{GoesOn, with_prefixes, with_text_names, with_token, with_tokens, text_table}
 use Rattle.kan_grammar.specs.Texts.Reply.{Reply, reply, reply_to_data, unless_fault}
 use Rattle.kan_grammar.specs.Texts.ProgramText.{program_of_text, queries_of_text}
 use Rattle.kan_grammar.proofs.Texts.NameLaws.{goes_on_same, goes_on_further, extends_token, extends_prefixes}
-use Rattle.sexpr.specs.Seen.{written}
+use Rattle.sexpr.specs.Seen.{written, as_kept}
+use Rattle.sexpr.proofs.KeptLaws.{keeps_data}
 use Rattle.sexpr.specs.Reads.{Reads}
 use Rattle.sexpr.specs.declared.data.Datum.{Datum}
 use Rattle.sexpr.specs.declared.data.ReadError.{ReadError}
@@ -20,8 +25,13 @@ use Rattle.goal_syntax.specs.declared.refusal.SyntaxError.{SyntaxError}
 use Rattle.goal_syntax.specs.declared.refusal.SyntaxError.TheVariants as syntax
 use Rattle.goal_syntax.specs.declared.compiler.Compiled.{Compiled}
 use Rattle.goal_syntax.proofs.Compiling.LibraryLaws.{prefixes_again}
+use Rattle.goal_syntax.proofs.Compiling.OfTextLaws.{read_of_text}
+use Rattle.rel_library.specs.Library.{library}
+use Rattle.rel_library.specs.Accepted.{is_read}
+use Rattle.rel_library.proofs.LibraryReads.{library_reads}
 use Rattle.kanren_run.specs.Answers.{answer, IsRefused}
-use Rattle.kanren_run.specs.Replies.{HasRuns, LibraryRead, TextRead}
+use Rattle.kanren_run.specs.Replies.{ComesTo, HasRuns, LibraryRead, TextRead, wanting}
+use Rattle.kanren_run.specs.declared.text.NotRun.{NotRun}
 use Rattle.kanren_run.specs.Settings.{library_before}
 use Rattle.kanren_run.specs.declared.settings.Settings.{Settings}
 use Rattle.kanren_run.proofs.TagLaws.{bodies-named, queries-named}
@@ -52,8 +62,8 @@ goes_on_text table text =
     goes_on_further table (with_text_names table text) (with_prefixes (with_text_names table text)) (goes_on_tokens table (tokens text)) (extends_prefixes (with_text_names table text)).goes_on
 
 -- the library is read under the names of it and of a text behind it
-pub library_reads : (s : Settings) (text : List ℕ) (names : Table) (ls : List Datum) → LibraryRead s.library names ls → Reads (library_before s.library) (text_table (library_before s.library) text) (Ok ls)
-library_reads s text names ls h =
+pub library_read : (s : Settings) (text : List ℕ) (names : Table) (ls : List Datum) → LibraryRead s.library names ls → Reads (library_before s.library) (text_table (library_before s.library) text) (Ok ls)
+library_read s text names ls h =
     h.reads (text_table (library_before s.library) text) (subst (λ t. GoesOn t (text_table (library_before s.library) text)) (sym h.named) (goes_on_text (with_text_names no_names (library_before s.library)) text))
 
 -- what data that were read are answered with
@@ -68,14 +78,14 @@ to_data s text names ls ds h =
 pub reading_refused : (s : Settings) (text : List ℕ) (before names : Table) (ls : List Datum) (x : ReadError) (at number : ℕ) → LibraryRead s.library before ls →
     x ≡ reading.Fault at number → Reads text names (Err x) → IsRefused s text at number
 reading_refused s text before names ls x at number library is read =
-    replies_as_read (library_before s.library) text s.dialect ls (Err (reading.Fault at number)) (library_reads s text before ls library) (subst (λ y. Reads text names (Err y)) is read)
+    replies_as_read (library_before s.library) text s.dialect ls (Err (reading.Fault at number)) (library_read s text before ls library) (subst (λ y. Reads text names (Err y)) is read)
 
 -- a text that was read behind the library
 pub text_read : (s : Settings) (text : List ℕ) (before old : Table) (ls ds : List Datum) → LibraryRead s.library before ls → old ≡ with_text_names before text →
     Reads text (with_prefixes old) (Ok ds) → TextRead s text (with_prefixes old) ls ds
 text_read s text before old ls ds library numbered read =
     let same : text_table (library_before s.library) text ≡ with_prefixes old = ap with_prefixes (ap (λ t. with_text_names t text) (sym library.named) ∙ sym numbered) in
-    record { named = same; library = subst (λ t. Reads (library_before s.library) t (Ok ls)) same (library_reads s text before ls library); forms = read }
+    record { named = same; library = subst (λ t. Reads (library_before s.library) t (Ok ls)) same (library_read s text before ls library); forms = read }
 
 -- the symbols of the prefixes come once
 pub prefixes_same : (old new : Table) → new ≡ with_prefixes old → with_prefixes new ≡ with_prefixes old
@@ -128,4 +138,45 @@ data_refused s text old ls ds x at number same read found =
 
 -- the same of equal offsets and numbers
 pub refused_same : (s : Settings) (text : List ℕ) (a b m n : ℕ) → a ≡ b → m ≡ n → IsRefused s text a m → IsRefused s text b n
-refused_same s text a b m n p q refused = subst (λ at. IsRefused s text at n) p (subst (λ number. IsRefused s text a number) q refused)
+refused_same s text a b m n p q h = subst (λ at. IsRefused s text at n) p (subst (λ number. IsRefused s text a number) q h)
+
+-- want of memory says nothing, also where it is handed on
+pub wants_memory : (s : Settings) (text : List ℕ) (names : Table) (r : Result Compiled NotRun) (e : NotRun) → IsErrAnd r (λ x. x ≡ e) → e ≡ wanting → ComesTo s text names r
+wants_memory s text names (Ok c) e h is = absurd h
+wants_memory s text names (Err x) e h is = subst (λ y. ComesTo s text names (Err y)) (sym (h ∙ is)) tt
+
+-- the library is read without a fault
+pub reads_library : (at number : ℕ) (names : Table) (r : ReadError) → r ≡ reading.Fault at number → Reads library names (Err r) → ⊥
+reads_library at number names r is h = by (read_text as_written library) library_reads (sym (keeps_data library) ∙ subst (λ x. Reads library names (Err x)) is h)
+  where
+    by : (x : Reading Written) → is_read x ≡ true → map_reading (build_datum as_kept) x ≡ refused (fault at number) → ⊥
+    by (data_are ds) read e = cc
+    by (refused f) read e = cc
+
+-- and so are its data
+pub library_is_read : (library_on : Bool) (old names : Table) (ls : List Datum) → library_on ≡ true → old ≡ no_names → names ≡ with_text_names old library →
+    ((later : Table) → GoesOn names later → Reads library later (Ok ls)) → LibraryRead library_on names ls
+library_is_read library_on old names ls on empty numbered reads = rw on (record { named = numbered ∙ ap (λ t. with_text_names t library) empty; reads = reads })
+
+library_measured : nat_le (length library) 1048576 ≡ true
+unfolding library
+library_measured = refl
+
+library_short : length library ≤ 1048576
+library_short = grind (arith, nat_tests, library_measured)
+
+-- the data of the library are those of a text
+pub of_library : (names later : Table) (library_on : Bool) (ls : List Datum) → LibraryRead library_on names ls → GoesOn names later → AreOfText (with_prefixes later) ls
+of_library names later library_on ls read further = by library_on refl
+  where
+    by : (b : Bool) → library_on ≡ b → AreOfText (with_prefixes later) ls
+    by b is = read_of_text names later (library_before b) ls (short b) further (subst (λ x. (t : Table) → GoesOn names t → Reads (library_before x) t (Ok ls)) is read.reads)
+      where
+        short : (x : Bool) → length (library_before x) ≤ 1048576
+        short true = omega (arith, library_short)
+        short false = omega arith
+
+-- no data are those of nothing
+pub none_of : (ds : List Datum) → (length ds == 0) ≡ true → ds ≡ []
+none_of [] h = refl
+none_of (d ∷ ds) h = absurd (grind (arith, nat_tests))

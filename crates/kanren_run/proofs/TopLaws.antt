@@ -68,3 +68,6 @@ stops_as text old new a b is stops = subst (Stops text old new) is stops
 
 pub refused_as : (s : Settings) (text : List ℕ) (names : Table) (x : NotRun) (f : refusals.Fault) → x ≡ not_run.Fault f → ComesTo s text names (Err x) → IsRefused s text f.at f.number
 refused_as s text names x f is comes = subst (λ y. ComesTo s text names (Err y)) is comes
+
+pub refused_also : (s : Settings) (text : List ℕ) (f g : refusals.Fault) → f ≡ g → IsRefused s text f.at f.number → IsRefused s text g.at g.number
+refused_also s text f g is h = subst (λ (x : refusals.Fault). IsRefused s text x.at x.number) is h

@@ -1,5 +1,5 @@
 -- The words of the call that runs without workers.
-use Rattle.std.specs.Prelude.{ℕ, zero, suc, Bool, List, Option, Some, None, is_some, option_and_then}
+use Rattle.std.specs.Prelude.{ℕ, zero, suc, List, Option, Some, None, option_and_then}
 use Rattle.command_line.specs.Lines.{Line, line}
 
 -- a line that asks for no workers
@@ -13,7 +13,3 @@ alone l = if_alone l.workers l
 -- the line that words are, where they are one that asks for no workers
 abbrev pub line_alone : List (List ℕ) → Option Line
 line_alone words = option_and_then alone (line words)
-
--- the words are such a line
-abbrev pub is_command : List (List ℕ) → Bool
-is_command words = is_some (line_alone words)

@@ -1,5 +1,5 @@
 -- What a call of the program did, by its status.
-use Rattle.std.specs.Prelude.{◌≡◌, ℕ, Bool, List, Option, Some, None, true, false, not, ⊤}
+use Rattle.std.specs.Prelude.{◌≡◌, ℕ, Bool, List, Option, Some, None, true, false, ⊤}
 use Rattle.std.specs.Io.KnownBytes.{Appends}
 use Rattle.kan_base.specs.Faults.{one_more}
 use Rattle.kan_base.specs.Views.{SinkView}
@@ -7,7 +7,7 @@ use Rattle.kan_base.specs.Writes.{PutsFront}
 use Rattle.kan_base.specs.declared.status.Status.{Status}
 use Rattle.kan_base.specs.declared.status.Status.TheVariants.{Done, Fuel, Usage, Text, ReadFault, WriteFault, TooLong, Memory}
 use Rattle.command_line.specs.Lines.{Line}
-use Rattle.kanren_run.specs.Commands.{line_alone, is_command}
+use Rattle.kanren_run.specs.Commands.{line_alone}
 use Rattle.kanren_run.specs.Settings.{settings_of}
 use Rattle.kanren_run.specs.Origins.{Origin, origin_of, Ends, GetsWhole, GetsAtMost, GetsTooMuch, IsThere}
 use Rattle.kanren_run.specs.Answers.{answer_bytes, Runs, IsRefused}
@@ -49,16 +49,17 @@ PutNothing e = e.sink_after.put ≡ e.sink.put
 abbrev pub PutSome : Origin → Settings → Ends → Type 0
 PutSome o s e = (text : List ℕ) × GetsWhole o e text × PutFront s text e.sink.put e.sink_after.put
 
--- Want of memory: nothing was put, and the text was read as far as memory went; or it was got whole,
--- and a front of what is written for it was put.
-pub data WantedMemory (o : Origin) (s : Settings) (e : Ends) : Type 0 where
-  before : PutNothing e → GetsAtMost o e → WantedMemory o s e
-  while_writing : PutSome o s e → WantedMemory o s e
-
 -- the source and the sink are as they were
 pub record Untouched (e : Ends) : Type 0 where
   pub source : e.source_after ≡ e.source
   pub sink : e.sink_after ≡ e.sink
+
+-- Want of memory: nothing was done; or nothing was put, and the text was read as far as memory went;
+-- or it was got whole, and a front of what is written for it was put.
+pub data WantedMemory (o : Origin) (s : Settings) (e : Ends) : Type 0 where
+  at_once : Untouched e → WantedMemory o s e
+  before : PutNothing e → GetsAtMost o e → WantedMemory o s e
+  while_writing : PutSome o s e → WantedMemory o s e
 
 -- the status of words that are no line of the command
 abbrev pub is_usage : Status → Bool
@@ -115,17 +116,27 @@ pub record IsFaithfulAt (o : Origin) (s : Settings) (e : Ends) (status : Status)
   pub counts : CountsFaults e status
   pub complete : IsComplete o s e status
 
+-- the statuses of words that are no line of the command: that they are none, or want of memory
+abbrev pub says_no_line : Status → Bool
+says_no_line Usage = true
+says_no_line Memory = true
+says_no_line s = false
+
+-- what is said of a call whose words are no line of the command
+pub record IsNoLine (e : Ends) (status : Status) : Type 0 where
+  pub untouched : Untouched e
+  pub told : says_no_line status ≡ true
+
 -- what is said of a call by the line that its words are, if they are one
 abbrev pub IsFaithfulTo : Option Line → Ends → Status → Type 0
 IsFaithfulTo (Some l) e status = IsFaithfulAt (origin_of l) (settings_of l) e status
-IsFaithfulTo None e status = Untouched e × (status ≡ Usage)
+IsFaithfulTo None e status = IsNoLine e status
 
--- What is said of a call: where its words are a line of the command, its outcome by its status, how
--- many calls of its ends failed, and that it has the answer of the text where none did; that the
--- status is Usage exactly where they are none, and that all is then as it was.
-pub record IsFaithful (call : Call) : Type 0 where
-  pub faithful : IsFaithfulTo (line_alone call.words) call.ends call.status
-  pub usage : is_usage call.status ≡ not (is_command call.words)
+-- What is said of a call. Where its words are a line of the command: its outcome by its status, which
+-- isn't Usage; how many calls of its ends failed; and that it has the answer of the text where none
+-- did. Where they are none: the status is Usage, or memory was wanting, and all is as it was.
+abbrev pub IsFaithful : Call → Type 0
+IsFaithful call = IsFaithfulTo (line_alone call.words) call.ends call.status
 
 -- nothing was put, or a front of what is written for a text
 pub data Wanted (s : Settings) (text : List ℕ) (put after : Option (List ℕ)) : Type 0 where

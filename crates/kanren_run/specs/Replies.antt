@@ -17,6 +17,10 @@ use Rattle.kanren_run.specs.declared.settings.Settings.{Settings}
 use Rattle.kanren_run.specs.declared.text.NotRun.{NotRun}
 use Rattle.kanren_run.specs.declared.text.NotRun.TheVariants.{Fault, Memory}
 
+-- want of memory
+abbrev pub wanting : NotRun
+wanting = Memory
+
 -- A program of the code has the relations of an accepted text, its queries are the text's runs, and
 -- they may be run.
 pub record HasRuns (s : Settings) (text : List ℕ) (names : Table) (program : Program) (queries : List Query) : Type 0 where
@@ -37,7 +41,7 @@ pub record LibraryRead (library : Bool) (names : Table) (ds : List Datum) : Type
   pub reads : (later : Table) → GoesOn names later → Reads (library_before library) later (Ok ds)
 
 -- a text and the library in front of it were read under all their names
-pub record TextRead (s : Settings) (text : List ℕ) (names : Table) (library forms : List Datum) : Type 0 where
+pub record TextRead (s : Settings) (text : List ℕ) (names : Table) (ls ds : List Datum) : Type 0 where
   pub named : text_table (library_before s.library) text ≡ names
-  pub library : Reads (library_before s.library) names (Ok library)
-  pub forms : Reads text names (Ok forms)
+  pub library : Reads (library_before s.library) names (Ok ls)
+  pub forms : Reads text names (Ok ds)

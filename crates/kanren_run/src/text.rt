@@ -5,13 +5,13 @@ ghost use Rattle.std.specs.Prelude.{IfOk, OnOk};
 ghost use Rattle.kan_terms.specs.Table.{no_names};
 ghost use Rattle.kan_grammar.specs.Texts.TextNames.{Extends, with_prefixes};
 ghost use Rattle.goal_syntax.specs.Compiling.Compiles.{AreOfText, IsAcceptedAlone};
-ghost use Rattle.kanren_run.specs.Replies.{ComesTo, LibraryRead, TextRead};
+ghost use Rattle.kanren_run.specs.Replies.{ComesTo, LibraryRead, TextRead, wanting};
 
 use crate::refusal::Fault;
 use crate::settings::Settings;
 use goal_syntax::{Compiled, SyntaxError, compile};
 use kan_grammar::Dialect;
-use kan_terms::Names;
+use kan_terms::{Memory, Names};
 use rel_library::library_text;
 use sexpr::{Data, Datum, ReadError, read};
 use std::alloc::Global;
@@ -25,10 +25,18 @@ pub(crate) enum NotRun {
     Memory,
 }
 
+impl From<Memory> for NotRun {
+    ghost from_gives = { λ _ e. e ≡ wanting };
+
+    fn from(_refused: Memory) -> NotRun {
+        NotRun::Memory
+    }
+}
+
 // Reads the library, where it is asked for. It has no fault.
-fn library_data(alloc: Global, library: bool, names: &mut Names) -> Result<Data, NotRun>
+fn library_data(alloc: Global, library: bool, names: &mut Names) -> Result<Data, Memory>
     requires empty { names.old ≡ no_names }
-    ensures read { IfOk result (λ data. LibraryRead library names.new data) }
+    ensures read { IfOk result (λ found. LibraryRead library names.new found) }
     ensures few { OnOk result (Extends 1048576 names.old names.new) }
 {
     if !library {
@@ -37,7 +45,7 @@ fn library_data(alloc: Global, library: bool, names: &mut Names) -> Result<Data,
     match read(alloc, library_text().as_bytes(), names) {
         Ok(data) => Ok(data),
         Err(ReadError::Fault(_, _)) => unreachable!(),
-        Err(ReadError::Memory) => Err(NotRun::Memory),
+        Err(ReadError::Memory) => Err(Memory),
     }
 }
 
@@ -57,7 +65,7 @@ fn are_library(
     library: &[Datum],
     names: &mut Names,
     dialect: Dialect,
-) -> Result<bool, NotRun>
+) -> Result<bool, Memory>
     requires names { length names.old.symbols + 3 < 2 ^ 32 }
     requires few { length library.now < 2 ^ 32 }
     requires texts { AreOfText (with_prefixes names.old) library.now }
@@ -67,7 +75,7 @@ fn are_library(
 {
     match compile(alloc, &[], library, names, dialect) {
         Ok(compiled) => Ok(compiled.queries.is_empty()),
-        Err(_) => Err(NotRun::Memory),
+        Err(_) => Err(Memory),
     }
 }
 

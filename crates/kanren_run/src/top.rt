@@ -1,10 +1,9 @@
 //! The top call: from a source of bytes to a sink.
 
-ghost use Rattle.std.specs.Prelude.{◌≡◌, ◌≤◌, length, List, ℕ, IfSome, option_map};
+ghost use Rattle.std.specs.Prelude.{◌≡◌, ◌≤◌, length, List, ℕ, IfOk};
 ghost use Rattle.kan_base.specs.Spots.{spot};
-ghost use Rattle.command_line.specs.Asked.{line_seen};
+ghost use Rattle.command_line.specs.Asked.{Reads, line_asked};
 ghost use Rattle.command_line.specs.Lines.{IsInRange, texts};
-ghost use Rattle.command_line.specs.Seen.{text_of};
 ghost use Rattle.rel_library.specs.Loads.{greatest_load, load};
 ghost use Rattle.kan_terms.specs.Table.{no_names};
 ghost use Rattle.kanren_run.specs.Answers.{IsRefused};
@@ -22,7 +21,7 @@ use crate::refusal::{Fault, fault_line};
 use crate::settings::Settings;
 use crate::text::{NotRun, compile_text};
 use crate::writing::{Stop, write_runs};
-use command_line::{Line, read_line};
+use command_line::{Name, Options, WordsFault, read_words};
 use goal_syntax::Compiled;
 use kan_base::{Place, Sink, Source, Status, TextStop, put_all, take_text};
 use kan_store::SolvedStore;
@@ -56,63 +55,68 @@ pub fn kanren_alone<S: Source, K: Sink>(
     // What the answers mean that are written for an accepted text.
     ensures means { TextsMean (commands.line_alone (texts words.now)) }
 {
-    match line_alone(words) {
-        Some(line) => answer_line(alloc, line, source, sink),
-        None => Status::Usage,
+    match read_alone(alloc, words) {
+        Ok(options) => answer_options(alloc, &options, source, sink),
+        Err(WordsFault::Usage) => Status::Usage,
+        Err(WordsFault::Memory) => Status::Memory,
     }
 }
 
-// The line of the command that words are, where they are one that asks for no workers.
-fn line_alone<'a>(words: &[&'a str]) -> Option<Line<'a>>
-    ensures is { option_map line_seen result ≡ commands.line_alone (texts words.now) }
-    ensures range { IfSome result (λ line. IsInRange (line_seen line)) }
+// The options that words ask for, where they are a line of the command that asks for no workers.
+fn read_alone(alloc: Global, words: &[&str]) -> Result<Options, WordsFault>
+    ensures reads { Reads (commands.line_alone (texts words.now)) result }
+    ensures range { IfOk result (λ options. IsInRange (line_asked options)) }
 {
-    let line = read_line(words)?;
-    if line.workers == 0 { Some(line) } else { None }
+    let options = read_words(alloc, words)?;
+    if options.workers == 0 {
+        Ok(options)
+    } else {
+        Err(WordsFault::Usage)
+    }
 }
 
 // The place of a file's name, where none is standard input.
-fn place_of(file: Option<&str>) -> Place<'_>
-    ensures { spot result ≡ spot_of (text_of file.entry) }
+fn place_of(file: &Option<Name>) -> Place<'_>
+    ensures { spot result ≡ spot_of file.now }
 {
     match file {
-        Some(name) => Place::File(name),
+        Some(name) => Place::File(name.text()),
         None => Place::Input,
     }
 }
 
-// What a line asks for of the answering of its text.
-fn settings_of(line: Line<'_>) -> Settings
-    ensures { result ≡ settings.settings_of (line_seen line) }
+// What options ask for of the answering of their text.
+fn settings_of(options: &Options) -> Settings
+    ensures { result ≡ settings.settings_of (line_asked options.now) }
 {
     Settings {
-        library: line.library,
-        dialect: line.dialect,
-        fuel: u64::from(line.fuel),
-        round: line.round,
+        library: options.library,
+        dialect: options.dialect,
+        fuel: options.fuel,
+        round: options.round,
     }
 }
 
-// Answers the text that a line asks for.
-fn answer_line<S: Source, K: Sink>(
+// Answers the text that options ask for.
+fn answer_options<S: Source, K: Sink>(
     alloc: Global,
-    line: Line<'_>,
+    options: &Options,
     source: &mut S,
     sink: &mut K,
 ) -> Status
-    requires { IsInRange (line_seen line) }
-    ensures { IsFaithfulAt (origin_of (line_seen line)) (settings.settings_of (line_seen line))
-        (record {
+    requires { IsInRange (line_asked options.now) }
+    ensures { IsFaithfulAt (origin_of (line_asked options.now))
+        (settings.settings_of (line_asked options.now)) (record {
           source = S.view source.old;
           source_after = S.view source.new;
           sink = K.view sink.old;
           sink_after = K.view sink.new;
         }) result }
 {
-    let settings = settings_of(line);
-    match line.load {
+    let settings = settings_of(options);
+    match options.load {
         Some(number) => answer_load(alloc, number, settings, sink),
-        None => answer_place(alloc, place_of(line.file), settings, source, sink),
+        None => answer_place(alloc, place_of(&options.file), settings, source, sink),
     }
 }
 
