@@ -1,8 +1,7 @@
 -- A test of loads, which computes.
-use Rattle.std.proofs.Common.{◌≡◌, ◌∙◌, ◌+◌, ◌<◌, ◌≤◌, ◌^◌, ◌&&◌, true≢false, ℕ, zero, suc, Bool, true, false, List, [], ◌∷◌, ◌++◌, Option, Some, None, codes, refl, sym, ap, ap₂, subst, inl, inr, arith}
+use Rattle.std.proofs.Common.{◌≡◌, ◌+◌, ◌<◌, ◌≤◌, ◌&&◌, true≢false, ℕ, zero, suc, Bool, true, false, List, [], ◌∷◌, ◌++◌, Option, Some, None, codes, refl, sym, ap, ap₂, subst, inl, inr, arith}
 use Rattle.std.specs.Prelude.{◌⊎◌}
 use Rattle.std.proofs.lemmas.Bool.{cases_lt}
-use Rattle.std.specs.Fmt.{decimal}
 use Rattle.kan_model.specs.Answers.Decimals.{decimal_text}
 use Rattle.kan_model.proofs.Answering.DecimalLaws.{decimal_as_printed}
 use Rattle.kan_grammar.specs.Data.Enclosing.{as_written}
@@ -13,7 +12,7 @@ use Rattle.kan_grammar.specs.Texts.TextFaults.{fault_of_text}
 use Rattle.kan_grammar.specs.Texts.TextNames.{text_table}
 use Rattle.rel_library.specs.Library.{library, text_of_lines}
 use Rattle.rel_library.specs.Loads.{gap, numbers_below, turns_line, load}
-use Rattle.rel_library.specs.Accepted.{library_data, load_data, LoadIsAccepted}
+use Rattle.rel_library.specs.Accepted.{library_data, LoadIsAccepted}
 
 -- the load of a number, its decimals as they compute
 abbrev pub numbers_text : ℕ → List ℕ

@@ -23,7 +23,8 @@ library_data = data_of (read_text as_written library)
 abbrev pub library_table : Table
 library_table = with_text_names (with_prefixes no_names) library
 
--- the library has no fault and no run under each table of names that goes on from its own, in both dialects
+-- the library has no fault and no run under each table of names that goes on from its own, in both
+-- dialects
 abbrev pub LibraryServes : Type 0
 LibraryServes = (table : Table) → GoesOn library_table table → IsLibrary table library_data
 

@@ -1,5 +1,5 @@
-//! The laws that the library may stand before every text, and that loads are accepted behind it. Each
-//! function has its law for its contract, and does nothing.
+//! The laws that the library may stand before every text, and that loads are accepted behind it.
+//! Each function has its law for its contract, and does nothing.
 
 ghost use Rattle.rel_library.specs.Accepted.{LibraryServes, LoadsAreAccepted};
 
