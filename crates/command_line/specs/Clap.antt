@@ -11,20 +11,30 @@ abbrev pub option_rule : Text → Rule
 option_rule name = record (new_rule name) { long = Some name; action = Some Set }
 
 abbrev pub library_rule : Rule
-library_rule = record (new_rule (codes "lib")) { long = Some (codes "lib"); action = Some Set; range = Some (record { start_inclusive = 0; end_inclusive = 0 }); missing = codes "true" ∷ [] }
+library_rule = record (new_rule (codes "lib")) {
+  long = Some (codes "lib");
+  action = Some Set;
+  range = Some (record { start_inclusive = 0; end_inclusive = 0 });
+  missing = codes "true" ∷ [];
+}
 
 abbrev pub file_rule : Rule
 file_rule = record (new_rule (codes "file")) { action = Some Set }
 
 abbrev pub bare_app : App
-bare_app = record (new_app (codes "kanren")) { top = record (new_app (codes "kanren")).top { no_binary_name = true; disable_help_flag = true } }
+bare_app = record (new_app (codes "kanren")) {
+  top = record (new_app (codes "kanren")).top { no_binary_name = true; disable_help_flag = true };
+}
 
 -- with the options that take numbers and are none of a load, and with all that take a value
 abbrev pub numbers_app : App
-numbers_app = with_rule (with_rule (with_rule (with_rule bare_app (option_rule (codes "workers"))) (option_rule (codes "fuel"))) (option_rule (codes "ahead"))) (option_rule (codes "round"))
+numbers_app = with_rule (with_rule (with_rule (with_rule bare_app
+    (option_rule (codes "workers"))) (option_rule (codes "fuel")))
+    (option_rule (codes "ahead"))) (option_rule (codes "round"))
 
 abbrev pub values_app : App
-values_app = with_rule (with_rule numbers_app (option_rule (codes "dialect"))) (option_rule (codes "gen"))
+values_app = with_rule (with_rule numbers_app
+    (option_rule (codes "dialect"))) (option_rule (codes "gen"))
 
 -- with the option for the library, and the file
 abbrev pub app : App

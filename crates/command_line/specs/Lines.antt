@@ -1,11 +1,14 @@
 -- The lines of the command: what the words ask for.
-use Rattle.std.specs.Prelude.{◌≡◌, ◌≤◌, ℕ, Bool, true, false, nat_le, ◌&&◌, ◌||◌, List, [], ◌∷◌, Option, Some, None, codes, bytes_eq, is_some, option_and_then, option_map, if◌then◌else◌}
+use Rattle.std.specs.Prelude.{◌≡◌, ◌≤◌, ℕ, Bool, true, false, nat_le, ◌&&◌, ◌||◌, if◌then◌else◌}
+use Rattle.std.specs.Prelude.{List, [], ◌∷◌, Option, Some, None, codes, bytes_eq}
+use Rattle.std.specs.Prelude.{is_some, option_and_then, option_map}
 use Rattle.std.specs.Borrow.{Bor}
 use Rattle.std.specs.Str.Parse.{digits_value}
 use Rattle.kan_grammar.specs.Data.Words.{all_digits}
 use Rattle.kan_grammar.specs.declared.dialect.Dialect.{Dialect}
 use Rattle.kan_grammar.specs.declared.dialect.Dialect.TheVariants.{Book, All}
-use Rattle.command_line.specs.Parts.{Text, Part, setting, library, file, parts, Setting, Workers, Fuel, Ahead, Round, Gen}
+use Rattle.command_line.specs.Parts.{Text, Part, setting, library, file, parts}
+use Rattle.command_line.specs.Parts.{Setting, Workers, Fuel, Ahead, Round, Gen}
 use Rattle.command_line.specs.Parts as named
 
 -- what was given: the values of options, whether the library was, and the name of the file
@@ -20,7 +23,16 @@ pub record Given : Type 0 where
   pub file : Option Text
 
 abbrev pub nothing_given : Given
-nothing_given = record { workers = None; fuel = None; ahead = None; round = None; dialect = None; gen = None; lib = false; file = None }
+nothing_given = record {
+  workers = None;
+  fuel = None;
+  ahead = None;
+  round = None;
+  dialect = None;
+  gen = None;
+  lib = false;
+  file = None;
+}
 
 -- what may be given once, and wasn't
 abbrev pub once : Option Text → Given → Option Given
@@ -56,7 +68,8 @@ in_range low high n = if nat_le low n && nat_le n high then Some n else None
 -- the number that a text is: one or more digits, and in the range
 abbrev pub number_in : ℕ → ℕ → Text → Option ℕ
 number_in low high [] = None
-number_in low high (d ∷ ds) = if all_digits (d ∷ ds) then in_range low high (digits_value 10 (d ∷ ds)) else None
+number_in low high (d ∷ ds) =
+    if all_digits (d ∷ ds) then in_range low high (digits_value 10 (d ∷ ds)) else None
 
 -- the number that is asked for
 abbrev pub number_asked : ℕ → ℕ → ℕ → Option Text → Option ℕ
@@ -69,7 +82,9 @@ load_asked None = Some None
 load_asked (Some text) = option_map Some (number_in 0 400 text)
 
 abbrev pub dialect_of : Text → Option Dialect
-dialect_of text = if bytes_eq text (codes "book") then Some Book else if bytes_eq text (codes "all") then Some All else None
+dialect_of text =
+    if bytes_eq text (codes "book") then Some Book
+    else if bytes_eq text (codes "all") then Some All else None
 
 abbrev pub dialect_asked : Option Text → Option Dialect
 dialect_asked None = Some Book
@@ -99,14 +114,26 @@ pub record Line : Type 0 where
   pub file : Option Text
 
 -- the parts that are asked for, where all of them are there; a load uses the library
-abbrev pub line_of : Option ℕ → Option ℕ → Option ℕ → Option ℕ → Bool → Option (Option ℕ) → Option Dialect → Option (Option Text) → Option Line
-line_of (Some workers) (Some fuel) (Some ahead) (Some round) lib (Some load) (Some dialect) (Some place) =
-    Some (record { workers = workers; fuel = fuel; ahead = ahead; round = round; library = lib || is_some load; load = load; dialect = dialect; file = place })
+abbrev pub line_of : Option ℕ → Option ℕ → Option ℕ → Option ℕ → Bool → Option (Option ℕ)
+    → Option Dialect → Option (Option Text) → Option Line
+line_of (Some workers) (Some fuel) (Some ahead) (Some round) lib (Some load) (Some dialect)
+    (Some place) = Some (record {
+      workers = workers;
+      fuel = fuel;
+      ahead = ahead;
+      round = round;
+      library = lib || is_some load;
+      load = load;
+      dialect = dialect;
+      file = place;
+    })
 line_of w f a r lib l d p = None
 
 -- the line that is asked for
 abbrev pub asked : Given → Option Line
-asked g = line_of (number_asked 0 0 64 g.workers) (number_asked 100000 1 1000000 g.fuel) (number_asked 256 1 65536 g.ahead) (number_asked 8192 1 65536 g.round) g.lib (load_asked g.gen) (dialect_asked g.dialect) (file_asked (is_some g.gen) g.file)
+asked g = line_of (number_asked 0 0 64 g.workers) (number_asked 100000 1 1000000 g.fuel)
+    (number_asked 256 1 65536 g.ahead) (number_asked 8192 1 65536 g.round) g.lib
+    (load_asked g.gen) (dialect_asked g.dialect) (file_asked (is_some g.gen) g.file)
 
 -- the line of the command that words are, where they are one
 unfoldable pub line : List Text → Option Line

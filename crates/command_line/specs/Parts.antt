@@ -1,11 +1,14 @@
 -- What the words of a command line are, one after another: options, flags and files.
-use Rattle.std.specs.Prelude.{ℕ, Bool, true, false, ◌==◌, List, [], ◌∷◌, Option, Some, None, map, option_map, codes, bytes_eq, if◌then◌else◌}
+use Rattle.std.specs.Prelude.{ℕ, Bool, true, false, ◌==◌, List, [], ◌∷◌, Option, Some, None}
+use Rattle.std.specs.Prelude.{map, option_map, codes, bytes_eq, if◌then◌else◌}
 use Rattle.std.specs.List.{list_any, before_first, after_first}
 
 abbrev pub Text : Type 0
 Text = List ℕ
 
--- how a word is spelled: the two dashes that end the options; a name behind two dashes, maybe with a value behind the first equals sign; any other word that begins with a dash and goes on; and every other word, of which one is the dash alone
+-- how a word is spelled: the two dashes that end the options; a name behind two dashes, maybe with a
+-- value behind the first equals sign; any other word that begins with a dash and goes on; and every
+-- other word, of which one is the dash alone
 pub data Spelling : Type 0 where
   end : Spelling
   named : Text → Option Text → Spelling
@@ -82,8 +85,10 @@ pub data Part : Type 0 where
 abbrev pub with_part : Part → Option (List Part) → Option (List Part)
 with_part p rest = option_map (λ ps. p ∷ ps) rest
 
--- an option by its name, with the value that its word has, and what follows, where an option may await its value
-abbrev pub named_part : Option Setting → Bool → Option Text → (Option Setting → Option (List Part)) → Option (List Part)
+-- an option by its name, with the value that its word has, and what follows, where an option may
+-- await its value
+abbrev pub named_part : Option Setting → Bool → Option Text
+    → (Option Setting → Option (List Part)) → Option (List Part)
 named_part (Some s) lib None go = go (Some s)
 named_part (Some s) lib (Some v) go = with_part (setting s v) (go None)
 named_part None true None go = with_part library (go None)
@@ -91,9 +96,11 @@ named_part None true (Some v) go = None
 named_part None false value go = None
 
 -- a word where an option or a file may stand
-abbrev pub part_at : Spelling → Text → List Text → (Option Setting → Option (List Part)) → Option (List Part)
+abbrev pub part_at : Spelling → Text → List Text
+    → (Option Setting → Option (List Part)) → Option (List Part)
 part_at end word rest go = Some (map file rest)
-part_at (named name value) word rest go = named_part (setting_named name) (names_library name) value go
+part_at (named name value) word rest go =
+    named_part (setting_named name) (names_library name) value go
 part_at dashed word rest go = None
 part_at plain word rest go = with_part (file word) (go None)
 

@@ -3,8 +3,7 @@
 ghost use Rattle.std.specs.Prelude.{◌≡◌};
 
 use crate::fault::WordsFault;
-use std::env;
-use std::io;
+use std::{env, io};
 
 // The fault of words that can't be had.
 fn fault_of_words(error: &io::Error) -> WordsFault {

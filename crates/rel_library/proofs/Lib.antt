@@ -1,3 +1,11 @@
 pub mod LoadLaws
 pub mod LibraryReads
 pub mod LibraryFaultless
+pub mod LoadTests
+pub mod LoadsBelow120
+pub mod LoadsBelow200
+pub mod LoadsBelow270
+pub mod LoadsBelow320
+pub mod LoadsBelow360
+pub mod LoadsTo400
+pub mod AcceptedLoads

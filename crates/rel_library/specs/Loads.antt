@@ -19,7 +19,8 @@ numbers_below (suc n) = numbers_below n ++ gap n ++ decimal n
 
 -- all splits of the list, and in each a look for a symbol that isn't there
 abbrev pub splits_line : ℕ → List ℕ
-splits_line n = codes "(run* q (fresh (x y) (appendo x y '(" ++ numbers_below n ++ codes ")) (membero 'none x)))"
+splits_line n = codes "(run* q (fresh (x y) (appendo x y '(" ++ numbers_below n
+    ++ codes ")) (membero 'none x)))"
 
 -- four answers of two relations that always hold
 abbrev pub turns_line : List ℕ

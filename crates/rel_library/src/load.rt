@@ -9,7 +9,8 @@ use std::alloc::Global;
 
 // Adds a number to a list of numbers that has as many already.
 fn add_number(number: u32, list: &mut String) -> Result<(), Memory>
-    ensures { OnOk result (string_bytes list.new ≡ string_bytes list.old ++ gap number ++ decimal number) }
+    ensures { OnOk result
+        (string_bytes list.new ≡ string_bytes list.old ++ gap number ++ decimal number) }
 {
     if number > 0 {
         list.push_str(" ")?;
