@@ -1,20 +1,11 @@
-//! The command `kanren`: it reads a text on standard input and writes the answers of its runs.
+//! The command `kanren`: it gets the text that its words ask for and writes the answers of its runs.
 #![tactic(auto)]
 
+use command_line::{WordsFault, process_words};
 use kan_base::{Status, StdSink, StdSource};
 use kanren_run::{complaint, kanren_alone};
 use std::alloc::{AllocError, Global};
-use std::env;
 use std::process::ExitCode;
-
-// The words after the program's name.
-fn words(rt: &HostRuntime) -> Option<Vec<String>> {
-    let mut words = Vec::new(rt.alloc());
-    for word in env::args(rt).ok()?.skip(1) {
-        words.push(word).ok()?;
-    }
-    Some(words)
-}
 
 // The words as they are lent to the call.
 fn lent(alloc: Global, words: &[String]) -> Result<Vec<&str>, AllocError> {
@@ -25,7 +16,7 @@ fn lent(alloc: Global, words: &[String]) -> Result<Vec<&str>, AllocError> {
     Ok(lent)
 }
 
-// Runs the text on standard input.
+// Runs the text that the words ask for.
 fn run(rt: &HostRuntime, words: &[&str]) -> Status {
     let mut source = StdSource::new(*rt);
     let mut sink = StdSink::new(*rt);
@@ -41,9 +32,10 @@ fn run_words(rt: &HostRuntime, words: &[String]) -> Status {
 }
 
 fn main(rt: HostRuntime) -> ExitCode {
-    let status = match words(&rt) {
-        Some(words) => run_words(&rt, &words),
-        None => Status::Memory,
+    let status = match process_words(&rt) {
+        Ok(words) => run_words(&rt, &words),
+        Err(WordsFault::Usage) => Status::Usage,
+        Err(WordsFault::Memory) => Status::Memory,
     };
     if let Some(line) = complaint(status) {
         let _ = eprintln!(rt; "{line}");

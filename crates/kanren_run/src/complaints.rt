@@ -6,7 +6,8 @@ ghost use Rattle.kanren_run.specs.Complaints as complaints;
 use kan_base::Status;
 
 // The form of the command.
-const USAGE: &str = "usage: kanren [--workers N] [--fuel N] [--ahead N] [--round N] [--dialect D] [--lib] [--gen N] [FILE]";
+const USAGE: &str =
+    "usage: kanren [--workers N] [--fuel N] [--ahead N] [--round N] [--dialect D] [--lib] [--gen N] [FILE]";
 
 /// The line that the program writes on standard error, where a status has one.
 pub fn complaint(status: Status) -> Option<&'static str>

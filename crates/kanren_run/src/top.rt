@@ -185,7 +185,14 @@ fn answer_runs<K: Sink>(
         → WritesReply settings text (K.view sink.old) (K.view sink.new) result }
 {
     let Compiled { program, queries } = compiled;
-    match write_runs::<K, SolvedStore<TreeBindings>>(alloc, program, queries.items(), settings, names, sink) {
+    match write_runs::<K, SolvedStore<TreeBindings>>(
+        alloc,
+        program,
+        queries.items(),
+        settings,
+        names,
+        sink,
+    ) {
         Ok(false) => Status::Done,
         Ok(true) => Status::Fuel,
         Err(Stop::Fault) => Status::WriteFault,

@@ -163,8 +163,13 @@ fn write_query<K: Sink, St: Store>(
     ensures puts { Puts (taken_text names.now (take_query (programs.meaning program.now) settings.fuel (query_of program.now query.now))) (K.view sink.old) (K.view sink.new) result }
     ensures ended { IfOk result (λ ended. ending_of ended ≡ (take_query (programs.meaning program.now) settings.fuel (query_of program.now query.now)).ending) }
 {
-    let mut search: Search<St> = 
-        Search::open(alloc, program, query, settings.fuel, settings.round)?;
+    let mut search: Search<St> = Search::open(
+        alloc,
+        program,
+        query,
+        settings.fuel,
+        settings.round,
+    )?;
     let ended = write_search(alloc, &mut search, names, sink)?;
     Ok(ended)
 }

@@ -90,7 +90,12 @@ fn a_primitive_holds_or_not(rt: HostRuntime) -> Result<(), Fail> {
         case("a", "both;holds;holds", false),
         case("a", "choose", false),
     ];
-    expect(&rt, Dialect::Book, "(run* q (== q 'a) ) (run* q (== q 'b))", &cases)
+    expect(
+        &rt,
+        Dialect::Book,
+        "(run* q (== q 'a) ) (run* q (== q 'b))",
+        &cases,
+    )
 }
 
 #[test]
@@ -103,7 +108,12 @@ fn both_goals_hold(rt: HostRuntime) -> Result<(), Fail> {
         case("a", "holds;holds", false),
         case("a", "both;holds;holds;holds", false),
     ];
-    expect(&rt, Dialect::Book, "(run* q (symbolo q) (=/= q 'b)) (run* q (== q 'a))", &cases)
+    expect(
+        &rt,
+        Dialect::Book,
+        "(run* q (symbolo q) (=/= q 'b)) (run* q (== q 'a))",
+        &cases,
+    )
 }
 
 #[test]
@@ -156,7 +166,12 @@ fn pauses_are_entered(rt: HostRuntime) -> Result<(), Fail> {
         case("a", "enter;enter;left;holds", false),
         case("b", "enter;right;holds", true),
     ];
-    expect(&rt, Dialect::All, "(run* q (conde ((== q 'a)) ((== q 'b))))", &cases)
+    expect(
+        &rt,
+        Dialect::All,
+        "(run* q (conde ((== q 'a)) ((== q 'b))))",
+        &cases,
+    )
 }
 
 #[test]
@@ -168,5 +183,10 @@ fn constraints_hold_of_values(rt: HostRuntime) -> Result<(), Fail> {
         case(". b . b -", "both;holds;holds", false),
         case("2", "both;holds;holds", true),
     ];
-    expect(&rt, Dialect::Book, "(run* q (absento 'a q) (=/= q '(b b)))", &cases)
+    expect(
+        &rt,
+        Dialect::Book,
+        "(run* q (absento 'a q) (=/= q '(b b)))",
+        &cases,
+    )
 }
