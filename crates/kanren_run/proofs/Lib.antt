@@ -5,4 +5,5 @@ pub mod LineLaws
 pub mod WritingLaws
 pub mod Declared
 pub mod TopLaws
+pub mod LoadLaws
 pub mod HeadlineLaws

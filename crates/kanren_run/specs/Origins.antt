@@ -1,5 +1,5 @@
 -- Where the text of a line of the command comes from, and how it is read.
-use Rattle.std.specs.Prelude.{◌≡◌, ℕ, ◌+◌, ◌≤◌, List, length, Option, Some, None}
+use Rattle.std.specs.Prelude.{◌≡◌, ℕ, ◌+◌, ◌≤◌, List, length, Option, Some, None, ⊤}
 use Rattle.kan_base.specs.Spots.{Spot}
 use Rattle.kan_base.specs.Views.{SourceView, SinkView}
 use Rattle.kan_base.specs.Texts.{greatest_text, IsWhole, TakesCount, TakesAtMost}
@@ -19,6 +19,11 @@ spot_of (Some name) = Spot.file name
 abbrev pub origin_from : Option ℕ → Option (List ℕ) → Origin
 origin_from (Some number) file = Origin.made number
 origin_from None file = Origin.opened (spot_of file)
+
+-- it is a place of the source
+abbrev pub IsOpened : Origin → Type 0
+IsOpened (Origin.opened spot) = ⊤
+IsOpened (Origin.made number) = ⊥
 
 -- where the text of a line comes from
 abbrev pub origin_of : Line → Origin

@@ -9,7 +9,7 @@ use Rattle.kan_base.specs.declared.status.Status.TheVariants.{Done, Fuel, Usage,
 use Rattle.command_line.specs.Lines.{Line}
 use Rattle.kanren_run.specs.Commands.{line_alone}
 use Rattle.kanren_run.specs.Settings.{settings_of}
-use Rattle.kanren_run.specs.Origins.{Origin, origin_of, Ends, GetsWhole, GetsAtMost, GetsTooMuch, IsThere}
+use Rattle.kanren_run.specs.Origins.{Origin, origin_of, Ends, IsOpened, GetsWhole, GetsAtMost, GetsTooMuch, IsThere}
 use Rattle.kanren_run.specs.Answers.{answer_bytes, Runs, IsRefused}
 use Rattle.kanren_run.specs.declared.settings.Settings.{Settings}
 
@@ -66,12 +66,17 @@ abbrev pub is_usage : Status → Bool
 is_usage Usage = true
 is_usage s = false
 
--- what each status says of a call that answers a text
+-- the status of a text that is refused
+abbrev pub is_refusal : Status → Bool
+is_refusal (Text at number) = true
+is_refusal s = false
+
+-- what each status says of a call that answers a text; no load is refused
 abbrev pub Outcome : Origin → Settings → Ends → Status → Type 0
 Outcome o s e Done = Ran o s e false
 Outcome o s e Fuel = Ran o s e true
 Outcome o s e Usage = Untouched e
-Outcome o s e (Text at number) = Refused o s e at number
+Outcome o s e (Text at number) = Refused o s e at number × IsOpened o
 Outcome o s e ReadFault = PutNothing e
 Outcome o s e WriteFault = PutSome o s e
 Outcome o s e TooLong = GetsTooMuch o e × PutNothing e

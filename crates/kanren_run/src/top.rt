@@ -1,6 +1,6 @@
 //! The top call: from a source of bytes to a sink.
 
-ghost use Rattle.std.specs.Prelude.{◌≡◌, ◌≤◌, length, List, ℕ, IfOk};
+ghost use Rattle.std.specs.Prelude.{◌≡◌, ◌≤◌, length, List, ℕ, true, false, IfOk};
 ghost use Rattle.kan_base.specs.Spots.{spot};
 ghost use Rattle.command_line.specs.Asked.{Reads, line_asked};
 ghost use Rattle.command_line.specs.Lines.{IsInRange, texts};
@@ -11,7 +11,7 @@ ghost use Rattle.kanren_run.specs.Commands as commands;
 ghost use Rattle.kanren_run.specs.Headline.{TextsMean};
 ghost use Rattle.kanren_run.specs.Origins as origins;
 ghost use Rattle.kanren_run.specs.Origins.{origin_of, spot_of};
-ghost use Rattle.kanren_run.specs.Outcomes.{IsFaithful, IsFaithfulAt, WritesReply};
+ghost use Rattle.kanren_run.specs.Outcomes.{IsFaithful, IsFaithfulAt, WritesReply, is_refusal};
 ghost use Rattle.kanren_run.specs.Replies.{HasRuns};
 ghost use Rattle.kanren_run.specs.Settings as settings;
 ghost use Rattle.kanren_run.specs.Settings.{InRange};
@@ -148,7 +148,9 @@ fn answer_place<S: Source, K: Sink>(
 fn answer_load<K: Sink>(alloc: Global, number: u32, settings: Settings, sink: &mut K) -> Status
     requires range { InRange settings }
     requires number { number ≤ greatest_load }
-    ensures { WritesReply settings (load number) (K.view sink.old) (K.view sink.new) result }
+    requires library { settings.library ≡ true }
+    ensures reply { WritesReply settings (load number) (K.view sink.old) (K.view sink.new) result }
+    ensures accepted { is_refusal result ≡ false }
 {
     match make_load(alloc, number) {
         Ok(text) => answer_text(alloc, settings, &text, sink),
