@@ -58,7 +58,7 @@ struct Case {
     shown: bool,
 }
 
-const fn case(term: &'static str, steps: &'static str, shown: bool) -> Case {
+const fn at(term: &'static str, steps: &'static str, shown: bool) -> Case {
     Case { term, steps, shown }
 }
 
@@ -83,12 +83,12 @@ fn expect(
 #[test]
 fn a_primitive_holds_or_not(rt: HostRuntime) -> Result<(), Fail> {
     let cases = [
-        case("a", "holds", true),
-        case("b", "holds", false),
-        case("a", "enter", false),
-        case("a", "holds;holds", false),
-        case("a", "both;holds;holds", false),
-        case("a", "choose", false),
+        at("a", "holds", true),
+        at("b", "holds", false),
+        at("a", "enter", false),
+        at("a", "holds;holds", false),
+        at("a", "both;holds;holds", false),
+        at("a", "choose", false),
     ];
     expect(
         &rt,
@@ -101,12 +101,12 @@ fn a_primitive_holds_or_not(rt: HostRuntime) -> Result<(), Fail> {
 #[test]
 fn both_goals_hold(rt: HostRuntime) -> Result<(), Fail> {
     let cases = [
-        case("a", "both;holds;holds", true),
-        case("b", "both;holds;holds", false),
-        case("1", "both;holds;holds", false),
-        case("a", "both;holds", false),
-        case("a", "holds;holds", false),
-        case("a", "both;holds;holds;holds", false),
+        at("a", "both;holds;holds", true),
+        at("b", "both;holds;holds", false),
+        at("1", "both;holds;holds", false),
+        at("a", "both;holds", false),
+        at("a", "holds;holds", false),
+        at("a", "both;holds;holds;holds", false),
     ];
     expect(
         &rt,
@@ -119,13 +119,13 @@ fn both_goals_hold(rt: HostRuntime) -> Result<(), Fail> {
 #[test]
 fn one_goal_holds(rt: HostRuntime) -> Result<(), Fail> {
     let cases = [
-        case("a", "left;holds", true),
-        case("a", "right;holds", false),
-        case("b", "right;left;holds", true),
-        case("b", "left;holds", false),
-        case("b", "right;right;holds", false),
-        case("1", "right;right;holds", true),
-        case("1", "right;holds", false),
+        at("a", "left;holds", true),
+        at("a", "right;holds", false),
+        at("b", "right;left;holds", true),
+        at("b", "left;holds", false),
+        at("b", "right;right;holds", false),
+        at("1", "right;right;holds", true),
+        at("1", "right;holds", false),
     ];
     let text = "(run* q (conde ((== q 'a)) ((== q 'b)) ((numbero q))))";
     expect(&rt, Dialect::Book, text, &cases)
@@ -134,13 +134,13 @@ fn one_goal_holds(rt: HostRuntime) -> Result<(), Fail> {
 #[test]
 fn new_slots_get_values(rt: HostRuntime) -> Result<(), Fail> {
     let cases = [
-        case(". a . b -", "a,b;both;holds;holds", true),
-        case(". a . b -", "b,a;both;holds;holds", false),
-        case(". a . b -", "a;both;holds;holds", false),
-        case(". a . b -", "a,b,a;both;holds;holds", false),
-        case(". a . b -", "choose;both;holds;holds", false),
-        case(". a . b -", "both;holds;holds", false),
-        case(". a . a -", "a,a;both;holds;holds", false),
+        at(". a . b -", "a,b;both;holds;holds", true),
+        at(". a . b -", "b,a;both;holds;holds", false),
+        at(". a . b -", "a;both;holds;holds", false),
+        at(". a . b -", "a,b,a;both;holds;holds", false),
+        at(". a . b -", "choose;both;holds;holds", false),
+        at(". a . b -", "both;holds;holds", false),
+        at(". a . a -", "a,a;both;holds;holds", false),
     ];
     let text = "(run* q (fresh (x y) (== q (list x y)) (=/= x y))) (run* q (== q '(a b)))";
     expect(&rt, Dialect::Book, text, &cases)
@@ -149,10 +149,10 @@ fn new_slots_get_values(rt: HostRuntime) -> Result<(), Fail> {
 #[test]
 fn a_relation_holds_where_its_body_does(rt: HostRuntime) -> Result<(), Fail> {
     let cases = [
-        case("a", "enter;both;holds;holds", true),
-        case("a", "both;holds;holds", false),
-        case("1", "enter;both;holds;holds", false),
-        case("a", "enter;enter;both;holds;holds", false),
+        at("a", "enter;both;holds;holds", true),
+        at("a", "both;holds;holds", false),
+        at("1", "enter;both;holds;holds", false),
+        at("a", "enter;enter;both;holds;holds", false),
     ];
     let text = "(defrel (p x y) (symbolo x) (numbero y)) (run* q (p q 1)) (run* q (== q 'a))";
     expect(&rt, Dialect::Book, text, &cases)
@@ -161,10 +161,10 @@ fn a_relation_holds_where_its_body_does(rt: HostRuntime) -> Result<(), Fail> {
 #[test]
 fn pauses_are_entered(rt: HostRuntime) -> Result<(), Fail> {
     let cases = [
-        case("a", "enter;left;holds", true),
-        case("a", "left;holds", false),
-        case("a", "enter;enter;left;holds", false),
-        case("b", "enter;right;holds", true),
+        at("a", "enter;left;holds", true),
+        at("a", "left;holds", false),
+        at("a", "enter;enter;left;holds", false),
+        at("b", "enter;right;holds", true),
     ];
     expect(
         &rt,
@@ -177,11 +177,11 @@ fn pauses_are_entered(rt: HostRuntime) -> Result<(), Fail> {
 #[test]
 fn constraints_hold_of_values(rt: HostRuntime) -> Result<(), Fail> {
     let cases = [
-        case(". b . 1 -", "both;holds;holds", true),
-        case(". b . a -", "both;holds;holds", false),
-        case(". a -", "both;holds;holds", false),
-        case(". b . b -", "both;holds;holds", false),
-        case("2", "both;holds;holds", true),
+        at(". b . 1 -", "both;holds;holds", true),
+        at(". b . a -", "both;holds;holds", false),
+        at(". a -", "both;holds;holds", false),
+        at(". b . b -", "both;holds;holds", false),
+        at("2", "both;holds;holds", true),
     ];
     expect(
         &rt,

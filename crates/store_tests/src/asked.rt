@@ -1,5 +1,8 @@
 //! What stores answer of their variables, worked out by hand.
 
+ghost use Rattle.std.specs.Prelude.{◌≡◌, true};
+ghost use Rattle.kan_model.specs.Stores.Calls.{IsFree};
+
 use crate::kept::{A, B, X, Y, Z, expect, with_steps};
 use crate::sketches::{Atom, Sketch, Step};
 use kan_model::{Kind, Store};
@@ -12,7 +15,9 @@ use std::process::Abort;
 use std::test::Fail;
 
 // Whether a variable stands for itself.
-fn is_open<S: Store>(store: &S, var: u64) -> bool {
+fn is_open<S: Store>(store: &S, var: u64) -> bool
+    ensures { result ≡ true → IsFree (S.meaning store.now) var }
+{
     let term = Term::Var(var);
     match store.walk(&term) {
         Term::Var(found) => *found == var,

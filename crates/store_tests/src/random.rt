@@ -1,6 +1,8 @@
 //! Random lists of primitives: over atoms beside a search for solutions, and with pairs over all
 //! stores.
 
+ghost use Rattle.std.specs.Prelude.{◌<◌};
+
 use crate::kept::{expect, with_steps};
 use crate::sketches::{Atom, Sketch, Step};
 use crate::solutions::has_solution;
