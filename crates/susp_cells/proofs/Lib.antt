@@ -1,0 +1,2 @@
+mod SeenMade
+mod SeenSent
