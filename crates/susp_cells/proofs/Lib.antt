@@ -1,2 +1,4 @@
 mod SeenMade
 mod SeenSent
+mod TopLaws
+mod TableLaws

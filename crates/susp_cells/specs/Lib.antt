@@ -5,3 +5,5 @@ pub mod Places
 pub mod Placed
 pub mod Falls
 pub mod Forces
+pub mod Tops
+pub mod Tables

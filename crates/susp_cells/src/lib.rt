@@ -6,7 +6,10 @@ mod forced;
 mod gates;
 mod seen;
 mod suspensions;
+mod tables;
+mod tops;
 
 pub use forced::{Forced, Known, Settled};
 pub use gates::{Gate, OpenGate};
 pub use suspensions::Susp;
+pub use tables::Table;
