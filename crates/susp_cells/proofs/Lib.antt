@@ -2,3 +2,4 @@ mod SeenMade
 mod SeenSent
 mod TopLaws
 mod TableLaws
+mod KnownLaws

@@ -9,10 +9,16 @@ use Rattle.kan_model.specs.Streams.Bounds.{Fits, StreamFits}
 use Rattle.kan_model.specs.Streams.Running.{force}
 use Rattle.stream_core.specs.Suspensions.{going_on, listed, ThunkBelongs}
 use Rattle.stream_core.specs.Tables.{HasThunk, StandsFor, thunk_in}
+use Rattle.kan_model.specs.Programs.Scope.{is_small}
+use Rattle.stream_core.specs.CounterBounds.{RestFits}
+use Rattle.stream_core.proofs.ClosedLaws.{program-closed}
+use Rattle.stream_core.proofs.FitLaws.{force-fits}
 use Rattle.stream_core.specs.declared.streams.Thunk.{Thunk}
 use Rattle.stream_core.specs.declared.streams.Thunk.TheVariants.{Call, Pause, Swap, Bind}
 use Rattle.susp_cells.specs.Places.{Place, names_of, label_program, label_tree, told_program, told_tree, stands_for, IsBeside}
-use Rattle.susp_cells.specs.Tables.{program_of, table_of, IsIn}
+use Rattle.susp_cells.specs.Tables.{program_of, table_of, known_place, known_tree, known_value, IsIn, IsForcedIn, IsKnownIn}
+use Rattle.susp_cells.specs.declared.forced.Forced.{Forced}
+use Rattle.susp_cells.specs.declared.forced.Known.{Known}
 use Rattle.susp_cells.specs.declared.suspensions.Label.{Label}
 use Rattle.susp_cells.specs.declared.tables.Table.{Table}
 
@@ -25,6 +31,10 @@ thunk-like P Q f (Call rel args store) h = tt
 thunk-like P Q f (Pause goal env store) h = tt
 thunk-like P Q f (Swap heads tail inner) (first, rest) = (some-like P Q f tail first, f inner rest)
 thunk-like P Q f (Bind goal env inner) h = f inner h
+
+rest-fits : (program : Program) (low high : ℕ) (s : model.Stream) → RestFits program low high s → StreamFits program s
+rest-fits program low high (model.Stream.ends hs) rest = tt
+rest-fits program low high (model.Stream.goes_on hs i) rest = rest.0
 
 module _ {St : Type 0} {g : Ghosts St} (t : Table St g) where
   -- a label tells the thunk that it was made for
@@ -61,3 +71,17 @@ module _ {St : Type 0} {g : Ghosts St} (t : Table St g) where
   -- what is inside a suspension of the table is of the table
   pub thunk-belongs : (p : Place) (thunk : Thunk Place St) → IsIn t p → ThunkBelongs (IsBeside p) thunk → stands_for (label_program p) g.meaning thunk ≡ label_tree p → HasThunk (table_of t) thunk
   thunk-belongs p thunk inside beside is = thunk-in p thunk inside beside (subst (Fits (program_of t)) (sym (thunk-stands p thunk inside is)) inside.fits)
+
+  -- the force of a suspension of the table, and the ids in it
+  pub forced-in : (p : Place) (f : Forced St g) → is_small (program_of t) ≡ true → IsIn t p → f.of.home ≡ names_of t.labels → f.of.token.value ≡ p.token.value → IsForcedIn t (label_tree p) f
+  forced-in p f small inside home same =
+      let program : label_program f.of ≡ program_of t = ap told_program same ∙ inside.program in
+      let tree : label_tree f.of ≡ label_tree p = ap told_tree same in
+      let is : going_on (map g.meaning f.heads) (option_map label_tree f.tail) ≡ force (program_of t) (label_tree p) = f.is_force.1 ∙ ap₂ force program tree in
+      let of_in : IsIn t f.of = record { home = home; program = program; fits = subst (Fits (program_of t)) (sym tree) inside.fits } in
+      let fits : StreamFits (program_of t) (force (program_of t) (label_tree p)) = rest-fits _ _ _ (force (program_of t) (label_tree p)) (force-fits (program_of t) (label_tree p) (program-closed t.program.now small) inside.fits).tail in
+      (tail-in f.of (map g.meaning f.heads) f.tail of_in f.is_force.0 (subst (StreamFits (program_of t)) (sym is) fits), is)
+
+  -- what is known is the force of what the suspension stands for
+  pub known-in : (k : Known St g) → is_small (program_of t) ≡ true → IsKnownIn t k → IsForcedIn t (known_tree k) (known_value k)
+  known-in k small known = forced-in (known_place t k) (known_value k) small known.inside known.home known.same

@@ -4,7 +4,9 @@
 mod cells;
 mod forced;
 mod gates;
+pub mod laws;
 mod seen;
+mod settling;
 mod suspensions;
 mod tables;
 mod tops;

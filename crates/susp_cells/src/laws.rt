@@ -1,0 +1,24 @@
+//! Laws of what is known. Each function has its law for its contract, and changes nothing.
+
+ghost use Rattle.std.specs.Prelude.{◌≡◌};
+ghost use Rattle.susp_cells.specs.Tables.{known_index, known_value, IsKnownIn};
+
+use crate::forced::Known;
+use crate::tables::Table;
+use kan_model::Store;
+
+/// Two who know one suspension know one value.
+pub fn known_agree<St: Store>(table: &Table<'_, St>, first: &Known<St>, second: &Known<St>)
+    requires first { IsKnownIn table.now first.now }
+    requires second { IsKnownIn table.now second.now }
+    requires index { known_index first.now ≡ known_index second.now }
+    ensures { known_value first.now ≡ known_value second.now }
+{
+    table.labels.agrees(&first.label, &second.label);
+    table.cells.all.agrees(&first.cell, &second.cell);
+    table
+        .cells
+        .all
+        .value(&first.cell)
+        .agrees(&first.seen, &second.seen);
+}
