@@ -7,11 +7,13 @@ mod gates;
 pub mod laws;
 mod seen;
 mod settling;
+mod shared_nodes;
 mod suspensions;
 mod tables;
 mod tops;
 
 pub use forced::{Forced, Known, Settled};
 pub use gates::{Gate, OpenGate};
+pub use shared_nodes::SharedNodes;
 pub use suspensions::Susp;
 pub use tables::Table;
