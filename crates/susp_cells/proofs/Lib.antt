@@ -3,3 +3,4 @@ mod SeenSent
 mod TopLaws
 mod TableLaws
 mod KnownLaws
+pub mod Crossing
