@@ -19,7 +19,17 @@ use Rattle.kan_model.specs.declared.stores.Store.{Ghosts}
 use Rattle.stream_core.specs.contracts.streams.Thunk as Thunk
 use Rattle.susp_cells.proofs.suspensions.Susp.TheLaws.TheKnot as knot
 use Rattle.susp_cells.proofs.suspensions.Mark.TheSendSync as mark
+use Rattle.susp_cells.proofs.suspensions.Label.TheSendSync as label
+use Rattle.susp_cells.proofs.cells.Cells.TheSendSync as cells
+use Rattle.susp_cells.proofs.cells.Kept.TheSendSync as kept
+use Rattle.susp_cells.proofs.forced.Known.TheSendSync as known
+use denote.Ref.{NamedLft}
+use Rattle.boxcar.proofs.vec.Vec.TheSendSync as vec
+use Rattle.std.proofs.alloc.Global.TheSendSync as heap
 use Rattle.susp_cells.specs.contracts.suspensions.Susp as Susp
+use Rattle.susp_cells.specs.contracts.forced.Forced as Forced
+use Rattle.susp_cells.specs.contracts.forced.Known as Known
+use Rattle.susp_cells.specs.contracts.tables.Table as Table
 
 pub term_send : IsSend Term.the_row
 term_send = search (sendable, crosses, term_knot.crosses) depth 40
@@ -93,3 +103,33 @@ susp_send St g s y = search (sendable, crosses, knot.crosses, thunk_send, thunk_
 
 pub susp_sync : (St : RattleType) (g : Ghosts St.Denot) → IsSend St → IsSync St → IsSync (Susp.the_row St g)
 susp_sync St g s y = search (sendable, crosses, knot.crosses, thunk_send, thunk_sync, mark.the_send, mark.the_sync) depth 40
+
+pub forced_send : (St : RattleType) (g : Ghosts St.Denot) → IsSend St → IsSync St → IsSend (Forced.the_row St g)
+forced_send St g s y = search (sendable, crosses, susp_send) depth 40
+
+pub forced_sync : (St : RattleType) (g : Ghosts St.Denot) → IsSend St → IsSync St → IsSync (Forced.the_row St g)
+forced_sync St g s y = search (sendable, crosses, susp_sync) depth 40
+
+pub known_send : (St : RattleType) (g : Ghosts St.Denot) → IsSend (Known.the_row St g)
+known_send = known.the_send
+
+pub known_sync : (St : RattleType) (g : Ghosts St.Denot) → IsSync (Known.the_row St g)
+known_sync = known.the_sync
+
+pub table_sync : (a : NamedLft) (St : RattleType) (g : Ghosts St.Denot) → IsSend St → IsSync St → IsSync (Table.the_row a St g)
+table_sync a St g s y = search (
+  sendable,
+  crosses,
+  program_sync,
+  susp_send,
+  forced_send,
+  forced_sync,
+  cells.the_field_sync,
+  kept.the_field_sync,
+  vec.the_sync,
+  label.the_send,
+  label.the_sync,
+  heap.the_send,
+  heap.the_sync,
+  heap.the_field_sync,
+) depth 40

@@ -1,11 +1,23 @@
 //! Laws of what is known. Each function has its law for its contract, and changes nothing.
 
 ghost use Rattle.std.specs.Prelude.{◌≡◌};
-ghost use Rattle.susp_cells.specs.Tables.{known_index, known_value, IsKnownIn};
+ghost use Rattle.susp_cells.specs.Places.{label_tree};
+ghost use Rattle.susp_cells.specs.Tables.{known_index, known_value, IsIn, IsKnownIn};
 
 use crate::forced::Known;
+use crate::suspensions::Susp;
 use crate::tables::Table;
 use kan_model::Store;
+
+/// Two suspensions of one index are one.
+pub fn susps_agree<St: Store>(table: &Table<'_, St>, first: &Susp<St>, second: &Susp<St>)
+    requires first { IsIn table.now first.now }
+    requires second { IsIn table.now second.now }
+    requires index { first.now.token.index ≡ second.now.token.index }
+    ensures { label_tree first.now ≡ label_tree second.now }
+{
+    table.labels.agrees(first.token(), second.token());
+}
 
 /// Two who know one suspension know one value.
 pub fn known_agree<St: Store>(table: &Table<'_, St>, first: &Known<St>, second: &Known<St>)

@@ -30,7 +30,9 @@ impl<'a, St: Store, G: Gate, R: Wait> SharedNodes<'a, St, G, R> {
         gate: &'a G,
         who: u32,
     ) -> SharedNodes<'a, St, G, R>
-        ensures { result.table.now ≡ table.now }
+        ensures table { result.table.now ≡ table.now }
+        ensures gate { result.gate.now ≡ gate.now }
+        ensures who { result.who ≡ who }
     {
         SharedNodes {
             rt,
