@@ -4,8 +4,8 @@ use Rattle.std.specs.Prelude.{true, slice_index_or}
 use Rattle.boxcar.specs.Slot.{Named}
 use Rattle.boxcar.specs.Table.{Where, Shelves, Shows, id_at, others}
 use Rattle.kan_model.specs.declared.stores.Store.{Ghosts}
-use Rattle.susp_cells.specs.Places.{Place, bucket_name, names_of, told_program, told_tree, label_program, label_tree, IsOf}
-use Rattle.susp_cells.specs.Tables.{program_of, known_place, known_value, IsIn, IsForcedIn, IsKnownIn, KnowsOf, IsFound, IsSettled}
+use Rattle.susp_cells.specs.Places.{Place, bucket_name, names_of, told_program, told_tree, label_tree, IsOf}
+use Rattle.susp_cells.specs.Tables.{program_of, known_value, IsIn, IsForcedIn, IsKnownIn, KnowsOf, IsFound}
 use Rattle.susp_cells.specs.declared.suspensions.Label.{Label}
 use Rattle.susp_cells.specs.declared.tables.Table.{Table}
 use Rattle.susp_cells.specs.declared.forced.Forced.{Forced}

@@ -1,5 +1,5 @@
 -- Suspensions of a shared table: those inside one of them are of the table too, and so is what it is settled with.
-use Rattle.std.proofs.Common.{◌≡◌, ℕ, List, refl, sym, ◌∙◌, ap, ap₂, subst, map}
+use Rattle.std.proofs.Common.{◌≡◌, ℕ, List, sym, ◌∙◌, ap, ap₂, subst, map}
 use Rattle.std.specs.Prelude.{Option, Some, None, option_map, IfSome, true}
 use Rattle.kan_model.specs.declared.stores.Store.{Ghosts}
 use Rattle.kan_model.specs.Programs.Goals.{Program}
@@ -7,7 +7,7 @@ use Rattle.kan_model.specs.Stores.Store as facts
 use Rattle.kan_model.specs.Streams.Stream as model
 use Rattle.kan_model.specs.Streams.Bounds.{Fits, StreamFits}
 use Rattle.kan_model.specs.Streams.Running.{force}
-use Rattle.stream_core.specs.Suspensions.{going_on, listed, ThunkBelongs}
+use Rattle.stream_core.specs.Suspensions.{going_on, ThunkBelongs}
 use Rattle.stream_core.specs.Tables.{HasThunk, StandsFor, thunk_in}
 use Rattle.kan_model.specs.Programs.Scope.{is_small}
 use Rattle.stream_core.specs.CounterBounds.{RestFits}

@@ -1,16 +1,11 @@
 -- Tops that are noted as far as the first number that is too high.
-use Rattle.std.proofs.Common.{◌≡◌, ℕ, zero, suc, ◌+◌, ◌<◌, ◌≤◌, ◌^◌, Bool, true, List, [], ◌∷◌, length, map, take, refl, sym, ◌∙◌, ap, ap₂, subst, arith, min, max, get_or}
-use Rattle.std.specs.Prelude.{Option, Some, None, option_map, unwrap_or, slice_get, Contains}
-use Rattle.kan_model.specs.Programs.Goals.{Goal, Program}
-use Rattle.kan_model.specs.Programs.Closed as programs
-use Rattle.kan_model.specs.Programs.Measures.{noted_width}
-use Rattle.kan_model.specs.Programs.Scope.{is_small, width}
-use Rattle.kan_model.specs.declared.program.Program as code
+use Rattle.std.proofs.Common.{◌≡◌, ℕ, zero, suc, ◌+◌, ◌<◌, ◌^◌, List, [], ◌∷◌, length, map, take, refl, sym, ◌∙◌, ap, ap₂, subst, arith, min, max, get_or}
+use Rattle.std.specs.Prelude.{Option, Some, None, option_map}
+use Rattle.kan_model.specs.Programs.Goals.{Program}
 use Rattle.kan_model.specs.Stores.Store as facts
 use Rattle.kan_model.specs.Streams.Stream as model
 use Rattle.kan_model.specs.Streams.Bounds.{top, highest}
 use Rattle.stream_core.specs.Suspensions.{going_on}
-use Rattle.stream_core.proofs.ClosedLaws.{program-closed}
 use Rattle.stream_core.specs.declared.streams.Thunk.{Thunk}
 use Rattle.stream_core.specs.declared.streams.Thunk.TheVariants.{Swap}
 use Rattle.susp_cells.specs.Places.{Place, label_tree, noted_top, stands_for}

@@ -1,5 +1,5 @@
 -- Each suspension inside another one is nested less deep.
-use Rattle.std.specs.Prelude.{◌≡◌, ℕ, ◌≤◌, None, Some}
+use Rattle.std.specs.Prelude.{◌≤◌, None, Some}
 use Rattle.std.proofs.Common.{arith, sym, subst}
 use Rattle.kan_model.specs.Programs.Goals.{Program}
 use Rattle.stream_core.specs.declared.streams.Thunk.{Thunk}
@@ -8,7 +8,7 @@ use Rattle.kan_model.specs.declared.stores.Store.{Ghosts}
 use Rattle.susp_cells.specs.declared.suspensions.Susp.TheInside.{Inside}
 use Rattle.susp_cells.specs.declared.suspensions.Susp.TheDeep.{deep-Susp}
 use Rattle.susp_cells.specs.Sketches.{nested}
-use Rattle.susp_cells.specs.Places.{Place, label_tree, label_program, label_nested, stands_for}
+use Rattle.susp_cells.specs.Places.{Place, label_program, label_nested, stands_for}
 use Rattle.susp_cells.specs.Placed.{place_of, IsPlaced}
 
 abbrev with_thunk : {St : Type 0} → Inside St → Thunk Place St → Inside St

@@ -1,5 +1,5 @@
 -- Sketches: a program and a suspension of it as numbers, and how deep suspensions stand in one another.
-use Rattle.std.specs.Prelude.{◌≡◌, ℕ, suc, max, List, []}
+use Rattle.std.specs.Prelude.{◌≡◌, ℕ, suc, max, List}
 use Rattle.std.specs.Coded.{Coded, code_by, coded_ℕ, coded_list}
 use Rattle.std.proofs.Common.{ap, ◌∙◌}
 use Rattle.kan_model.specs.Programs.Goals.{Program}

@@ -1,5 +1,5 @@
 -- Terms, goals, programs, stores and suspensions as words, and how they are read back.
-use Rattle.std.specs.Prelude.{◌≡◌, ℕ, true, false, pos, negsuc, List, [], ◌∷◌, refl}
+use Rattle.std.specs.Prelude.{◌≡◌, true, false, pos, negsuc, List, [], ◌∷◌, refl}
 use Rattle.std.proofs.Common.{ap, ap₂, ◌∙◌}
 use Rattle.kan_terms.specs.Tree.{Tree, Tm}
 use Rattle.kan_model.specs.Programs.Goals.{Primitive, Goal, Relation, Program}

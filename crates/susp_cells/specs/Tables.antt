@@ -1,17 +1,15 @@
 -- What a shared table of suspensions stands for, and what is known of a settled one.
-use Rattle.std.specs.Prelude.{◌≡◌, ◌≢◌, ℕ, Option, None, IfSome, map}
-use Rattle.boxcar.specs.Table.{Where, Shows}
+use Rattle.std.specs.Prelude.{◌≡◌, ◌≢◌, ℕ, None, IfSome}
+use Rattle.boxcar.specs.Table.{Shows}
 use Rattle.kan_model.specs.declared.stores.Store.{Ghosts}
 use Rattle.kan_model.specs.Programs.Goals.{Program}
 use Rattle.kan_model.specs.Programs.Closed as programs
-use Rattle.kan_model.specs.Stores.Store as facts
 use Rattle.kan_model.specs.Streams.Stream as model
 use Rattle.kan_model.specs.Streams.Bounds.{Fits}
 use Rattle.kan_model.specs.Streams.Running.{force}
 use Rattle.stream_core.specs.Suspensions.{listed}
 use Rattle.stream_core.specs.Tables as tables
 use Rattle.susp_cells.specs.Places.{Place, names_of, told_tree, label_program, label_tree}
-use Rattle.susp_cells.specs.declared.suspensions.Label.{Label}
 use Rattle.susp_cells.specs.declared.tables.Table.{Table}
 use Rattle.susp_cells.specs.declared.forced.Forced.{Forced}
 use Rattle.susp_cells.specs.declared.forced.Known.{Known}

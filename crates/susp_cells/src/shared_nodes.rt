@@ -68,10 +68,7 @@ fn tail_again<St: Store>(tail: &Option<Susp<St>>) -> Result<Option<Susp<St>>, Me
 }
 
 // The stream of a force, once more.
-fn stream_of<St: Store>(
-    alloc: Global,
-    forced: &Forced<St>,
-) -> Result<Stream<Susp<St>, St>, Memory>
+fn stream_of<St: Store>(alloc: Global, forced: &Forced<St>) -> Result<Stream<Susp<St>, St>, Memory>
     ensures tail { IfOk result (λ copy. copy.tail ≡ forced.now.tail) }
     ensures heads { IfOk result (λ copy. map St.meaning copy.heads ≡ map St.meaning
         forced.now.heads) }
@@ -119,11 +116,7 @@ impl<'a, St: Store, G: Gate, R: Wait> Nodes<St> for SharedNodes<'a, St, G, R> {
         id.again()
     }
 
-    fn found(
-        &self,
-        alloc: Global,
-        id: &Susp<St>,
-    ) -> Result<Option<Stream<Susp<St>, St>>, Memory> {
+    fn found(&self, alloc: Global, id: &Susp<St>) -> Result<Option<Stream<Susp<St>, St>>, Memory> {
         match self.table.look(id) {
             Some((forced, _)) => {
                 let copy = stream_of(alloc, forced)?;

@@ -64,11 +64,7 @@ impl<'a, St: Store> Table<'a, St> {
     }
 
     /// Adds a suspension. After want of memory there may be entries that none names.
-    pub fn suspend<R: Wait>(
-        &self,
-        rt: &R,
-        thunk: Thunk<Susp<St>, St>,
-    ) -> Result<Susp<St>, Memory>
+    pub fn suspend<R: Wait>(&self, rt: &R, thunk: Thunk<Susp<St>, St>) -> Result<Susp<St>, Memory>
         requires belong { HasThunk (table_of self.now) thunk }
         requires fits { Fits (program_of self.now) (thunk_in (table_of self.now) St.meaning
             thunk) }
