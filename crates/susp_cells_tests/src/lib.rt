@@ -11,4 +11,6 @@ mod nodes;
 #[cfg(test)]
 mod programs;
 #[cfg(test)]
+mod racing;
+#[cfg(test)]
 mod settling;
