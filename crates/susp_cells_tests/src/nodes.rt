@@ -106,8 +106,8 @@ fn each_force_passes_the_gate_and_is_kept(rt: HostRuntime) -> Result<(), Fail> {
     };
     let inner = suspended_call(&rt, alloc, &program, &table)?;
     let mut nodes = SharedNodes::new(&rt, &table, &gate, 0);
-    let id = nested(alloc, inner, 1_000, &mut nodes)?;
+    let id = nested(alloc, inner, 100_000, &mut nodes)?;
     expect_kept(&rt, &program, &id, &mut nodes)?;
-    assert_eq!(rt; gate.passes.load(Ordering::SeqCst), 1_001);
+    assert_eq!(rt; gate.passes.load(Ordering::SeqCst), 100_001);
     Ok(())
 }
