@@ -15,6 +15,8 @@ use Rattle.stream_core.proofs.ClosedLaws.{program-closed}
 use Rattle.stream_core.proofs.FitLaws.{force-fits}
 use Rattle.stream_core.specs.declared.streams.Thunk.{Thunk}
 use Rattle.stream_core.specs.declared.streams.Thunk.TheVariants.{Call, Pause, Swap, Bind}
+use Rattle.boxcar.specs.Table.{Where}
+use Rattle.susp_cells.specs.Sketches.{program_in, program-read}
 use Rattle.susp_cells.specs.Places.{Place, names_of, label_program, label_tree, told_program, told_tree, stands_for, IsBeside}
 use Rattle.susp_cells.specs.Tables.{program_of, table_of, known_place, known_tree, known_value, IsIn, IsForcedIn, IsKnownIn}
 use Rattle.susp_cells.specs.declared.forced.Forced.{Forced}
@@ -44,6 +46,12 @@ module _ {St : Type 0} {g : Ghosts St} (t : Table St g) where
   -- the ids of the table stand beside each of its suspensions
   pub all-beside : (p : Place) (thunk : Thunk Place St) → p.home ≡ names_of t.labels → label_program p ≡ program_of t → HasThunk (table_of t) thunk → ThunkBelongs (IsBeside p) thunk
   all-beside p thunk home program belong = thunk-like (IsIn t) (IsBeside p) (λ i h. (h.home ∙ sym home, h.program ∙ sym program)) thunk belong
+
+  -- a suspension whose label is among the table's
+  pub inside-of : (p : Place) (w : Where Label) (l : Label) → p.home ≡ names_of t.labels → w ≡ p.token → l ≡ w.value → told_program l ≡ program_in t.labels.tag → Fits (label_program p) (label_tree p) → IsIn t p
+  inside-of p w l home token is told fits =
+      let program : label_program p ≡ program_of t = ap (λ x. told_program x.value) (sym token) ∙ ap told_program (sym is) ∙ told ∙ ap program_in t.drawn ∙ program-read _ _ in
+      record { home = home; program = program; fits = subst (λ q. Fits q (label_tree p)) program fits }
 
   -- a suspension that was made
   pub made-stands : (p : Place) (l : Label) (tree : model.Thunk) → p.home ≡ names_of t.labels → p.token.value ≡ l → told_program l ≡ program_of t → told_tree l ≡ tree → Fits (program_of t) tree → StandsFor (table_of t) tree p

@@ -1,6 +1,7 @@
--- Which suspensions are sound: the label is of the table and tells the thunk, whose ids are of the same table.
+-- Which suspensions are sound: the label is of the table and tells the thunk, which fits the program, and whose ids are of the same table.
 use Rattle.std.specs.Prelude.{◌≡◌}
 use Rattle.kan_model.specs.Stores.Store as facts
+use Rattle.kan_model.specs.Streams.Bounds.{Fits}
 use Rattle.stream_core.specs.Suspensions.{ThunkBelongs}
 use Rattle.susp_cells.specs.declared.suspensions.Susp.TheInside.{Inside}
 use Rattle.susp_cells.specs.Places.{Place, label_tree, label_program, stands_for, noted_top, IsOf, IsBeside}
@@ -12,4 +13,5 @@ pub record IsPlaced {St : Type 0} (means : St → facts.Store) (a : Inside St) :
   pub shown : IsOf a.node.value.mark.home.numbers a.node.value.mark.token
   pub tree : label_tree (place_of a) ≡ stands_for (label_program (place_of a)) means a.node.value.thunk
   pub beside : ThunkBelongs (IsBeside (place_of a)) a.node.value.thunk
+  pub fits : Fits (label_program (place_of a)) (label_tree (place_of a))
   pub top : a.node.value.top ≡ noted_top (label_tree (place_of a))

@@ -1,8 +1,9 @@
 -- Sketches: a program and a suspension of it as numbers, and how deep suspensions stand in one another.
-use Rattle.std.specs.Prelude.{◌≡◌, ℕ, suc, max, List}
+use Rattle.std.specs.Prelude.{◌≡◌, ℕ, suc, max, List, []}
 use Rattle.std.specs.Coded.{Coded, code_by, coded_ℕ, coded_list}
 use Rattle.std.proofs.Common.{ap, ◌∙◌}
 use Rattle.kan_model.specs.Programs.Goals.{Program}
+use Rattle.kan_model.specs.Stores.Store.{bare}
 use Rattle.kan_model.specs.Streams.Stream.{Stream, Thunk}
 use Rattle.susp_cells.specs.Words.{Word, nothing, node, first, word_of, numbers_of, word-back}
 use Rattle.susp_cells.specs.Spelled.{of_program, to_program, program-back, of_thunk, to_thunk, thunk-back, of_stream, to_stream, stream-back}
@@ -32,6 +33,10 @@ program-read p t = ap (λ w. to_program (left_part w)) (word-back (node first (o
 pub tree-read : (p : Program) (t : Thunk) → tree_in (sketch p t) ≡ t
 unfolding sketch tree_in
 tree-read p t = ap (λ w. to_thunk (right_part w)) (word-back (node first (of_program p) (of_thunk t))) ∙ thunk-back t
+
+-- the sketch of a program alone
+abbrev pub program_sketch : Program → List ℕ
+program_sketch p = sketch p (Thunk.call 0 [] (bare 0))
 
 -- programs and streams are stored as the numbers of their words
 pub program_code : Coded Program

@@ -6,7 +6,7 @@ ghost use Rattle.susp_cells.specs.Forces.{IsForceOf, force_prop};
 
 use crate::cells::{Entry, Homed, SameTag};
 use crate::seen::Seen;
-use crate::suspensions::{Label, Susp};
+use crate::suspensions::{LabelToken, Susp};
 use boxcar::Pushed;
 use kan_model::Store;
 use std::alloc::Global;
@@ -35,7 +35,7 @@ impl<St: Store> Homed for Forced<St> {
 /// That a suspension is settled, and with which value, which the holder has seen.
 #[derive(Drop)]
 pub struct Known<St: Store> {
-    pub(crate) label: Pushed<Label>,
+    pub(crate) label: LabelToken,
     pub(crate) cell: Pushed<Entry<Forced<St>>, Global, SameTag>,
     pub(crate) seen: Seen<Forced<St>>,
     ghost placed: { cell.index ≡ label.value.place },

@@ -2,13 +2,13 @@
 
 ghost use Rattle.std.specs.Prelude.{◌≡◌, ◌≤◌, ◌^◌, ◌↔◌, IsTrue, IfOk};
 ghost use Rattle.kan_model.specs.Programs.Closed as programs;
-ghost use Rattle.kan_model.specs.Streams.Bounds.{top as top_of};
+ghost use Rattle.kan_model.specs.Streams.Bounds.{Fits, top as top_of};
 ghost use Rattle.stream_core.specs.Suspensions.{ThunkBelongs};
-ghost use Rattle.susp_cells.specs.Sketches.{sketch};
+ghost use Rattle.susp_cells.specs.Sketches.{sketch, program_sketch, program_in};
 ghost use Rattle.susp_cells.specs.Places.{Place, names_of, noted_top, label_program, label_tree};
 ghost use Rattle.susp_cells.specs.Places.{told_program, told_tree, stands_for, IsBeside, IsOf};
 
-use boxcar::Pushed;
+use boxcar::{Keeps, Pushed};
 use boxcar::tag::{Names, Tag};
 use kan_model::{Program, Store};
 use kan_terms::Memory;
@@ -25,6 +25,19 @@ pub struct Label {
     // The sketch of its program and of what it stands for.
     pub(crate) drawn: Tag,
 }
+
+// The labels of a table tell its program.
+pub struct SameProgram;
+
+impl Keeps<Label> for SameProgram {
+    ghost holds = { λ tag _ l. told_program l ≡ program_in tag };
+}
+
+// The labels of a table.
+pub type Labels = boxcar::Vec<Label, Global, SameProgram>;
+
+// What shows a label of a table.
+pub type LabelToken = Pushed<Label, Global, SameProgram>;
 
 /// A suspension of a table that threads share. It stands for one thunk for good.
 #[cycle(susp)]
@@ -45,7 +58,7 @@ struct Record<St: Store> {
 // What names a suspension: the token of its label, and the table.
 #[derive(Drop)]
 struct Mark {
-    token: Pushed<Label>,
+    token: LabelToken,
     home: Tag,
 }
 
@@ -95,15 +108,29 @@ impl<'a, St: Store> Names<Pending<'a, St>> for Sketches<St> {
 // The names of a vector's buckets, which tell it from others.
 struct Buckets;
 
-impl Names<boxcar::Vec<Label>> for Buckets {
+impl Names<Labels> for Buckets {
     ghost numbers = { names_of };
 }
 
 // What tells a table's labels from those of others.
-pub(crate) fn home_of(labels: &boxcar::Vec<Label>) -> Tag
+pub(crate) fn home_of(labels: &Labels) -> Tag
     ensures { result.numbers ≡ names_of labels.now }
 {
-    Tag::of::<boxcar::Vec<Label>, Buckets>(labels)
+    Tag::of::<Labels, Buckets>(labels)
+}
+
+// How the sketch of a program alone is read off it.
+struct ProgramAlone;
+
+impl Names<Program> for ProgramAlone {
+    ghost numbers = { λ program. program_sketch (programs.meaning program) };
+}
+
+// What tells the program of a table's labels.
+pub(crate) fn tag_of(program: &Program) -> Tag
+    ensures { result.numbers ≡ program_sketch (programs.meaning program.now) }
+{
+    Tag::of::<Program, ProgramAlone>(program)
 }
 
 impl Label {
@@ -130,7 +157,7 @@ impl<St: Store> Susp<St> {
         alloc: Global,
         thunk: Thunk<Susp<St>, St>,
         top: u64,
-        token: Pushed<Label>,
+        token: LabelToken,
         home: Tag,
     ) -> Result<Susp<St>, Memory>
         requires shown { IsOf home.numbers token }
@@ -138,6 +165,7 @@ impl<St: Store> Susp<St> {
             thunk }
         requires beside { ThunkBelongs (IsBeside record { home = home.numbers; token = token })
             thunk }
+        requires fits { Fits (told_program token.value) (told_tree token.value) }
         requires top { top ≡ noted_top (told_tree token.value) }
         ensures { IfOk result (λ made. (made.home ≡ home.numbers) × (made.token ≡ token)) }
     {
@@ -189,9 +217,10 @@ impl<St: Store> Susp<St> {
     }
 
     // What shows its label.
-    pub(crate) fn token(&self) -> &Pushed<Label>
+    pub(crate) fn token(&self) -> &LabelToken
         ensures token { result.now ≡ self.now.token }
         ensures shown { IsOf self.now.home self.now.token }
+        ensures fits { Fits (label_program self.now) (label_tree self.now) }
     {
         &self.node.mark.token
     }

@@ -3,11 +3,12 @@
 ghost use Rattle.std.specs.Prelude.{◌≡◌, true};
 ghost use Rattle.kan_model.specs.Programs.Closed as programs;
 ghost use Rattle.kan_model.specs.Programs.Scope.{is_small};
+ghost use Rattle.susp_cells.specs.Sketches.{program_sketch};
 ghost use Rattle.susp_cells.specs.Places.{names_of};
 
 use crate::cells::{Cells, Entry, Kept};
 use crate::forced::Forced;
-use crate::suspensions::{Label, Susp, home_of};
+use crate::suspensions::{Label, Labels, Susp, home_of, tag_of};
 use crate::tops::top_of;
 use kan_model::{Program, Store};
 use kan_terms::Memory;
@@ -24,8 +25,9 @@ pub struct Table<'a, St: Store> {
     // The cells, and then the suspensions, go before the labels, so that nothing is dropped deeply.
     pub(crate) cells: Cells<Forced<St>>,
     kept: Kept<Susp<St>>,
-    pub(crate) labels: boxcar::Vec<Label>,
+    pub(crate) labels: Labels,
     ghost tagged: { cells.all.tag ≡ names_of labels },
+    ghost drawn: { labels.tag ≡ program_sketch (programs.meaning program.now) },
     ghost small: { is_small (programs.meaning program.now) ≡ true },
 }
 
@@ -45,7 +47,7 @@ impl<'a, St: Store> Table<'a, St> {
         requires small { is_small (programs.meaning program.now) ≡ true }
         ensures program { IfOk result (λ made. program_of made ≡ programs.meaning program.now) }
     {
-        let Ok(labels) = boxcar::Vec::new(alloc) else {
+        let Ok(labels) = boxcar::Vec::with_rule(alloc, tag_of(program)) else {
             return Err(Memory);
         };
         let home = home_of(&labels);
