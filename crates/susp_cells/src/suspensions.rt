@@ -8,8 +8,8 @@ ghost use Rattle.susp_cells.specs.Sketches.{sketch, program_sketch, program_in};
 ghost use Rattle.susp_cells.specs.Places.{Place, names_of, noted_top, label_program, label_tree};
 ghost use Rattle.susp_cells.specs.Places.{told_program, told_tree, stands_for, IsBeside, IsOf};
 
-use boxcar::{Keeps, Pushed};
 use boxcar::tag::{Names, Tag};
+use boxcar::{Keeps, Pushed};
 use kan_model::{Program, Store};
 use kan_terms::Memory;
 use std::alloc::Global;

@@ -11,6 +11,7 @@ mod nodes;
 #[cfg(test)]
 mod programs;
 #[cfg(test)]
-mod racing;
+mod races;
+pub mod racing;
 #[cfg(test)]
 mod settling;
