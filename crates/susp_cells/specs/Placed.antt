@@ -1,10 +1,12 @@
--- Which suspensions are sound: the label is of the table and tells the thunk, which fits the program, and whose ids are of the same table.
+-- Which suspensions are sound: the label is of the table and tells the thunk. That fits the program,
+-- and its ids are of the same table.
 use Rattle.std.specs.Prelude.{◌≡◌}
 use Rattle.kan_model.specs.Stores.Store as facts
 use Rattle.kan_model.specs.Streams.Bounds.{Fits}
 use Rattle.stream_core.specs.Suspensions.{ThunkBelongs}
 use Rattle.susp_cells.specs.declared.suspensions.Susp.TheInside.{Inside}
-use Rattle.susp_cells.specs.Places.{Place, label_tree, label_program, stands_for, noted_top, IsOf, IsBeside}
+use Rattle.susp_cells.specs.Places.{Place, label_tree, label_program, stands_for, noted_top}
+use Rattle.susp_cells.specs.Places.{IsOf, IsBeside}
 
 abbrev pub place_of : {St : Type 0} → Inside St → Place
 place_of a = record { home = a.node.value.mark.home.numbers; token = a.node.value.mark.token }

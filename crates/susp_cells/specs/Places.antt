@@ -1,4 +1,5 @@
--- What a clause sees of a suspension that threads share: the names of its table's buckets, and the token of its label.
+-- What a clause sees of a suspension that threads share: the names of its table's buckets, and the
+-- token of its label.
 use Rattle.std.specs.Prelude.{◌≡◌, ℕ, ◌+◌, ◌^◌, min, List, map, slice_index_or, refl}
 use Rattle.std.specs.Coded.{Coded, code_by, coded×, coded_ℕ, coded_list}
 use Rattle.boxcar.specs.Slot.{Named}
@@ -18,7 +19,9 @@ pub record Place : Type 0 where
   pub token : Where Label
 
 abbrev pub place_coded : Coded Place
-place_coded = code_by (List ℕ × Where Label) (coded× (coded_list coded_ℕ) (where_coded label_row.coded)) (λ p. (p.home, p.token)) (λ p. record { home = p.0; token = p.1 }) (λ p. refl)
+place_coded =
+    code_by (List ℕ × Where Label) (coded× (coded_list coded_ℕ) (where_coded label_row.coded))
+    (λ p. (p.home, p.token)) (λ p. record { home = p.0; token = p.1 }) (λ p. refl)
 
 -- the program and the suspension that a label tells
 abbrev pub told_program : Label → Program

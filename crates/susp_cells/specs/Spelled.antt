@@ -5,7 +5,8 @@ use Rattle.kan_terms.specs.Tree.{Tree, Tm}
 use Rattle.kan_model.specs.Programs.Goals.{Primitive, Goal, Relation, Program}
 use Rattle.kan_model.specs.Stores.Store.{Store}
 use Rattle.kan_model.specs.Streams.Stream.{Stream, Thunk}
-use Rattle.susp_cells.specs.Words.{Word, nothing, number, node, first, second, third, fourth, fifth, sixth, seventh, eighth}
+use Rattle.susp_cells.specs.Words.{Word, nothing, number, node}
+use Rattle.susp_cells.specs.Words.{first, second, third, fourth, fifth, sixth, seventh, eighth}
 
 abbrev of_term : Tm → Word
 of_term (Tree.leaf v) = node first (number v) nothing
@@ -161,7 +162,8 @@ to_program (node first v w) = record { relations = to_relations v; goals = to_go
 to_program _ = record { relations = []; goals = [] }
 
 pub program-back : (p : Program) → to_program (of_program p) ≡ p
-program-back p = ap₂ (λ rs gs. record { relations = rs; goals = gs }) (relations-back p.relations) (goals-back p.goals)
+program-back p =
+    ap₂ (λ rs gs. record { relations = rs; goals = gs }) (relations-back p.relations) (goals-back p.goals)
 
 abbrev of_store : Store → Word
 of_store st = node first (of_primitives st.prims) (number st.counter)
@@ -217,7 +219,11 @@ mutual
   pub thunk-back : (t : Thunk) → to_thunk (of_thunk t) ≡ t
   thunk-back (Thunk.call r args st) = ap₂ (Thunk.call r) (terms-back args) (store-back st)
   thunk-back (Thunk.pause g env st) =
-      ap₂ (λ (h : Goal) (e : List Tm). Thunk.pause h e (to_store (of_store st))) (goal-back g) (terms-back env) ∙ ap (Thunk.pause g env) (store-back st)
+      ap₂ (λ (h : Goal) (e : List Tm). Thunk.pause h e (to_store (of_store st))) (goal-back g)
+      (terms-back env)
+      ∙ ap (Thunk.pause g env) (store-back st)
   thunk-back (Thunk.swap t i) = ap₂ Thunk.swap (stream-back t) (thunk-back i)
   thunk-back (Thunk.bind g env i) =
-      ap₂ (λ (h : Goal) (e : List Tm). Thunk.bind h e (to_thunk (of_thunk i))) (goal-back g) (terms-back env) ∙ ap (Thunk.bind g env) (thunk-back i)
+      ap₂ (λ (h : Goal) (e : List Tm). Thunk.bind h e (to_thunk (of_thunk i))) (goal-back g)
+      (terms-back env)
+      ∙ ap (Thunk.bind g env) (thunk-back i)

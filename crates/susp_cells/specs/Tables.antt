@@ -29,11 +29,19 @@ module _ {St : Type 0} {g : Ghosts St} where
 
   -- the table of suspensions, which doesn't tell what is kept, since others settle too
   abbrev pub table_of : Table St g → tables.Table Place
-  table_of t = record { program = program_of t; belongs = IsIn t; tree = label_tree; told = None; size = None }
+  table_of t = record {
+    program = program_of t;
+    belongs = IsIn t;
+    tree = label_tree;
+    told = None;
+    size = None;
+  }
 
   -- a value in a cell is the force of a suspension, and its ids are of the table
   abbrev pub IsForcedIn : Table St g → model.Thunk → Forced St g → Type 0
-  IsForcedIn t suspension f = IfSome f.tail (IsIn t) × (listed label_tree g.meaning f.heads f.tail ≡ force (program_of t) suspension)
+  IsForcedIn t suspension f =
+      IfSome f.tail (IsIn t)
+      × (listed label_tree g.meaning f.heads f.tail ≡ force (program_of t) suspension)
 
   -- the index of a settled suspension, what it stands for, and the value that was seen
   abbrev pub known_index : Known St g → ℕ
@@ -48,7 +56,8 @@ module _ {St : Type 0} {g : Ghosts St} where
   abbrev pub known_value : Known St g → Forced St g
   known_value k = k.seen.value
 
-  -- what is known is of the table: its label and its cell are there, and the value is of the same suspension
+  -- what is known is of the table: its label and its cell are there, and the value is of the same
+  -- suspension
   pub record IsKnownIn (t : Table St g) (k : Known St g) : Type 0 where
     pub label : Shows t.labels k.label
     pub cell : Shows t.cells.all k.cell
@@ -58,7 +67,8 @@ module _ {St : Type 0} {g : Ghosts St} where
 
   -- what is known of a suspension of the table
   abbrev pub KnowsOf : Table St g → Place → Known St g → Type 0
-  KnowsOf t p k = IsKnownIn t k × (known_index k ≡ p.token.index) × (known_tree k ≡ label_tree p)
+  KnowsOf t p k =
+      IsKnownIn t k × (known_index k ≡ p.token.index) × (known_tree k ≡ label_tree p)
 
   -- a value that was found for a suspension, with what is known of it then
   abbrev pub IsFound : Table St g → Place → Forced St g → Known St g → Type 0
@@ -67,6 +77,7 @@ module _ {St : Type 0} {g : Ghosts St} where
   -- what comes of a try to settle a suspension with a value
   abbrev pub IsSettled : Table St g → Place → Forced St g → Settled St g → Type 0
   IsSettled t p f (Mine k) = KnowsOf t p k × (known_value k ≡ f)
-  IsSettled t p f (Theirs k b) = KnowsOf t p k × IsForcedIn t (label_tree p) (known_value k) × (b.value ≡ f)
+  IsSettled t p f (Theirs k b) =
+      KnowsOf t p k × IsForcedIn t (label_tree p) (known_value k) × (b.value ≡ f)
   IsSettled t p f (Apart r b) = (r.now.of.token.index ≢ p.token.index) × (b.value ≡ f)
   IsSettled t p f (Unseen b) = b.value ≡ f

@@ -1,4 +1,5 @@
--- Words: one kind of trees that spells terms, goals, stores, suspensions and programs, and is read off a list of numbers.
+-- Words: one kind of trees that spells terms, goals, stores, suspensions and programs, and is read
+-- off a list of numbers.
 use Rattle.std.specs.Prelude.{◌≡◌, ℕ, zero, suc, List, [], ◌∷◌, refl}
 use Rattle.std.proofs.Common.{ap, ◌∙◌}
 
@@ -70,7 +71,9 @@ pub words-put : (w : Word) (more : List ℕ) → words (put_word w more) ≡ w �
 words-put nothing more = refl
 words-put (number n) more = refl
 words-put (node k v w) more =
-    ap (join_words (kind_at (kind_number k))) (words-put v (put_word w more) ∙ ap (λ ws. v ∷ ws) (words-put w more)) ∙ ap (λ j. node j v w ∷ words more) (kind-back k)
+    ap (join_words (kind_at (kind_number k)))
+    (words-put v (put_word w more) ∙ ap (λ ws. v ∷ ws) (words-put w more))
+    ∙ ap (λ j. node j v w ∷ words more) (kind-back k)
 
 -- a word from its numbers
 abbrev pub word_of : List ℕ → Word

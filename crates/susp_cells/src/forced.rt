@@ -21,7 +21,8 @@ pub struct Forced<St: Store> {
     pub heads: Stores<St>,
     /// How its force goes on, where it does.
     pub tail: Option<Susp<St>>,
-    ghost is_force: { IsForceOf of (map St.meaning heads) tail } by { force_prop of (map St.meaning heads) tail },
+    ghost is_force: { IsForceOf of (map St.meaning heads) tail } by { force_prop of
+        (map St.meaning heads) tail },
 }
 
 unsafe impl<St: Store + Send + Sync> Send for Forced<St> {}

@@ -27,7 +27,8 @@ impl<T> Seen<T> {
     /// What a note knows.
     pub fn of(note: &mut Note<T>, value: &T) -> Seen<T>
         requires { note.old.known ≡ Some value.now }
-        ensures { (note.new ≡ note.old) × (result.cell ≡ note.old.cell) × (result.value ≡ value.now) }
+        ensures { (note.new ≡ note.old) × (result.cell ≡ note.old.cell)
+            × (result.value ≡ value.now) }
     {
         Seen {
             marker: PhantomData,

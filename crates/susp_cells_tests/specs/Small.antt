@@ -11,7 +11,12 @@ no_tables = record { terms = []; arguments = []; goals = []; relations = [] }
 
 -- a relation without arguments that always holds
 abbrev pub small_tables : Tables
-small_tables = record { terms = []; arguments = []; goals = GoalEntry.succeed ∷ []; relations = record { name = 0; params = 0; body = 0 } ∷ [] }
+small_tables = record {
+  terms = [];
+  arguments = [];
+  goals = GoalEntry.succeed ∷ [];
+  relations = record { name = 0; params = 0; body = 0 } ∷ [];
+}
 
 abbrev pub small : Program
 small = program_of small_tables

@@ -27,7 +27,8 @@ fn offer_for<St: Store>(
     requires small { program_of table.now ≡ small }
     requires inside { IsIn table.now susp.now }
     requires call { label_tree susp.now ≡ small_call }
-    ensures { IfOk result (λ made. (made.susp ≡ susp.now) × (made.forced.value.of ≡ susp.now)) }
+    ensures { IfOk result (λ made. (made.susp ≡ susp.now)
+        × (made.forced.value.of ≡ susp.now)) }
 {
     let forced = forced_call(alloc, table, susp)?;
     let susp = susp.again()?;
