@@ -1,0 +1,6 @@
+mod SeenMade
+mod SeenSent
+mod TopLaws
+mod TableLaws
+mod KnownLaws
+pub mod Crossing
