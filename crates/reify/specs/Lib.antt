@@ -1,4 +1,5 @@
 pub mod Shapes
+pub mod OverNames
 pub mod Meaning
 pub mod Printing
 pub mod Constraints

@@ -3,12 +3,8 @@ use Rattle.std.specs.Prelude.{ℕ, List, map}
 use Rattle.std.specs.Borrow.{Bor}
 use Rattle.kan_model.specs.Answers.Answer as model
 use Rattle.reify.specs.Shapes.{tree_of, named_pair}
-use Rattle.reify.specs.declared.answers.Absence.{Absence}
+pub use Rattle.reify.specs.OverNames.{absence}
 use Rattle.reify.specs.declared.answers.Answer.{Answer}
-
--- a tag with its names
-abbrev pub absence : Absence → model.Absence
-absence kept = record { tag = kept.tag; names = kept.names.items }
 
 -- the same, where the names are lent
 abbrev pub lent_absence : ℕ × Bor (List ℕ) → model.Absence

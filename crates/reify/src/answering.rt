@@ -6,7 +6,7 @@ ghost use Rattle.kan_model.specs.Answers.Answer.{tags_of};
 ghost use Rattle.kan_model.specs.Answers.AnswerText.{answer_of};
 ghost use Rattle.reify.specs.Meaning.{meaning};
 
-use crate::absences::absences;
+use crate::absences::{absences, texts_differ};
 use crate::answers::Answer;
 use crate::naming::Naming;
 use crate::typing::names_of;
@@ -31,6 +31,7 @@ pub fn answer_of<St: Store>(alloc: Global, store: &St, names: &Names) -> Result<
     let symbols = names_of(alloc, store, Kind::Symbol, &naming)?;
     let strings = names_of(alloc, store, Kind::Text, &naming)?;
     let absences = absences(alloc, store, names, &naming)?;
+    texts_differ(names);
     Ok(Answer {
         term,
         disequalities,

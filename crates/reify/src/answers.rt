@@ -1,16 +1,19 @@
 //! Answers.
 
-ghost use Rattle.std.specs.Prelude.{IsTrue};
+ghost use Rattle.std.specs.Prelude.{IsTrue, map};
 ghost use Rattle.std.specs.List.{list_all};
-ghost use Rattle.reify.specs.Shapes.{spells, all_whole};
+ghost use Rattle.reify.specs.OverNames.{absence, is_over_names};
+ghost use Rattle.reify.specs.Shapes.{spells, all_whole, named_pair, tree_of};
 
 use crate::shaping::{NamePairs, Shape, Shapes};
 
 /// A tag with the names in which it must not stand.
 #[derive(Drop)]
-pub(crate) struct Absence {
-    pub(crate) tag: u32,
-    pub(crate) names: Vec<u32>,
+pub struct Absence {
+    /// The tag, by its number in the table of names.
+    pub tag: u32,
+    /// The names in which it must not stand.
+    pub names: Vec<u32>,
 }
 
 /// The answer of a store: the query's term over names, and what is left of the constraints.
@@ -24,18 +27,81 @@ pub struct Answer {
     pub(crate) absences: Vec<Absence>,
     ghost one: { IsTrue (spells 1 term) },
     ghost whole: { IsTrue (list_all all_whole disequalities.items) },
+    ghost over: { IsTrue (is_over_names (record {
+      term = tree_of term;
+      disequalities = map (map named_pair) disequalities.items;
+      numbers = numbers.items;
+      symbols = symbols.items;
+      strings = strings.items;
+      absences = map absence absences.items;
+    })) },
 }
 
 impl Answer {
     ghost use Rattle.std.specs.Prelude.{◌≡◌, true, map, IfSome};
     ghost use Rattle.std.specs.Option.{option_map};
     ghost use Rattle.std.specs.List.{slice_get};
-    ghost use Rattle.reify.specs.Shapes.{all_whole, spelling, named_pair};
-    ghost use Rattle.reify.specs.Meaning.{meaning, lent_absence};
+    ghost use Rattle.reify.specs.Shapes.{all_whole, spelling, named_pair, tree_of};
+    ghost use Rattle.reify.specs.OverNames.{is_over_names};
+    ghost use Rattle.reify.specs.Meaning.{meaning, absence, lent_absence};
+
+    /// The answer of its parts.
+    pub fn of(
+        term: Shapes,
+        disequalities: Vec<NamePairs>,
+        numbers: Vec<u32>,
+        symbols: Vec<u32>,
+        strings: Vec<u32>,
+        absences: Vec<Absence>,
+    ) -> Answer
+        requires one { spells 1 term ≡ true }
+        requires whole { list_all all_whole disequalities.items ≡ true }
+        requires over { is_over_names (record {
+          term = tree_of term;
+          disequalities = map (map named_pair) disequalities.items;
+          numbers = numbers.items;
+          symbols = symbols.items;
+          strings = strings.items;
+          absences = map absence absences.items;
+        }) ≡ true }
+        ensures { meaning result ≡ record {
+          term = tree_of term;
+          disequalities = map (map named_pair) disequalities.items;
+          numbers = numbers.items;
+          symbols = symbols.items;
+          strings = strings.items;
+          absences = map absence absences.items;
+        } }
+    {
+        Answer {
+            term,
+            disequalities,
+            numbers,
+            symbols,
+            strings,
+            absences,
+        }
+    }
+
+    /// All disequalities, in printed order. It takes no memory.
+    pub fn disequalities(&self) -> &[NamePairs]
+        ensures pairs { map (map named_pair) result.now ≡ (meaning self.now).disequalities }
+        ensures whole { list_all all_whole result.now ≡ true }
+    {
+        &self.disequalities
+    }
+
+    /// All tags with the names in which they must not stand, in printed order. It takes no memory.
+    pub fn absences(&self) -> &[Absence]
+        ensures { map absence result.now ≡ (meaning self.now).absences }
+    {
+        &self.absences
+    }
 
     /// The shapes of the term, each pair before its parts. It takes no memory.
     pub fn term(&self) -> &[Shape]
-        ensures { result.now ≡ spelling (meaning self.now).term }
+        ensures shapes { result.now ≡ spelling (meaning self.now).term }
+        ensures over { is_over_names (meaning self.now) ≡ true }
     {
         self.term.items()
     }

@@ -77,7 +77,7 @@ fn print_pairs(
 }
 
 /// Adds the text of a disequality.
-pub(crate) fn print_difference(
+pub fn print_difference(
     alloc: Global,
     pairs: &NamePairs,
     names: &Names,

@@ -19,6 +19,7 @@ mod walking;
 mod writing;
 
 pub use answering::answer_of;
-pub use answers::Answer;
-pub use constraints::print_answer;
+pub use answers::{Absence, Answer};
+pub use constraints::{print_answer, print_difference};
+pub use ordering::texts_rise;
 pub use shaping::{NamePair, NamePairs, Shape, Shapes};

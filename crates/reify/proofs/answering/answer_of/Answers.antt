@@ -6,7 +6,9 @@ use Rattle.reify.specs.Shapes.{named_pair, tree_of}
 use Rattle.reify.specs.Meaning.{absence}
 use Rattle.reify.proofs.FreeLaws.{all_named_free}
 use Rattle.reify.proofs.ChooseLaws.{term_named, term_is, term_whole}
-use Rattle.reify.proofs.AnswerLaws.{naming_is, answer_is}
+use Rattle.reify.proofs.AnswerLaws.{naming_is, answer_is, over_holds}
+use Rattle.kan_model.specs.Answers.AnswerText.{answer_of}
+use Rattle.kan_model.proofs.Answering.AnswerLaws.{answer_in_form}
 use Rattle.reify.proofs.answering.answer_of.Goals as goal
 
 pub disequalities-requires : goal.disequalities-requires
@@ -43,6 +45,18 @@ invariant_of-result g c = record {
       (term_named c.in_ok-naming.naming (image (answer (g.St.Store.meaning c.args.store.now)) 0) c.in_ok-letters.letters.items c.in_ok-term.term c.in_ok-letters.ensures
       (c.in_ok-term.ensures ∙ ap (map (shape_in c.in_ok-naming.naming)) c.deref-2.ensures.value));
   whole = c.in_ok-disequalities.ensures.whole;
+  over =
+      over_holds c.args.names.now _ (answer_of c.args.names.now (g.St.Store.meaning c.args.store.now))
+      (
+      answer_is c.args.names.now (g.St.Store.meaning c.args.store.now) c.in_ok-naming.naming (tree_of c.in_ok-term.term) (map (map named_pair) c.in_ok-disequalities.disequalities.items)
+      c.in_ok-numbers.numbers.items c.in_ok-symbols.symbols.items c.in_ok-strings.strings.items (map absence c.in_ok-absences.absences.items)
+      (naming_is (image (answer (g.St.Store.meaning c.args.store.now)) 0) c.in_ok-letters.letters.items c.deref.result.now c.in_ok-naming.naming c.in_ok-letters.ensures c.deref.ensures.value c.in_ok-naming.ensures)
+      (term_is c.in_ok-naming.naming (image (answer (g.St.Store.meaning c.args.store.now)) 0) c.in_ok-term.term
+      (term_named c.in_ok-naming.naming (image (answer (g.St.Store.meaning c.args.store.now)) 0) c.in_ok-letters.letters.items c.in_ok-term.term c.in_ok-letters.ensures
+      (c.in_ok-term.ensures ∙ ap (map (shape_in c.in_ok-naming.naming)) c.deref-2.ensures.value)))
+      c.in_ok-disequalities.ensures.named c.in_ok-numbers.ensures c.in_ok-symbols.ensures c.in_ok-strings.ensures c.in_ok-absences.ensures
+      )
+      (answer_in_form c.args.names.now (g.St.Store.meaning c.args.store.now) c.texts_differ.ensures c.requires.named (g.met.St.Store.kept c.args.store.now));
 }
 
 pub returns : goal.returns

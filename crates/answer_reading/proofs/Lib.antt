@@ -1,0 +1,4 @@
+pub mod MarkLaws
+pub mod FindLaws
+pub mod MeetLaws
+pub mod CoverLaws
