@@ -4,6 +4,7 @@ pub mod TextLaws
 pub mod LineLaws
 pub mod WritingLaws
 pub mod Declared
+pub mod FormLaws
 pub mod TopLaws
 pub mod LoadLaws
 pub mod HeadlineLaws

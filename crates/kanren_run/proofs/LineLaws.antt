@@ -1,6 +1,6 @@
 -- Lines of the command that ask for no workers.
-use Rattle.std.proofs.Common.{◌≡◌, ◌≢◌, ℕ, zero, suc, List, Some, None, refl, sym, ap, ◌∙◌}
-use Rattle.std.specs.Prelude.{Option, option_and_then}
+use Rattle.std.proofs.Common.{◌≡◌, ◌≢◌, ℕ, zero, suc, List, Some, None, refl, ap, ◌∙◌}
+use Rattle.std.specs.Prelude.{option_and_then}
 use Rattle.command_line.specs.Lines.{Line, line}
 use Rattle.kanren_run.specs.Commands.{alone, if_alone, line_alone}
 

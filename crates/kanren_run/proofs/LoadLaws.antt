@@ -3,7 +3,6 @@ use Rattle.std.proofs.Common.{◌≡◌, ◌≤◌, ℕ, true, false, refl, sym,
 use Rattle.kan_base.specs.Views.{SinkView}
 use Rattle.kan_base.specs.declared.status.Status.{Status}
 use Rattle.kan_base.specs.declared.status.Status.TheVariants as statuses
-use Rattle.kan_grammar.specs.Data.Faults.{fault}
 use Rattle.kan_grammar.specs.Texts.TextNames.{text_table}
 use Rattle.kan_grammar.specs.Texts.ProgramText.{program_of_text, queries_of_text}
 use Rattle.kan_grammar.specs.Texts.Reply.{Reply, reply, reply_to_reading, unless_fault}
@@ -11,7 +10,7 @@ use Rattle.rel_library.specs.Library.{library}
 use Rattle.rel_library.specs.Loads.{load}
 use Rattle.rel_library.specs.Accepted.{library_data, load_data}
 use Rattle.rel_library.proofs.AcceptedLoads.{loads_are_accepted}
-use Rattle.kanren_run.specs.Answers.{answer, IsRefused}
+use Rattle.kanren_run.specs.Answers.{IsRefused}
 use Rattle.kanren_run.specs.Outcomes.{WritesReply, is_refusal}
 use Rattle.kanren_run.specs.Settings.{library_before}
 use Rattle.kanren_run.specs.declared.settings.Settings.{Settings}

@@ -1,11 +1,11 @@
 -- Goals whose tags have names, where those of their entries in a table have.
-use Rattle.std.proofs.Common.{◌≡◌, ◌<◌, ℕ, zero, suc, Bool, true, List, [], ◌∷◌, ◌++◌, map, refl, sym, true≢false, arith}
+use Rattle.std.proofs.Common.{◌≡◌, ◌<◌, ℕ, zero, suc, true, List, [], ◌∷◌, ◌++◌, map, refl, sym, true≢false, arith}
 use Rattle.std.specs.Prelude.{◌&&◌, is_some, length, slice_get}
 use Rattle.std.specs.List.{list_all}
 use Rattle.std.proofs.lemmas.Bool.{and_from, and_parts, lt-ltb}
 use Rattle.kan_terms.specs.Table.{Table}
-use Rattle.kan_model.specs.Programs.Goals.{Template, Goal, Relation}
-use Rattle.kan_model.specs.Programs.Tables.{GoalEntry, RelationEntry, Tables, goal_at, goal_of, goals_after, goals_of, program_of, templates_of}
+use Rattle.kan_model.specs.Programs.Goals.{Template, Goal}
+use Rattle.kan_model.specs.Programs.Tables.{GoalEntry, RelationEntry, Tables, goal_at, goal_of, goals_after, goals_of, templates_of}
 use Rattle.kan_model.specs.Programs.Closed as programs
 use Rattle.goal_syntax.specs.Compiling.SymbolNames as entries
 use Rattle.kanren_run.specs.Tags.{are_named, is_body_named, is_query_named}

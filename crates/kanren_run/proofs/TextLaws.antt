@@ -10,7 +10,7 @@ use Rattle.kan_grammar.specs.Data.Builds.{build_datum, map_reading}
 use Rattle.kan_grammar.specs.Data.Enclosing.{as_written}
 use Rattle.kan_grammar.specs.Data.Tokens.{Placed, placed, tokens, tokens_from}
 use Rattle.kan_grammar.specs.Texts.TextNames.{GoesOn, with_prefixes, with_text_names, with_token, with_tokens, text_table}
-use Rattle.kan_grammar.specs.Texts.Reply.{Reply, reply, reply_to_data, unless_fault}
+use Rattle.kan_grammar.specs.Texts.Reply.{Reply, reply_to_data, unless_fault}
 use Rattle.kan_grammar.specs.Texts.ProgramText.{program_of_text, queries_of_text}
 use Rattle.kan_grammar.proofs.Texts.NameLaws.{goes_on_same, goes_on_further, extends_token, extends_prefixes}
 use Rattle.sexpr.specs.Seen.{written, as_kept}

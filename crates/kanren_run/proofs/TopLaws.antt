@@ -1,5 +1,6 @@
 -- What the writing of runs and of refusals makes of the answer of a text.
-use Rattle.std.proofs.Common.{◌≡◌, ℕ, Bool, List, Option, map, Err, sym, ◌∙◌, ap, subst}
+use Rattle.std.proofs.Common.{◌≡◌, ℕ, Bool, List, Option, map, true, Err, sym, ◌∙◌, ap, subst}
+use Rattle.std.specs.List.{list_all}
 use Rattle.std.specs.Io.KnownBytes.{Appends}
 use Rattle.kan_base.specs.Views.{SinkView}
 use Rattle.kan_base.specs.Writes.{PutsFront}
@@ -9,7 +10,7 @@ use Rattle.kan_model.specs.Programs.Closed.{query_of}
 use Rattle.kan_model.specs.Answers.Output.{runs_output}
 use Rattle.kan_grammar.specs.Data.Faults.{fault}
 use Rattle.kan_grammar.specs.Texts.Reply.{reply_bytes, refusal_line, spends_fuel}
-use Rattle.kanren_run.specs.Answers.{answer, answer_bytes, is_accepted, IsRefused, Runs, spends}
+use Rattle.kanren_run.specs.Answers.{answer_bytes, is_accepted, AreInForm, IsRefused, Runs, spends}
 use Rattle.kanren_run.specs.Outcomes.{PutFront, PutWhole}
 use Rattle.kanren_run.specs.Replies.{HasRuns, ComesTo}
 use Rattle.kanren_run.specs.declared.text.NotRun.{NotRun}
@@ -19,6 +20,9 @@ use Rattle.kanren_run.specs.declared.writing.Stop.{Stop}
 use Rattle.kanren_run.specs.Writing.{Stops}
 use Rattle.kanren_run.specs.declared.settings.Settings.{Settings}
 use Rattle.kanren_run.proofs.Declared as declared
+use Rattle.kan_model.specs.Answers.InForm.{TextsDiffer}
+use Rattle.kanren_run.specs.Tags.{is_body_named}
+use Rattle.kanren_run.proofs.FormLaws.{answers_in_form}
 use Rattle.kanren_run.proofs.RunLaws.{runs-same, spends-same}
 
 -- the lines of the runs are what is written for the text
@@ -29,20 +33,22 @@ lines_same s text names program queries has =
     ∙ ap (reply_bytes s.fuel) (sym has.answered)
 
 -- whether one of them spends its fuel
-runs_of : (s : Settings) (text : List ℕ) (names : Table) (program : declared.Program) (queries : List declared.Query) (spent : Bool) (has : HasRuns s text names program queries) →
+runs_of : (s : Settings) (text : List ℕ) (names : Table) (program : declared.Program) (queries : List declared.Query) (spent : Bool) (has : HasRuns s text names program queries) → TextsDiffer names →
     spent ≡ spends (programs.meaning program) s.fuel (map (query_of program) queries) → Runs s text spent
-runs_of s text names program queries spent has told = record {
+runs_of s text names program queries spent has differ told = record {
   accepted = ap is_accepted has.answered;
+  in_form = subst (AreInForm s.fuel) (sym has.answered)
+      (answers_in_form s.fuel names has.meant (map (query_of program) queries) differ (subst (λ rs. list_all (is_body_named names) rs ≡ true) has.relations has.can.bodies) has.can.goals);
   spends = ap (spends_fuel s.fuel) has.answered
       ∙ sym (told ∙ spends-same (programs.meaning program) has.meant has.relations s.fuel (map (query_of program) queries));
 }
 
 -- the same where the queries are lent as a list of items
-pub runs_done : (s : Settings) (text : List ℕ) (names : Table) (program : declared.Program) (queries items : List declared.Query) (b spent : Bool) (old new : SinkView) → HasRuns s text names program queries → items ≡ queries →
+pub runs_done : (s : Settings) (text : List ℕ) (names : Table) (program : declared.Program) (queries items : List declared.Query) (b spent : Bool) (old new : SinkView) → TextsDiffer names → HasRuns s text names program queries → items ≡ queries →
     spent ≡ b → spent ≡ spends (programs.meaning program) s.fuel (map (query_of program) items) → Appends old.put new.put (runs_output names (programs.meaning program) s.fuel (map (query_of program) items)) × (new.faults ≡ old.faults) →
     Runs s text b × PutWhole s text old.put new.put × (new.faults ≡ old.faults)
-runs_done s text names program queries items b spent old new has same is told (puts, still) = (
-  runs_of s text names program queries b has (sym is ∙ told ∙ ap (λ qs. spends (programs.meaning program) s.fuel (map (query_of program) qs)) same),
+runs_done s text names program queries items b spent old new differ has same is told (puts, still) = (
+  runs_of s text names program queries b has differ (sym is ∙ told ∙ ap (λ qs. spends (programs.meaning program) s.fuel (map (query_of program) qs)) same),
   subst (Appends old.put new.put) (ap (λ qs. runs_output names (programs.meaning program) s.fuel (map (query_of program) qs)) same ∙ lines_same s text names program queries has) puts,
   still,
 )

@@ -1,7 +1,10 @@
 -- What a text is answered with, and what is said of it.
-use Rattle.std.specs.Prelude.{◌≡◌, ℕ, Bool, true, false, List}
+use Rattle.std.specs.Prelude.{◌≡◌, ℕ, Bool, true, false, List, Contains, ⊤}
 use Rattle.std.specs.List.{list_any}
+use Rattle.kan_model.specs.Answers.AnswerText.{answer_of}
+use Rattle.kan_model.specs.Answers.InForm.{in_form}
 use Rattle.kan_model.specs.Programs.Goals.{Program, Query}
+use Rattle.kan_model.specs.Stores.Store.{Store}
 use Rattle.kan_model.specs.Streams.Taking.{take_query}
 use Rattle.kan_grammar.specs.Data.Faults.{fault}
 use Rattle.kan_grammar.specs.Texts.Reply.{Reply, reply, reply_bytes, spends_fuel, is_spent}
@@ -20,9 +23,17 @@ abbrev pub is_accepted : Reply → Bool
 is_accepted (Reply.refusal f) = false
 is_accepted (Reply.accepted table program queries) = true
 
--- a text is accepted, and it is said whether some run of it spends its fuel
+-- each answer that a run gives is in form: it is written in just one way
+abbrev pub AreInForm : ℕ → Reply → Type 0
+AreInForm fuel (Reply.refusal f) = ⊤
+AreInForm fuel (Reply.accepted table program queries) =
+    (q : Query) → Contains queries q → (st : Store) → Contains (take_query program fuel q).stores st →
+    in_form table (answer_of table st) ≡ true
+
+-- a text is accepted, its answers are in form, and it is said whether some run of it spends its fuel
 pub record Runs (s : Settings) (text : List ℕ) (spent : Bool) : Type 0 where
   pub accepted : is_accepted (answer s text) ≡ true
+  pub in_form : AreInForm s.fuel (answer s text)
   pub spends : spends_fuel s.fuel (answer s text) ≡ spent
 
 -- a text is refused for a fault with an offset and a number

@@ -1,6 +1,5 @@
 -- What a text is answered with: the library in front of it, its dialect and the fuel of its runs.
 use Rattle.std.specs.Prelude.{◌≤◌, ℕ, Bool, true, false, List, []}
-use Rattle.kan_grammar.specs.declared.dialect.Dialect.{Dialect}
 use Rattle.rel_library.specs.Library.{library}
 use Rattle.command_line.specs.Lines.{Line}
 use Rattle.kanren_run.specs.declared.settings.Settings.{Settings}

@@ -5,6 +5,7 @@ ghost use Rattle.kan_base.specs.Spots.{spot};
 ghost use Rattle.command_line.specs.Asked.{Reads, line_asked};
 ghost use Rattle.command_line.specs.Lines.{IsInRange, texts};
 ghost use Rattle.rel_library.specs.Loads.{greatest_load, load};
+ghost use Rattle.kan_model.specs.Answers.InForm.{TextsDiffer};
 ghost use Rattle.kan_terms.specs.Table.{no_names};
 ghost use Rattle.kanren_run.specs.Answers.{IsRefused};
 ghost use Rattle.kanren_run.specs.Commands as commands;
@@ -172,6 +173,14 @@ fn answer_text<K: Sink>(alloc: Global, settings: Settings, text: &[u8], sink: &m
     }
 }
 
+// No two symbols of a table have one text, as each look-up in it says.
+#[tactic(auto, using(reify::proofs::AbsenceLaws::texts_apart))]
+fn texts_differ(names: &Names)
+    ensures { TextsDiffer names.now }
+{
+    let _found = names.name(0);
+}
+
 // Writes the runs of a text.
 fn answer_runs<K: Sink>(
     alloc: Global,
@@ -187,6 +196,7 @@ fn answer_runs<K: Sink>(
         → WritesReply settings text (K.view sink.old) (K.view sink.new) result }
 {
     let Compiled { program, queries } = compiled;
+    texts_differ(names);
     match write_runs::<K, SolvedStore<TreeBindings>>(
         alloc,
         program,

@@ -1,4 +1,4 @@
-use Rattle.std.proofs.Common.{rules, sym, ◌∙◌}
+use Rattle.std.proofs.Common.{rules, sym}
 use Rattle.kan_grammar.specs.Texts.TextNames.{with_prefixes}
 use Rattle.kan_grammar.proofs.Texts.NameLaws.{extends_prefixes, goes_on_same}
 use Rattle.goal_syntax.proofs.Compiling.OfTextLaws.{read_of_text}

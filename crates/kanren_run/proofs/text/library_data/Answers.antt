@@ -1,8 +1,7 @@
 use Rattle.std.proofs.Common.{rules, ◌∙◌, Err, subst}
 use Rattle.kan_grammar.proofs.Texts.NameLaws.{goes_on_same}
-use Rattle.rel_library.specs.Library.{library}
 use Rattle.sexpr.specs.Reads.{Reads}
-use Rattle.kanren_run.proofs.TextLaws.{library_is_read, no_library, reads_library}
+use Rattle.kanren_run.proofs.TextLaws.{no_library, reads_library}
 use Rattle.kanren_run.proofs.text.library_data.Goals as goal
 
 pub returns-then-not-library-clause-read : goal.returns-then-not-library-clause-read
