@@ -7,7 +7,8 @@
 # are what it writes. A page's commands run in one new folder, in which examples/ is that of the
 # repository, and with the program on the path as kanren. Where 'cat FILE' names a file that isn't there,
 # the lines behind it are written into it. Then the command in the head of each example is run, and
-# compared with the example's output. Needs bash and python3.
+# compared with the example's output, and each example with its copy among the cases of kanren_rows.
+# Needs bash and python3.
 set -euo pipefail
 [ $# -eq 1 ] && [ -x "$1" ] || { echo "usage: docs/check.sh PROGRAM" >&2; exit 2; }
 exec python3 - "$(realpath "$1")" "$(realpath "$(dirname "$0")/..")" <<'EOF'
@@ -76,6 +77,15 @@ with tempfile.TemporaryDirectory() as name:
             suffix = "-all.out" if "--dialect all" in command else ".out"
             shown = text.with_name(text.stem + suffix).read_text()
             compare(f"examples/{text.name}", command, shown, folder)
+
+# The gate reads what lies in data/ alone, so it has a copy of each example.
+for file in sorted((root / "examples").iterdir()):
+    copy = root / "crates/kanren_rows/data" / f"example-{file.name}"
+    if copy.exists() and copy.read_bytes() == file.read_bytes():
+        passed += 1
+    else:
+        failed += 1
+        print(f"examples/{file.name} isn't the same as {copy.relative_to(root)}")
 
 print(f"{passed} passed, {failed} failed")
 sys.exit(failed > 0)

@@ -190,3 +190,19 @@ fn constraints_hold_of_values(rt: HostRuntime) -> Result<(), Fail> {
         &cases,
     )
 }
+
+#[test]
+fn a_value_is_chosen_once(rt: HostRuntime) -> Result<(), Fail> {
+    let cases = [
+        at(". 1 1", "1;holds", true),
+        at(". 1 1", "1;holds;holds", false),
+        at(". 1 2", "1;holds", false),
+        at(". 1 1", "2;holds", false),
+    ];
+    expect(
+        &rt,
+        Dialect::Book,
+        "(run* q (fresh (x) (== q (cons x x))))",
+        &cases,
+    )
+}
