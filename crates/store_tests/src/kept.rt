@@ -4,7 +4,7 @@ ghost use Rattle.std.specs.Prelude.{◌≡◌, true};
 ghost use Rattle.kan_model.specs.Stores.Prims.{prim as primitive};
 ghost use Rattle.kan_model.specs.Programs.Scope.{sides_below};
 
-use crate::sketches::{Atom, Sketch, Step, step_prim};
+use crate::sketches::{Atom, Sketch, Step, nested_prim, step_prim};
 use kan_model::{Prim, Store};
 use kan_plain::PlainStore;
 use kan_store::SolvedStore;
@@ -130,7 +130,7 @@ fn a_symbol_is_kept_out(rt: HostRuntime) -> Result<(), Fail> {
     expect(&rt, &[Step::Absent(5, B)], true)
 }
 
-// Ten pairs, one in the other: the rest of each is the next variable in turn.
+// Three pairs, one in the other: the rest of each is the next variable in turn.
 const DEEP: [Step; 4] = [
     Step::Absent(5, X),
     Step::Same(X, Sketch::Pair(Atom::Nil, Atom::Y)),
@@ -147,6 +147,27 @@ fn a_symbol_is_kept_out_of_what_is_deep(rt: HostRuntime) -> Result<(), Fail> {
     expect(&rt, &outside, true)?;
     let late = [first, second, third, Step::Same(W, A), none];
     expect(&rt, &late, false)
+}
+
+// Whether a symbol that is kept out of the first variable keeps ten pairs out that end in an atom.
+fn keeps_out<S: Store>(alloc: Global, last: Atom) -> Result<bool, Fail> {
+    let store = with_steps::<S>(alloc, &[Step::Absent(5, X)])?.ok_or("not kept")?;
+    let prim = nested_prim(alloc, last)?;
+    let made = with_step(alloc, store, &prim)?;
+    Ok(made.is_none())
+}
+
+#[test]
+fn a_symbol_is_kept_out_below_ten_pairs(rt: HostRuntime) -> Result<(), Fail> {
+    let plain = keeps_out::<PlainStore>(rt.alloc(), Atom::Sym(5))?;
+    let listed = keeps_out::<SolvedStore<ListBindings>>(rt.alloc(), Atom::Sym(5))?;
+    let treed = keeps_out::<SolvedStore<TreeBindings>>(rt.alloc(), Atom::Sym(5))?;
+    assert!(rt; plain && listed && treed);
+    let plain = keeps_out::<PlainStore>(rt.alloc(), Atom::Sym(6))?;
+    let listed = keeps_out::<SolvedStore<ListBindings>>(rt.alloc(), Atom::Sym(6))?;
+    let treed = keeps_out::<SolvedStore<TreeBindings>>(rt.alloc(), Atom::Sym(6))?;
+    assert!(rt; !(plain || listed || treed));
+    Ok(())
 }
 
 #[test]

@@ -87,7 +87,7 @@ fn expect_solved(rt: &(impl Abort + Alloc<A = Global>), steps: &[Step]) -> Resul
 #[test]
 fn lists_over_atoms_are_kept_where_they_have_a_solution(rt: HostRuntime) -> Result<(), Fail> {
     let mut random = Random { state: 1 };
-    for _ in 0..150 {
+    for _ in 0..1000 {
         let steps = random.steps(false);
         expect_solved(&rt, &steps[..3])?;
         expect_solved(&rt, &steps)?;

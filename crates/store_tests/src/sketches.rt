@@ -85,6 +85,25 @@ pub(crate) fn sketched(alloc: Global, sketch: Sketch) -> Result<Term, Memory>
     }
 }
 
+// Ten pairs, one in the rest of the other, with an atom at their end.
+fn nested(alloc: Global, last: Atom) -> Result<Term, Memory>
+    ensures { IfOk result (λ made. all_below 4 (tree made) ≡ true) }
+{
+    let mut term = atom_term(last);
+    for _ in 0..10 {
+        term = Term::pair(alloc, Term::Nil, term)?;
+    }
+    Ok(term)
+}
+
+/// The equation of the first variable and ten pairs with an atom at their end.
+pub(crate) fn nested_prim(alloc: Global, last: Atom) -> Result<Prim, Memory>
+    ensures { IfOk result (λ made. sides_below 4 (primitive made) ≡ true) }
+{
+    let term = nested(alloc, last)?;
+    Ok(Prim::Same(Term::Var(0), term))
+}
+
 // The equation of two terms.
 fn same_prim(alloc: Global, left: Sketch, right: Sketch) -> Result<Prim, Memory>
     ensures { IfOk result (λ made. sides_below 4 (primitive made) ≡ true) }
