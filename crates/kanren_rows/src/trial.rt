@@ -10,7 +10,8 @@ use crate::keyword::Keyword;
 use crate::table::{Line, Misfit, Written};
 use crate::value::{add_each, text_of};
 use kan_base::{MemorySink, MemorySource, Source, Status};
-use kanren_run::kanren_alone;
+use kan_plain::PlainStore;
+use kanren_run::{kanren_alone, kanren_over};
 use std::alloc::{AllocError, Global};
 
 /// What came of a call.
@@ -78,12 +79,37 @@ fn sink_of(alloc: Global, case: &Case) -> Result<MemorySink, Fault> {
     }
 }
 
+/// Which store solves the runs of a case.
+#[derive(Clone, Copy)]
+pub(crate) enum Solver {
+    /// That of the program.
+    Own,
+    /// The plain one.
+    Plain,
+}
+
+// The answer of the call over a store.
+fn answer(
+    alloc: Global,
+    solver: Solver,
+    words: &[&str],
+    source: &mut MemorySource,
+    sink: &mut MemorySink,
+) -> Status {
+    match solver {
+        Solver::Own => kanren_alone(alloc, words, source, sink),
+        Solver::Plain => kanren_over::<PlainStore, MemorySource, MemorySink>(
+            alloc, words, source, sink,
+        ),
+    }
+}
+
 // What comes of a case.
-fn see(alloc: Global, case: &Case) -> Result<Seen, Fault> {
+fn see(alloc: Global, solver: Solver, case: &Case) -> Result<Seen, Fault> {
     let mut source = source_of(alloc, case)?;
     let mut sink = sink_of(alloc, case)?;
     let words = lent(alloc, &case.words)?;
-    let status = kanren_alone(alloc, &words, &mut source, &mut sink);
+    let status = answer(alloc, solver, &words, &mut source, &mut sink);
     let output = sink.put().to_vec(alloc)?;
     Ok(Seen { output, status })
 }
@@ -123,13 +149,14 @@ fn agrees(case: &Case, seen: &Seen) -> bool
 // Tries a case once.
 fn try_turn<S: Source>(
     alloc: Global,
+    solver: Solver,
     folder: &mut S,
     written: &Written<'_>,
     turn: String,
 ) -> Result<Verdict, Misfit> {
     let number = written.number;
     let case = build(alloc, folder, number, &written.lines, &turn)?;
-    let seen = see(alloc, &case).map_err(|fault| Misfit { number, fault })?;
+    let seen = see(alloc, solver, &case).map_err(|fault| Misfit { number, fault })?;
     if agrees(&case, &seen) {
         Ok(Verdict::Passed)
     } else {
@@ -140,13 +167,14 @@ fn try_turn<S: Source>(
 /// Tries a case with each of its words in turn, as far as all comes that must. The folder has the files that the case names.
 pub(crate) fn try_case<S: Source>(
     alloc: Global,
+    solver: Solver,
     folder: &mut S,
     written: &Written<'_>,
 ) -> Result<Verdict, Misfit> {
     let number = written.number;
     let turns = turns(alloc, &written.lines).map_err(|fault| Misfit { number, fault })?;
     for turn in turns {
-        let verdict = try_turn(alloc, folder, written, turn)?;
+        let verdict = try_turn(alloc, solver, folder, written, turn)?;
         if !matches!(verdict, Verdict::Passed) {
             return Ok(verdict);
         }

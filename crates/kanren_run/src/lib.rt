@@ -10,4 +10,4 @@ mod top;
 mod writing;
 
 pub use complaints::complaint;
-pub use top::kanren_alone;
+pub use top::{kanren_alone, kanren_over};

@@ -25,6 +25,7 @@ use crate::writing::{Stop, write_runs};
 use command_line::{Name, Options, WordsFault, read_words};
 use goal_syntax::Compiled;
 use kan_base::{Place, Sink, Source, Status, TextStop, put_all, take_text};
+use kan_model::Store;
 use kan_store::SolvedStore;
 use kan_subst::TreeBindings;
 use kan_terms::{Memory, Names};
@@ -56,8 +57,33 @@ pub fn kanren_alone<S: Source, K: Sink>(
     // What the answers mean that are written for an accepted text.
     ensures means { TextsMean (commands.line_alone (texts words.now)) }
 {
+    kanren_over::<SolvedStore<TreeBindings>, S, K>(alloc, words, source, sink)
+}
+
+/// What `kanren_alone` does, over stores of any kind. All give the same bytes; they differ in time and
+/// memory.
+pub fn kanren_over<St: Store, S: Source, K: Sink>(
+    alloc: Global,
+    words: &[&str],
+    source: &mut S,
+    sink: &mut K,
+) -> Status
+    // Its outcome, when it is Usage, how many calls of its ends failed, and that it is complete.
+    ensures faithful { IsFaithful (record {
+      words = texts words.now;
+      ends = record {
+        source = S.view source.old;
+        source_after = S.view source.new;
+        sink = K.view sink.old;
+        sink_after = K.view sink.new;
+      };
+      status = result;
+    }) }
+    // What the answers mean that are written for an accepted text.
+    ensures means { TextsMean (commands.line_alone (texts words.now)) }
+{
     match read_alone(alloc, words) {
-        Ok(options) => answer_options(alloc, &options, source, sink),
+        Ok(options) => answer_options::<St, S, K>(alloc, &options, source, sink),
         Err(WordsFault::Usage) => Status::Usage,
         Err(WordsFault::Memory) => Status::Memory,
     }
@@ -99,7 +125,7 @@ fn settings_of(options: &Options) -> Settings
 }
 
 // Answers the text that options ask for.
-fn answer_options<S: Source, K: Sink>(
+fn answer_options<St: Store, S: Source, K: Sink>(
     alloc: Global,
     options: &Options,
     source: &mut S,
@@ -116,13 +142,13 @@ fn answer_options<S: Source, K: Sink>(
 {
     let settings = settings_of(options);
     match options.load {
-        Some(number) => answer_load(alloc, number, settings, sink),
-        None => answer_place(alloc, place_of(&options.file), settings, source, sink),
+        Some(number) => answer_load::<St, K>(alloc, number, settings, sink),
+        None => answer_place::<St, S, K>(alloc, place_of(&options.file), settings, source, sink),
     }
 }
 
 // Answers the text at a place of the source.
-fn answer_place<S: Source, K: Sink>(
+fn answer_place<St: Store, S: Source, K: Sink>(
     alloc: Global,
     place: Place<'_>,
     settings: Settings,
@@ -138,7 +164,7 @@ fn answer_place<S: Source, K: Sink>(
     }) result }
 {
     match take_text(alloc, source, place) {
-        Ok(text) => answer_text(alloc, settings, &text, sink),
+        Ok(text) => answer_text::<St, K>(alloc, settings, &text, sink),
         Err(TextStop::Fault) => Status::ReadFault,
         Err(TextStop::TooLong) => Status::TooLong,
         Err(TextStop::Memory) => Status::Memory,
@@ -146,7 +172,12 @@ fn answer_place<S: Source, K: Sink>(
 }
 
 // Answers a generated load.
-fn answer_load<K: Sink>(alloc: Global, number: u32, settings: Settings, sink: &mut K) -> Status
+fn answer_load<St: Store, K: Sink>(
+    alloc: Global,
+    number: u32,
+    settings: Settings,
+    sink: &mut K,
+) -> Status
     requires range { InRange settings }
     requires number { number ≤ greatest_load }
     requires library { settings.library ≡ true }
@@ -154,20 +185,25 @@ fn answer_load<K: Sink>(alloc: Global, number: u32, settings: Settings, sink: &m
     ensures accepted { is_refusal result ≡ false }
 {
     match make_load(alloc, number) {
-        Ok(text) => answer_text(alloc, settings, &text, sink),
+        Ok(text) => answer_text::<St, K>(alloc, settings, &text, sink),
         Err(Memory) => Status::Memory,
     }
 }
 
 // Writes what a text that was got whole is answered with.
-fn answer_text<K: Sink>(alloc: Global, settings: Settings, text: &[u8], sink: &mut K) -> Status
+fn answer_text<St: Store, K: Sink>(
+    alloc: Global,
+    settings: Settings,
+    text: &[u8],
+    sink: &mut K,
+) -> Status
     requires short { length text.now ≤ 1048576 }
     requires range { InRange settings }
     ensures { WritesReply settings text.now (K.view sink.old) (K.view sink.new) result }
 {
     let mut names = Names::new(alloc);
     match compile_text(alloc, settings, text, &mut names) {
-        Ok(compiled) => answer_runs(alloc, settings, &compiled, &names, sink),
+        Ok(compiled) => answer_runs::<St, K>(alloc, settings, &compiled, &names, sink),
         Err(NotRun::Fault(fault)) => refuse(alloc, fault, sink),
         Err(NotRun::Memory) => Status::Memory,
     }
@@ -182,7 +218,7 @@ fn texts_differ(names: &Names)
 }
 
 // Writes the runs of a text.
-fn answer_runs<K: Sink>(
+fn answer_runs<St: Store, K: Sink>(
     alloc: Global,
     settings: Settings,
     compiled: &Compiled,
@@ -197,14 +233,7 @@ fn answer_runs<K: Sink>(
 {
     let Compiled { program, queries } = compiled;
     texts_differ(names);
-    match write_runs::<K, SolvedStore<TreeBindings>>(
-        alloc,
-        program,
-        queries.items(),
-        settings,
-        names,
-        sink,
-    ) {
+    match write_runs::<K, St>(alloc, program, queries.items(), settings, names, sink) {
         Ok(false) => Status::Done,
         Ok(true) => Status::Fuel,
         Err(Stop::Fault) => Status::WriteFault,
