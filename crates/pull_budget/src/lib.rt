@@ -1,4 +1,5 @@
-//! How far workers may run ahead of the one that pulls: four words that threads share, under a rule.
+//! How far workers may run ahead of the one that pulls: four words that threads share, and the
+//! rule over them.
 #![tactic(auto)]
 
 mod budget;
