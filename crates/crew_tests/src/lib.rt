@@ -1,0 +1,7 @@
+//! Tests of budgets and deques between threads.
+#![tactic(auto)]
+
+#[cfg(test)]
+mod asking;
+#[cfg(test)]
+mod budgets;
