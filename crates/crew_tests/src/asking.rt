@@ -220,7 +220,11 @@ pub fn race<R: Threads + Wait + Sync>(
 {
     let (budget, seat) = Budget::new(alloc, ahead)?;
     let (mut seat, won) = race_on(rt, &budget, seat, count);
-    let (more, last) = ask_on(&budget, &mut seat, ahead.saturating_add(count).saturating_add(1));
+    let (more, last) = ask_on(
+        &budget,
+        &mut seat,
+        ahead.saturating_add(count).saturating_add(1),
+    );
     let spent = budget.end(seat);
     Ok(Raced {
         won,

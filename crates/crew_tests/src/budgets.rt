@@ -7,7 +7,8 @@ use std::test::Fail;
 // Whether a race in which tickets may run ahead by 8 came to what it must.
 fn came_right(race: &Raced, pulls: u64) -> bool {
     let all = pulls.wrapping_add(8);
-    let full = matches!(race.last, Some(Denied::Full(begun, seen)) if begun == all && seen == pulls);
+    let full =
+        matches!(race.last, Some(Denied::Full(begun, seen)) if begun == all && seen == pulls);
     let words = race.spent.pulls == pulls && race.spent.begun == all;
     full && words && race.won.wrapping_add(race.more) == all
 }

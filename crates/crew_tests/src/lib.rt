@@ -5,3 +5,7 @@
 mod asking;
 #[cfg(test)]
 mod budgets;
+#[cfg(test)]
+mod deques;
+#[cfg(test)]
+mod tasks;
