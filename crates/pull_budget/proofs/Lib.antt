@@ -1,0 +1,2 @@
+pub mod KeptViews
+pub mod KeptSteps

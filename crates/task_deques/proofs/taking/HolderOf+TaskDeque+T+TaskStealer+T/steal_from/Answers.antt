@@ -1,0 +1,31 @@
+use Rattle.std.proofs.Common.{ap, sym, ◌++◌, append_assoc}
+use Rattle.std.proofs.lemmas.Option.{IfSome_then}
+use Rattle.task_deques.specs.Holders.{pushed_through, taken_through, pushed, taken, deque_part}
+use Rattle.task_deques.proofs.Lists.{steady, grown, after, then, like}
+use Rattle.task_deques.proofs.GatherLaws.{stole_shape, listed, stole_none}
+use Rattle.task_deques.proofs.taking.HolderOf+TaskDeque+T+TaskStealer+T.steal_from.Goals as goal
+
+pub returns-clause-same : goal.returns-clause-same
+returns-clause-same g c =
+    let others = c.args.self.now.others.items in
+    let at = listed others c.args.other c.index_mut.result.now _ c.requires c.index_mut.ensures.value in
+    ap (λ l. (deque_part c.args.self.now.deque, l)) (stole_shape others c.args.other c.index_mut.result.now c.steal.new.self at c.steal.ensures.same)
+
+pub returns-clause-pushed : goal.returns-clause-pushed
+returns-clause-pushed g c =
+    let others = c.args.self.now.others.items in
+    let at = listed others c.args.other c.index_mut.result.now _ c.requires c.index_mut.ensures.value in
+    ap (λ l. pushed c.args.self.now.deque ++ l) (steady pushed_through others c.args.other c.index_mut.result.now c.steal.new.self at c.steal.ensures.pushed)
+
+pub returns-clause-some : goal.returns-clause-some
+returns-clause-some g c =
+    let others = c.args.self.now.others.items in
+    let at = listed others c.args.other c.index_mut.result.now _ c.requires c.index_mut.ensures.value in
+    IfSome_then c.steal.result c.steal.ensures.some
+    (λ x e. then (after (taken c.args.self.now.deque) (grown taken_through others c.args.other c.index_mut.result.now c.steal.new.self _ at e)) (like _ _ (sym (append_assoc (taken c.args.self.now.deque) _ _))))
+
+pub returns-clause-none : goal.returns-clause-none
+returns-clause-none g c =
+    let others = c.args.self.now.others.items in
+    let at = listed others c.args.other c.index_mut.result.now _ c.requires c.index_mut.ensures.value in
+    stole_none c.steal.result c.steal.ensures.none (λ e. ap (λ l. taken c.args.self.now.deque ++ l) (steady taken_through others c.args.other c.index_mut.result.now c.steal.new.self at e))

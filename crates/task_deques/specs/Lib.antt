@@ -1,0 +1,5 @@
+pub mod Shares
+pub mod Whole
+pub mod Holders
+pub mod Turns
+pub mod InTurn
