@@ -1,10 +1,12 @@
 -- What a clause sees of a deque, a stealer and a holder.
-use Rattle.std.specs.Prelude.{◌≡◌, ℕ, List, [], ◌++◌, map, flat_map}
+use Rattle.std.specs.Prelude.{◌≡◌, ◌≢◌, ℕ, List, [], ◌++◌, map, flat_map}
+use mathlib.Core.Option.{some}
+use lib.ListN.{get_elem?}
 use Rattle.crossbeam_deque.specs.Handles.{worker_deque, worker_view, stealer_deque, view}
 use Rattle.task_deques.specs.declared.holders.TaskDeque.{TaskDeque}
 use Rattle.task_deques.specs.declared.holders.TaskStealer.{TaskStealer}
 use Rattle.task_deques.specs.declared.holders.HolderOf.{HolderOf}
-use Rattle.task_deques.specs.Shares.{whole, total}
+use Rattle.task_deques.specs.Shares.{whole, total, WasEmpty}
 use Rattle.task_deques.specs.Whole.{DequePart, StealerPart, Every, IsAll}
 
 abbrev pub Holder : Type 0 → Type 0
@@ -48,6 +50,15 @@ module _ {T : Type 0} where
   -- the holder's tasks are of this home
   abbrev pub IsHolderOf : List ℕ → Holder T → Type 0
   IsHolderOf home h = (deque_home (deque_of h) ≡ home) × Every (IsStealerOf home) (others_of h)
+
+-- one of the stealers stole, and no other
+module _ {T : Type 0} where
+  abbrev pub IsSameBut : ℕ → List (TaskStealer T) → List (TaskStealer T) → Type 0
+  IsSameBut other old new = (k : ℕ) → k ≢ other → get_elem? new k ≡ get_elem? old k
+
+  -- its deque was empty at one moment
+  abbrev pub FoundEmpty : List (TaskStealer T) → ℕ → Type 0
+  FoundEmpty ss other = (s : TaskStealer T) → get_elem? ss other ≡ some s → WasEmpty (view s.pass)
 
 -- which deques a holder has parts of
 module _ {T : Type 0} where

@@ -7,7 +7,7 @@ ghost use Rattle.task_deques.specs.Shares.{whole, WasEmpty};
 ghost use Rattle.task_deques.specs.Holders.{pushed, taken, deque_home, deque_part};
 ghost use Rattle.task_deques.specs.Holders.{pushed_through, taken_through, stealer_home};
 ghost use Rattle.task_deques.specs.Holders.{stealer_part, holder_part, pushed_by, taken_by};
-ghost use Rattle.task_deques.specs.Holders.{IsHolderOf};
+ghost use Rattle.task_deques.specs.Holders.{IsHolderOf, IsSameBut, FoundEmpty};
 
 use crate::holders::{HolderOf, TaskDeque, TaskStealer};
 use crate::shares::{Puts, Takes, Task};
@@ -80,6 +80,9 @@ impl<T: Task> HolderOf<TaskDeque<T>, TaskStealer<T>> {
     pub fn steal_from<R: Wait>(&mut self, rt: &R, other: usize) -> Option<T>
         requires { other < length self.old.others.items }
         ensures same { holder_part self.new ≡ holder_part self.old }
+        ensures deque { self.new.deque ≡ self.old.deque }
+        ensures only { IsSameBut other self.old.others.items self.new.others.items }
+        ensures empty { IfNone result (FoundEmpty self.old.others.items other) }
         ensures home { (n : List ℕ) → IsHolderOf n self.old
             → IsHolderOf n self.new × IfSome result (λ task. T.home task ≡ n) }
         ensures pushed { pushed_by self.new ≡ pushed_by self.old }

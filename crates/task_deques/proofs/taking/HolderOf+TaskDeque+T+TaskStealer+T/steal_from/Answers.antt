@@ -1,8 +1,13 @@
-use Rattle.std.proofs.Common.{ap, sym, ◌++◌, append_assoc}
+use Rattle.std.proofs.Common.{ap, subst, sym, ◌∙◌, ◌++◌, append_assoc}
 use Rattle.std.proofs.lemmas.Option.{IfSome_then}
 use Rattle.task_deques.specs.Holders.{pushed_through, taken_through, pushed, taken, deque_part}
 use Rattle.task_deques.proofs.Lists.{steady, grown, after, then, like}
 use Rattle.task_deques.proofs.GatherLaws.{stole_shape, listed, stole_none}
+use mathlib.Core.Option.{some-injective}
+use Rattle.crossbeam_deque.proofs.Lists.{set_else}
+use Rattle.crossbeam_deque.specs.Handles.{view}
+use Rattle.task_deques.specs.declared.holders.TaskStealer.{TaskStealer}
+use Rattle.task_deques.specs.Shares.{WasEmpty}
 use Rattle.task_deques.proofs.taking.HolderOf+TaskDeque+T+TaskStealer+T.steal_from.Goals as goal
 
 pub returns-clause-same : goal.returns-clause-same
@@ -29,3 +34,12 @@ returns-clause-none g c =
     let others = c.args.self.now.others.items in
     let at = listed others c.args.other c.index_mut.result.now _ c.requires c.index_mut.ensures.value in
     stole_none c.steal.result c.steal.ensures.none (λ e. ap (λ l. taken c.args.self.now.deque ++ l) (steady taken_through others c.args.other c.index_mut.result.now c.steal.new.self at e))
+
+pub returns-clause-only : goal.returns-clause-only
+returns-clause-only g c = λ k n. set_else c.args.self.now.others.items c.args.other k c.steal.new.self n
+
+pub returns-clause-empty : goal.returns-clause-empty
+returns-clause-empty g c =
+    let others = c.args.self.now.others.items in
+    let at = listed others c.args.other c.index_mut.result.now _ c.requires c.index_mut.ensures.value in
+    stole_none c.steal.result c.steal.ensures.empty (λ e. λ s here. subst (λ (x : TaskStealer _). WasEmpty (view x.pass)) (some-injective c.index_mut.result.now s (sym at ∙ here)) e)
