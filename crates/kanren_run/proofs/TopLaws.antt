@@ -10,7 +10,7 @@ use Rattle.kan_model.specs.Programs.Closed.{query_of}
 use Rattle.kan_model.specs.Answers.Output.{runs_output}
 use Rattle.kan_grammar.specs.Data.Faults.{fault}
 use Rattle.kan_grammar.specs.Texts.Reply.{reply_bytes, refusal_line, spends_fuel}
-use Rattle.kanren_run.specs.Answers.{answer_bytes, is_accepted, AreInForm, IsRefused, Runs, spends}
+use Rattle.kanren_run.specs.Answers.{answer, answer_bytes, is_accepted, AreInForm, IsRefused, Runs, spends}
 use Rattle.kanren_run.specs.Outcomes.{PutFront, PutWhole}
 use Rattle.kanren_run.specs.Replies.{HasRuns, ComesTo}
 use Rattle.kanren_run.specs.declared.text.NotRun.{NotRun}
@@ -32,13 +32,18 @@ lines_same s text names program queries has =
     runs-same names (programs.meaning program) has.meant has.relations s.fuel (map (query_of program) queries)
     ∙ ap (reply_bytes s.fuel) (sym has.answered)
 
+-- their answers are in form
+forms_of : (s : Settings) (text : List ℕ) (names : Table) (program : declared.Program) (queries : List declared.Query) (has : HasRuns s text names program queries) → TextsDiffer names → AreInForm s.fuel (answer s text)
+forms_of s text names program queries has differ =
+    subst (AreInForm s.fuel) (sym has.answered)
+    (answers_in_form s.fuel names has.meant (map (query_of program) queries) differ (subst (λ rs. list_all (is_body_named names) rs ≡ true) has.relations has.can.bodies) has.can.goals)
+
 -- whether one of them spends its fuel
 runs_of : (s : Settings) (text : List ℕ) (names : Table) (program : declared.Program) (queries : List declared.Query) (spent : Bool) (has : HasRuns s text names program queries) → TextsDiffer names →
     spent ≡ spends (programs.meaning program) s.fuel (map (query_of program) queries) → Runs s text spent
 runs_of s text names program queries spent has differ told = record {
   accepted = ap is_accepted has.answered;
-  in_form = subst (AreInForm s.fuel) (sym has.answered)
-      (answers_in_form s.fuel names has.meant (map (query_of program) queries) differ (subst (λ rs. list_all (is_body_named names) rs ≡ true) has.relations has.can.bodies) has.can.goals);
+  in_form = forms_of s text names program queries has differ;
   spends = ap (spends_fuel s.fuel) has.answered
       ∙ sym (told ∙ spends-same (programs.meaning program) has.meant has.relations s.fuel (map (query_of program) queries));
 }
@@ -53,17 +58,22 @@ runs_done s text names program queries items b spent old new differ has same is 
   still,
 )
 
-pub runs_stopped : (s : Settings) (text : List ℕ) (names : Table) (program : declared.Program) (queries items : List declared.Query) (put after : Option (List ℕ)) → HasRuns s text names program queries → items ≡ queries →
+pub runs_stopped : (s : Settings) (text : List ℕ) (names : Table) (program : declared.Program) (queries items : List declared.Query) (put after : Option (List ℕ)) → TextsDiffer names → HasRuns s text names program queries → items ≡ queries →
     PutsFront put after (runs_output names (programs.meaning program) s.fuel (map (query_of program) items)) → PutFront s text put after
-runs_stopped s text names program queries items put after has same front =
-    subst (PutsFront put after) (ap (λ qs. runs_output names (programs.meaning program) s.fuel (map (query_of program) qs)) same ∙ lines_same s text names program queries has) front
+runs_stopped s text names program queries items put after differ has same front = record {
+  front = subst (PutsFront put after) (ap (λ qs. runs_output names (programs.meaning program) s.fuel (map (query_of program) qs)) same ∙ lines_same s text names program queries has) front;
+  in_form = forms_of s text names program queries has differ;
+}
 
 -- the line of a refusal is what is written for the text
 line_same : (s : Settings) (text : List ℕ) (at number : ℕ) (line : List ℕ) → IsRefused s text at number → line ≡ refusal_line (fault at number) → line ≡ answer_bytes s text
 line_same s text at number line refused is = is ∙ ap (reply_bytes s.fuel) (sym refused)
 
 pub refused_front : (s : Settings) (text : List ℕ) (at number : ℕ) (line : List ℕ) (put after : Option (List ℕ)) → IsRefused s text at number → line ≡ refusal_line (fault at number) → PutsFront put after line → PutFront s text put after
-refused_front s text at number line put after refused is front = subst (PutsFront put after) (line_same s text at number line refused is) front
+refused_front s text at number line put after refused is front = record {
+  front = subst (PutsFront put after) (line_same s text at number line refused is) front;
+  in_form = subst (AreInForm s.fuel) (sym refused) tt;
+}
 
 pub refused_whole : (s : Settings) (text : List ℕ) (at number : ℕ) (line : List ℕ) (put after : Option (List ℕ)) → IsRefused s text at number → line ≡ refusal_line (fault at number) → Appends put after line → PutWhole s text put after
 refused_whole s text at number line put after refused is whole = subst (Appends put after) (line_same s text at number line refused is) whole

@@ -10,7 +10,7 @@ use Rattle.command_line.specs.Lines.{Line}
 use Rattle.kanren_run.specs.Commands.{line_alone}
 use Rattle.kanren_run.specs.Settings.{settings_of}
 use Rattle.kanren_run.specs.Origins.{Origin, origin_of, Ends, IsOpened, GetsWhole, GetsAtMost, GetsTooMuch, IsThere}
-use Rattle.kanren_run.specs.Answers.{answer_bytes, Runs, IsRefused}
+use Rattle.kanren_run.specs.Answers.{answer, answer_bytes, AreInForm, Runs, IsRefused}
 use Rattle.kanren_run.specs.declared.settings.Settings.{Settings}
 
 -- a call of the program: its words, its ends and its status
@@ -23,9 +23,10 @@ pub record Call : Type 0 where
 abbrev pub PutWhole : Settings → List ℕ → Option (List ℕ) → Option (List ℕ) → Type 0
 PutWhole s text put after = Appends put after (answer_bytes s text)
 
--- a front of what is written for a text was put
-abbrev pub PutFront : Settings → List ℕ → Option (List ℕ) → Option (List ℕ) → Type 0
-PutFront s text put after = PutsFront put after (answer_bytes s text)
+-- a front of what is written for a text was put, and its answers are in form
+pub record PutFront (s : Settings) (text : List ℕ) (put after : Option (List ℕ)) : Type 0 where
+  pub front : PutsFront put after (answer_bytes s text)
+  pub in_form : AreInForm s.fuel (answer s text)
 
 -- a text was got whole and is accepted, and its output was put; it is said whether some run spent its fuel
 pub record Ran (o : Origin) (s : Settings) (e : Ends) (spent : Bool) : Type 0 where

@@ -14,9 +14,9 @@ returns-in-Ok-false g c text has =
 pub returns-in-Err-Fault : goal.returns-in-Err-Fault
 returns-in-Err-Fault g c text has =
     let (front, more) = stops_as _ (g.K.Sink.view c.args.sink.now) (g.K.Sink.view c.write_runs.new.sink) _ _ c.in-Err-Fault.field-0-is c.in-Err-Fault.ensures.puts in
-    (runs_stopped c.args.settings text c.args.names.now c.args.compiled.now.program c.args.compiled.now.queries c.items.result.now _ _ has c.items.ensures front, more)
+    (runs_stopped c.args.settings text c.args.names.now c.args.compiled.now.program c.args.compiled.now.queries c.items.result.now _ _ c.texts_differ.ensures has c.items.ensures front, more)
 
 pub returns-in-Err-Memory : goal.returns-in-Err-Memory
 returns-in-Err-Memory g c text has =
     let (front, still) = stops_as _ (g.K.Sink.view c.args.sink.now) (g.K.Sink.view c.write_runs.new.sink) _ _ c.in-Err-Memory.field-0-is c.in-Err-Memory.ensures.puts in
-    (some (runs_stopped c.args.settings text c.args.names.now c.args.compiled.now.program c.args.compiled.now.queries c.items.result.now _ _ has c.items.ensures front), still)
+    (some (runs_stopped c.args.settings text c.args.names.now c.args.compiled.now.program c.args.compiled.now.queries c.items.result.now _ _ c.texts_differ.ensures has c.items.ensures front), still)
