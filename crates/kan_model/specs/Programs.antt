@@ -9,3 +9,4 @@ pub mod Measures
 pub mod Rows
 pub mod Calls
 pub mod Environments
+pub mod Values

@@ -4,33 +4,25 @@ ghost use Rattle.std.specs.Prelude.{◌≡◌, IsTrue, IfOk, map};
 ghost use Rattle.std.specs.List.{list_all};
 ghost use Rattle.kan_terms.specs.Terms.{tree};
 ghost use Rattle.kan_model.specs.Terms.Flat.{is_flat};
+ghost use Rattle.kan_model.specs.Programs.Values.{values_of};
 
 use crate::letters::{Letter, build, first_letter};
 use crate::nodes::TermNode;
 use crate::program::Program;
+use crate::values::{Values, copied};
 use kan_terms::{Memory, Term};
 use std::alloc::Global;
 
 /// A list of terms without pairs, one for each slot.
 #[derive(Drop)]
 pub struct Env {
-    values: Vec<Term>,
-    ghost flat: { IsTrue (list_all is_flat (map tree values.items)) },
-}
-
-// Terms once more, in the same order.
-fn copied(alloc: Global, values: &[Term]) -> Result<Vec<Term>, Memory>
-    ensures { IfOk result (λ copies. map tree copies.items ≡ map tree values.now) }
-{
-    let mut copies = Vec::new(alloc);
-    for value in values {
-        copies.push(value.again()?)?;
-    }
-    Ok(copies)
+    values: Values,
+    ghost flat: { IsTrue (list_all is_flat (map tree (values_of values))) },
 }
 
 impl Env {
-    ghost use Rattle.std.specs.Prelude.{◌+◌, ◌≤◌, ◌^◌, [], ◌∷◌, ◌++◌, true, slice_get, OnOk};
+    ghost use Rattle.std.specs.Prelude.{◌+◌, ◌≤◌, ◌^◌, [], ◌∷◌, ◌++◌, true, slice_get};
+    ghost use Rattle.std.specs.Prelude.{OnOk, IfSome};
     ghost use Rattle.std.specs.Option.{option_copied};
     ghost use Rattle.kan_terms.specs.Tree.{Tree};
     ghost use Rattle.kan_model.specs.Streams.Running.{instance, variables};
@@ -45,6 +37,7 @@ impl Env {
     {
         let mut values = Vec::new(alloc);
         values.push(Term::Var(var))?;
+        let values = Values::shared(alloc, values)?;
         Ok(Env { values })
     }
 
@@ -53,14 +46,15 @@ impl Env {
         requires { list_all is_flat (map tree values.items) ≡ true }
         ensures { terms_of result ≡ map tree values.items }
     {
+        let values = Values::Own(values);
         Env { values }
     }
 
-    /// An equal environment.
+    /// An equal environment. One that isn't new shares its terms.
     pub fn again(&self, alloc: Global) -> Result<Env, Memory>
         ensures { IfOk result (λ copy. terms_of copy ≡ terms_of self.now) }
     {
-        let values = copied(alloc, &self.values)?;
+        let values = self.values.again(alloc)?;
         Ok(Env { values })
     }
 
@@ -69,18 +63,52 @@ impl Env {
         requires { first + count ≤ 2 ^ 63 }
         ensures { IfOk result (λ made. terms_of made ≡ terms_of self.now ++ variables first count) }
     {
-        let mut values = copied(alloc, &self.values)?;
+        let mut values = copied(alloc, self.values.lent())?;
         for offset in 0..count {
             values.push(Term::Var(first + u64::from(offset)))?;
         }
+        let values = Values::shared(alloc, values)?;
         Ok(Env { values })
     }
 
     // What a slot stands for.
     fn slot_value(&self, slot: u32) -> Option<&Term>
-        ensures { option_copied result ≡ slice_get self.now.values.items slot }
+        ensures { option_copied result ≡ slice_get (values_of self.now.values) slot }
     {
-        self.values.get(slot as usize)
+        self.values.lent().get(slot as usize)
+    }
+
+    // What a slot stands for, once more.
+    fn slot_term(&self, slot: u32) -> Result<Term, Memory>
+        ensures { IfOk result
+            (λ made. tree made ≡ instance (terms_of self.now) (Tree.leaf slot)) }
+    {
+        match self.slot_value(slot) {
+            Some(value) => {
+                let copy = value.again()?;
+                Ok(copy)
+            }
+            None => Ok(Term::Nil),
+        }
+    }
+
+    // The term of a template that is no pair.
+    fn leaf(&self, program: &Program, term: u32) -> Result<Option<Term>, Memory>
+        ensures { IfOk result (λ found. IfSome found (λ made. tree made
+            ≡ instance (terms_of self.now) (programs.template program.now term))) }
+    {
+        match program.template_node(term) {
+            TermNode::Slot(slot) => {
+                let made = self.slot_term(slot)?;
+                Ok(Some(made))
+            }
+            TermNode::Sym(name) => Ok(Some(Term::Sym(name))),
+            TermNode::Str(text) => Ok(Some(Term::Str(text))),
+            TermNode::Num(number) => Ok(Some(Term::Num(number))),
+            TermNode::Truth(truth) => Ok(Some(Term::Truth(truth))),
+            TermNode::Nil => Ok(Some(Term::Nil)),
+            TermNode::Pair(_, _) => Ok(None),
+        }
     }
 
     // The first letter of what a slot stands for.
@@ -142,11 +170,50 @@ impl Env {
         Ok(letters)
     }
 
-    /// The term of a template, with the slots filled.
-    pub fn value(&self, alloc: Global, program: &Program, term: u32) -> Result<Term, Memory>
-        ensures { IfOk result (λ made. tree made ≡ instance (terms_of self.now) (programs.template program.now term)) }
+    // The term of a template, by its letters.
+    fn spelled_value(&self, alloc: Global, program: &Program, term: u32) -> Result<Term, Memory>
+        ensures { IfOk result (λ made. tree made
+            ≡ instance (terms_of self.now) (programs.template program.now term)) }
     {
         let letters = self.spelled(alloc, program, term)?;
         build(alloc, letters)
+    }
+
+    // The term of a template that is a pair of two that are none.
+    fn small_pair(
+        &self,
+        alloc: Global,
+        program: &Program,
+        term: u32,
+    ) -> Result<Option<Term>, Memory>
+        ensures { IfOk result (λ found. IfSome found (λ made. tree made
+            ≡ instance (terms_of self.now) (programs.template program.now term))) }
+    {
+        let TermNode::Pair(first, rest) = program.template_node(term) else {
+            return Ok(None);
+        };
+        let Some(first) = self.leaf(program, first)? else {
+            return Ok(None);
+        };
+        let Some(rest) = self.leaf(program, rest)? else {
+            return Ok(None);
+        };
+        let made = Term::pair(alloc, first, rest)?;
+        Ok(Some(made))
+    }
+
+    /// The term of a template, with the slots filled.
+    pub fn value(&self, alloc: Global, program: &Program, term: u32) -> Result<Term, Memory>
+        ensures { IfOk result (λ made. tree made
+            ≡ instance (terms_of self.now) (programs.template program.now term)) }
+    {
+        // Most templates are no pairs, or pairs of such: they need no stack.
+        if let Some(made) = self.leaf(program, term)? {
+            return Ok(made);
+        }
+        if let Some(made) = self.small_pair(alloc, program, term)? {
+            return Ok(made);
+        }
+        self.spelled_value(alloc, program, term)
     }
 }

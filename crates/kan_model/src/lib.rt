@@ -10,6 +10,7 @@ mod nodes;
 mod prims;
 mod program;
 mod stores;
+mod values;
 
 pub use draft::Draft;
 pub use environment::Env;

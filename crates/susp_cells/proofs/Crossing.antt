@@ -1,7 +1,7 @@
 -- What may go to another thread, one type after the other, each over those that it stands on.
 use denote.RattleType.{RattleType}
 use denote.Param.Send.{IsSend, IsSync, sendable}
-use denote.Param.SendFields.{declared_sync, variants_send, variants_sync}
+use denote.Param.SendFields.{declared_send, declared_sync, variants_send, variants_sync}
 use denote.Hole.{as_row}
 use denote.Struct.Field.{u32-field, row_field}
 use Rattle.std.specs.contracts.option.Option as Option
@@ -10,6 +10,7 @@ use Rattle.kan_terms.proofs.terms.PairParts.TheLaws.TheKnot as term_knot
 use Rattle.kan_terms.specs.contracts.terms.Term as Term
 use Rattle.kan_terms.specs.contracts.list.ListOf as ListOf
 use Rattle.kan_model.specs.contracts.environment.Env as Env
+use Rattle.kan_model.specs.contracts.values.Values as Values
 use Rattle.kan_model.specs.contracts.nodes.TermRow as TermRow
 use Rattle.kan_model.specs.contracts.nodes.GoalRow as GoalRow
 use Rattle.kan_model.specs.contracts.nodes.Relation as Relation
@@ -37,11 +38,29 @@ term_send = search (sendable, crosses, term_knot.crosses) depth 40
 pub term_sync : IsSync Term.the_row
 term_sync = search (sendable, crosses, term_knot.crosses) depth 40
 
+pub values_send : IsSend Values.the_row
+values_send = variants_send Values.enum (
+  (search (sendable, crosses, term_send) depth 40, tt),
+  ((search (sendable, crosses, term_send, term_sync) depth 40, tt), tt),
+)
+
+pub values_sync : IsSync Values.the_row
+values_sync = variants_sync Values.enum (
+  (search (sendable, crosses, term_sync) depth 40, tt),
+  ((search (sendable, crosses, term_send, term_sync) depth 40, tt), tt),
+)
+
+pub values_field_send : IsSend (as_row Values.the_field)
+values_field_send = search (sendable, crosses, values_send) depth 40
+
+pub values_field_sync : IsSync (as_row Values.the_field)
+values_field_sync = search (sendable, crosses, values_sync) depth 40
+
 pub env_send : IsSend Env.the_row
-env_send = search (sendable, crosses, term_send) depth 40
+env_send = declared_send Env.the_type (values_field_send, tt)
 
 pub env_sync : IsSync Env.the_row
-env_sync = search (sendable, crosses, term_sync) depth 40
+env_sync = declared_sync Env.the_type (values_field_sync, tt)
 
 pub term_row_sync : IsSync TermRow.the_row
 term_row_sync = search (sendable, crosses) depth 40

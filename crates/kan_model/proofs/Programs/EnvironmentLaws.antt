@@ -31,6 +31,18 @@ slot-letter [] i found is = ap letter_found is
 slot-letter (t ∷ values) zero found is = ap letter_found is
 slot-letter (t ∷ values) (suc i) found is = slot-letter values i found is
 
+-- what may be a term; where there is none it is the empty list
+abbrev pub term_found : Option Term → Tm
+term_found None = Tree.nil
+term_found (Some t) = tree t
+
+-- what a slot stands for
+pub slot-term : (values : List Term) (i : ℕ) (found : Option Term) → found ≡ slice_get values i →
+    term_found found ≡ slot (map tree values) i
+slot-term [] i found is = ap term_found is
+slot-term (t ∷ values) zero found is = ap term_found is
+slot-term (t ∷ values) (suc i) found is = slot-term values i found is
+
 -- a variable more
 pub variables-last : (first k : ℕ) → variables first (k + 1) ≡ variables first k ++ Tree.leaf (first + k) ∷ []
 variables-last first zero = ap (λ n. Tree.leaf n ∷ []) (sym (add-zero first))

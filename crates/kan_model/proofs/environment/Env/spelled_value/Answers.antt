@@ -1,5 +1,5 @@
 use Rattle.kan_model.proofs.LettersLaws.{spells_one, spelled_ok}
-use Rattle.kan_model.proofs.environment.Env.value.Goals as goal
+use Rattle.kan_model.proofs.environment.Env.spelled_value.Goals as goal
 
 pub build-requires : goal.build-requires
 build-requires c = spells_one _ _ c.in_ok-letters.ensures
