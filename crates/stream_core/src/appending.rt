@@ -40,6 +40,9 @@ fn joined<St: Drop>(
 ) -> Result<Stores<St>, Memory>
     ensures { IfOk result (λ joined. joined ≡ left ++ right) }
 {
+    if left.is_empty() {
+        return Ok(right);
+    }
     let mut waiting = reversed(alloc, right)?;
     while let Some(store) = waiting.pop() {
         put_last(&mut left, store)?;

@@ -333,6 +333,36 @@ pub(crate) fn bind_with<N: Nodes<St>, St: Store>(
     Ok(made)
 }
 
+// The same, with nothing to be run where the stream has no stores yet.
+pub(crate) fn bind_later<N: Nodes<St>, St: Store>(
+    alloc: Global,
+    program: &Program,
+    goal: u32,
+    env: Env,
+    stream: Stream<N::Id, St>,
+    nodes: &mut N,
+) -> Result<Stream<N::Id, St>, Memory>
+    requires table { IsTableOf program.now (N.table nodes.old) }
+    requires is { IsOf (programs.meaning program.now) (programs.goal program.now goal)
+        (terms_of env) }
+    requires room { Each (AreBelow (terms_of env)) (map St.meaning stream.heads) }
+    requires below { AreBelowRest (terms_of env) (stream_in (N.table nodes.old) St.meaning stream) }
+    requires belong { HasStream (N.table nodes.old) stream }
+    ensures made { IfOk result (λ made. stream_in (N.table nodes.new) St.meaning made
+        ≡ model.bind_all (run (programs.goal program.now goal) (terms_of env))
+        (programs.goal program.now goal) (terms_of env)
+        (stream_in (N.table nodes.old) St.meaning stream)) }
+    ensures belong { IfOk result (HasStream (N.table nodes.new)) }
+    ensures adds { OnlyAdds (N.table nodes.old) (N.table nodes.new) }
+{
+    if !stream.heads.is_empty() {
+        return bind_with(alloc, program, goal, env, stream, nodes);
+    }
+    let Stream { heads: _, tail } = stream;
+    let made = bound_tail(alloc, program, goal, &env, tail, nodes)?;
+    Ok(made)
+}
+
 /// The streams of a goal at each store of a stream, appended; the goal waits for the stores that
 /// come later.
 pub fn bind_all<N: Nodes<St>, St: Store>(
