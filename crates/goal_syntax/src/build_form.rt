@@ -1,6 +1,7 @@
 //! Building top forms: relations and runs.
 
-ghost use Rattle.goal_syntax.specs.Building.InContext.{list_goal, relation_at, relations_parsed, queries_parsed, names_parsed};
+ghost use Rattle.goal_syntax.specs.Building.InContext.{list_goal, relation_at, relations_parsed};
+ghost use Rattle.goal_syntax.specs.Building.InContext.{queries_parsed, names_parsed};
 ghost use Rattle.std.specs.Prelude.{◌≡◌, ◌&&◌, ◌<◌, ◌∷◌, ◌++◌, [], length, IfOk, OnOk};
 ghost use Rattle.kan_model.specs.Programs.Goals as model;
 ghost use Rattle.kan_grammar.specs.Texts.TopForms.{head_name};
@@ -10,8 +11,10 @@ ghost use Rattle.kan_model.specs.Programs.Drafts.{tables};
 ghost use Rattle.kan_model.specs.Programs.Nodes.{relation_entry};
 ghost use Rattle.kan_model.specs.Programs.Tables.{with_relation};
 ghost use Rattle.goal_forms.specs.Contexts.{data_of, datum_at};
-ghost use Rattle.goal_syntax.specs.Building.CallsThere.{KeepsClosed, all_named, bodies_named, calls_named};
-ghost use Rattle.goal_syntax.specs.Building.FormsBuilt.{name_symbol, query_asked, AddsNames, AddsRelations, AddsForms};
+ghost use Rattle.goal_syntax.specs.Building.CallsThere.{KeepsClosed, all_named, bodies_named};
+ghost use Rattle.goal_syntax.specs.Building.CallsThere.{calls_named};
+ghost use Rattle.goal_syntax.specs.Building.FormsBuilt.{name_symbol, query_asked, AddsNames};
+ghost use Rattle.goal_syntax.specs.Building.FormsBuilt.{AddsRelations, AddsForms};
 ghost use Rattle.goal_syntax.specs.Building.GrownTables.{HasGoal, Grows, HasRoom};
 ghost use Rattle.goal_forms.specs.FormSteps.{limit_at};
 ghost use Rattle.goal_forms.specs.Parts.{sites, site_at};

@@ -1,7 +1,9 @@
 //! Building goals.
 
-ghost use Rattle.goal_syntax.specs.Building.InContext.{list_goal, goal_alone, made_after, KeepsLowIn};
-ghost use Rattle.std.specs.Prelude.{List, ◌≡◌, ◌&&◌, ◌<◌, ◌≤◌, ◌+◌, ◌∷◌, ◌++◌, [], length, reverse, true, IfOk, OnOk};
+ghost use Rattle.goal_syntax.specs.Building.InContext.{list_goal, goal_alone, made_after};
+ghost use Rattle.goal_syntax.specs.Building.InContext.{KeepsLowIn};
+ghost use Rattle.std.specs.Prelude.{List, ◌≡◌, ◌&&◌, ◌<◌, ◌≤◌, ◌+◌, ◌∷◌, ◌++◌, [], length, reverse};
+ghost use Rattle.std.specs.Prelude.{true, IfOk, OnOk};
 ghost use Rattle.kan_grammar.specs.Texts.GoalForms.{goal_forms};
 ghost use Rattle.kan_grammar.specs.Texts.Resolved.{Names, within};
 ghost use Rattle.kan_model.specs.Programs.Drafts.{tables};
@@ -11,7 +13,8 @@ ghost use Rattle.goal_syntax.specs.Building.CallsThere.{are_there, calls_named};
 ghost use Rattle.goal_syntax.specs.Building.GoalsBuilt.{built, with_maybe};
 ghost use Rattle.goal_syntax.specs.Building.GrownTables.{HasGoal, Grows, HasRoom};
 ghost use Rattle.goal_forms.specs.GoalSteps.{inner_names};
-ghost use Rattle.goal_syntax.specs.Building.GoalsLeft.{first_work, inner_works, other_works, work_size, works_size};
+ghost use Rattle.goal_syntax.specs.Building.GoalsLeft.{first_work, inner_works, other_works};
+ghost use Rattle.goal_syntax.specs.Building.GoalsLeft.{work_size, works_size};
 ghost use Rattle.goal_forms.specs.Shapes.{parts};
 ghost use Rattle.goal_forms.specs.Places.{are_below};
 

@@ -1,7 +1,9 @@
 //! Building the goals of runs.
 
-ghost use Rattle.goal_syntax.specs.Building.InContext.{list_goal, goal_behind, run_goal, fresh_goal};
-ghost use Rattle.std.specs.Prelude.{true, ◌≤◌, ◌≡◌, ◌&&◌, ◌<◌, ◌^◌, ◌∷◌, [], List, length, IfOk, OnOk};
+ghost use Rattle.goal_syntax.specs.Building.InContext.{list_goal, goal_behind, run_goal};
+ghost use Rattle.goal_syntax.specs.Building.InContext.{fresh_goal};
+ghost use Rattle.std.specs.Prelude.{true, ◌≤◌, ◌≡◌, ◌&&◌, ◌<◌, ◌^◌, ◌∷◌, [], List, length, IfOk};
+ghost use Rattle.std.specs.Prelude.{OnOk};
 ghost use Rattle.kan_model.specs.Programs.Goals as model;
 ghost use Rattle.kan_grammar.specs.Texts.GoalForms.{goal_forms};
 ghost use Rattle.kan_grammar.specs.Texts.Resolved.{suspended_in, within};

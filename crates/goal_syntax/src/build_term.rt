@@ -1,7 +1,8 @@
 //! Building templates of terms.
 
 ghost use Rattle.goal_syntax.specs.Building.InContext.{task_template, term_templates, KeepsLowIn};
-ghost use Rattle.std.specs.Prelude.{◌≡◌, ◌∷◌, ◌+◌, ◌<◌, ◌^◌, ◌≤◌, map, length, reverse, unwrap_or, true, IfOk, OnOk};
+ghost use Rattle.std.specs.Prelude.{◌≡◌, ◌∷◌, ◌+◌, ◌<◌, ◌^◌, ◌≤◌, map, length, reverse, unwrap_or};
+ghost use Rattle.std.specs.Prelude.{true, IfOk, OnOk};
 ghost use Rattle.kan_grammar.specs.Texts.ProgramText.{slot_list};
 ghost use Rattle.kan_grammar.specs.Texts.Resolved.{template_in, slot_of};
 ghost use Rattle.kan_model.specs.Programs.Tables.{is_term_grown, template_at, template_of};
@@ -11,7 +12,9 @@ ghost use Rattle.std.specs.List.{list_all};
 ghost use Rattle.kan_model.specs.Programs.Scope.{is_low};
 ghost use Rattle.goal_forms.specs.Contexts.{data_of};
 ghost use Rattle.goal_syntax.specs.Building.TermHeights.{WorksLow, all_low};
-ghost use Rattle.goal_syntax.specs.Building.TermsLeft.{AddsTerms, HasTemplates, with_arguments, built, paired, finish, work_size, works_size};
+ghost use Rattle.goal_syntax.specs.Building.TermsLeft.{AddsTerms, HasTemplates, with_arguments};
+ghost use Rattle.goal_syntax.specs.Building.TermsLeft.{built, paired, finish, work_size};
+ghost use Rattle.goal_syntax.specs.Building.TermsLeft.{works_size};
 ghost use Rattle.goal_syntax.specs.Building.GrownTables.{HasTemplate, HasArguments, Grows, HasRoom};
 ghost use Rattle.goal_forms.specs.TermSteps.{step_form, step_size};
 ghost use Rattle.goal_forms.specs.Places.{are_below};

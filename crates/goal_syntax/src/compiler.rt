@@ -1,8 +1,11 @@
 //! Compiling texts: their program and their runs.
 
-ghost use Rattle.goal_syntax.specs.Building.InContext.{form_relations, form_names, forms_relations, forms_queries, forms_names};
-ghost use Rattle.goal_syntax.specs.Building.FormsBuilt.{relation_names, entry_names, AddsNames, AddsRelations, AddsForms};
-ghost use Rattle.std.specs.Prelude.{[], ◌≡◌, ◌&&◌, ◌+◌, ◌<◌, ◌^◌, ◌++◌, length, map, true, IfOk, OnOk};
+ghost use Rattle.goal_syntax.specs.Building.InContext.{form_relations, form_names, forms_relations};
+ghost use Rattle.goal_syntax.specs.Building.InContext.{forms_queries, forms_names};
+ghost use Rattle.goal_syntax.specs.Building.FormsBuilt.{relation_names, entry_names, AddsNames};
+ghost use Rattle.goal_syntax.specs.Building.FormsBuilt.{AddsRelations, AddsForms};
+ghost use Rattle.std.specs.Prelude.{[], ◌≡◌, ◌&&◌, ◌+◌, ◌<◌, ◌^◌, ◌++◌, length, map, true, IfOk};
+ghost use Rattle.std.specs.Prelude.{OnOk};
 ghost use Rattle.std.specs.List.{list_all};
 ghost use Rattle.kan_grammar.specs.Texts.TextNames.{with_prefixes};
 ghost use Rattle.kan_model.specs.Programs.Drafts.{tables};
@@ -20,7 +23,8 @@ ghost use Rattle.goal_forms.specs.Heights.{AreLow};
 ghost use Rattle.kan_grammar.specs.Texts.TextFaults.{faults_of, IsAccepted};
 ghost use Rattle.goal_syntax.specs.Building.CallsThere.{KeepsClosed, all_named, bodies_named};
 ghost use Rattle.goal_syntax.specs.Compiling.CompiledForms.{CompilesForms, IsMeant};
-ghost use Rattle.goal_syntax.specs.Compiling.Compiles.{AreOfText, Compiles, IsAcceptedAlone, TableAfter};
+ghost use Rattle.goal_syntax.specs.Compiling.Compiles.{AreOfText, Compiles, IsAcceptedAlone};
+ghost use Rattle.goal_syntax.specs.Compiling.Compiles.{TableAfter};
 ghost use Rattle.goal_syntax.specs.Building.GrownTables.{HasRoom};
 ghost use Rattle.goal_syntax.specs.Compiling.SymbolNames.{are_named};
 ghost use Rattle.goal_forms.specs.Parts.{sites, site_at};
@@ -241,10 +245,9 @@ fn compile_data(
 }
 
 /// Compiles a text behind a library, whose data these are, to its program and its runs. A text with
-/// faults is refused by
-/// the one at the least offset, and of two at one offset by the one with the smaller number. The
-/// data are those of texts, and
-/// the library is accepted by itself, so nothing is open in what is built of an accepted text.
+/// faults is refused by the one at the least offset, and of two at one offset by the one with the
+/// smaller number. The data are those of texts, and the library is accepted by itself, so nothing
+/// is open in what is built of an accepted text.
 pub fn compile(
     alloc: Global,
     library: &[Datum],
@@ -253,7 +256,6 @@ pub fn compile(
     dialect: Dialect,
 ) -> Result<Compiled, SyntaxError>
     requires names { length names.old.symbols + 3 < 2 ^ 32 }
-    requires few { length library.now + length text.now < 2 ^ 32 }
     requires library { AreOfText (with_prefixes names.old) library.now }
     requires text { AreOfText (with_prefixes names.old) text.now }
     requires alone { IsAcceptedAlone (with_prefixes names.old) library.now }

@@ -3,7 +3,8 @@
 ghost use Rattle.std.specs.Prelude.{List, ◌≡◌, ◌&&◌, ◌<◌, length, true, IfOk, OnOk};
 ghost use Rattle.kan_model.specs.Programs.Calls.{call_there};
 ghost use Rattle.goal_syntax.specs.Building.CallsThere.{are_there};
-ghost use Rattle.kan_model.specs.Programs.Tables.{RelationEntry, is_term_grown, is_goal_grown, template_of, goal_of, with_argument};
+ghost use Rattle.kan_model.specs.Programs.Tables.{RelationEntry, is_term_grown, is_goal_grown};
+ghost use Rattle.kan_model.specs.Programs.Tables.{template_of, goal_of, with_argument};
 ghost use Rattle.kan_model.specs.Programs.Nodes.{term_entry, goal_entry};
 ghost use Rattle.kan_model.specs.Programs.Drafts.{tables, templates, goals};
 ghost use Rattle.std.specs.List.{list_all};

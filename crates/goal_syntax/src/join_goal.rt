@@ -6,7 +6,8 @@ ghost use Rattle.kan_model.specs.Programs.Nodes.{goal_entry};
 ghost use Rattle.kan_model.specs.Programs.Tables.{is_goal_grown};
 ghost use Rattle.goal_syntax.specs.Building.GoalsBuilt.{built, with_entry};
 ghost use Rattle.goal_syntax.specs.Building.GrownTables.{Grows, HasRoom};
-ghost use Rattle.goal_syntax.specs.Building.GoalsLeft.{empty_entry, freshened, join_entry, joined, suspended};
+ghost use Rattle.goal_syntax.specs.Building.GoalsLeft.{empty_entry, freshened, join_entry, joined};
+ghost use Rattle.goal_syntax.specs.Building.GoalsLeft.{suspended};
 ghost use Rattle.goal_forms.specs.Places.{are_below};
 
 use crate::drafting::add_goal;

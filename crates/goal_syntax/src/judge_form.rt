@@ -4,7 +4,8 @@ ghost use Rattle.std.specs.Prelude.{◌≡◌, ◌++◌, ◌∷◌, [], take, No
 ghost use Rattle.kan_grammar.specs.Texts.TopForms.{head_name as name_of_head, name_faults};
 ghost use Rattle.kan_grammar.specs.Texts.GoalForms.{goal_forms};
 ghost use Rattle.kan_grammar.specs.Texts.Resolved.{arity, within};
-ghost use Rattle.kan_grammar.specs.Texts.TextFaults.{is_new, again_faults, goals_faults, form_faults};
+ghost use Rattle.kan_grammar.specs.Texts.TextFaults.{is_new, again_faults, goals_faults};
+ghost use Rattle.kan_grammar.specs.Texts.TextFaults.{form_faults};
 ghost use Rattle.goal_forms.specs.Contexts.{datum_at, defined_in, goals_at, head_at, form_of};
 ghost use Rattle.goal_syntax.specs.Judging.FaultLists.{AddsFaults};
 ghost use Rattle.goal_forms.specs.FormSteps.{limit_at, one_name};

@@ -1,14 +1,17 @@
 //! The faults of goals.
 
-ghost use Rattle.std.specs.Prelude.{◌≡◌, ◌+◌, ◌<◌, ◌++◌, ◌∷◌, [], length, reverse, List, Option, ℕ, OnOk};
+ghost use Rattle.std.specs.Prelude.{◌≡◌, ◌+◌, ◌<◌, ◌++◌, ◌∷◌, [], length, reverse, List, Option, ℕ};
+ghost use Rattle.std.specs.Prelude.{OnOk};
 ghost use Rattle.std.specs.List.{flat_map};
 ghost use Rattle.kan_terms.specs.Table.{Table};
 ghost use Rattle.kan_grammar.specs.Texts.GoalForms.{goal_forms, term_forms};
 ghost use Rattle.kan_grammar.specs.Texts.TextFaults.{term_faults, call_faults, goals_faults};
 ghost use Rattle.kan_grammar.specs.Texts.Resolved.{arity, within};
-ghost use Rattle.goal_forms.specs.Contexts.{data_of, datum_at, defined_in, term_at, terms_at, goals_at, binder_at};
+ghost use Rattle.goal_forms.specs.Contexts.{data_of, datum_at, defined_in, term_at, terms_at};
+ghost use Rattle.goal_forms.specs.Contexts.{goals_at, binder_at};
 ghost use Rattle.goal_syntax.specs.Judging.InContext.{faults_left, faults_alone};
-ghost use Rattle.goal_syntax.specs.Judging.GoalsLeft.{fresh_faults, inner_waiting, stack_parts, waiting_parts};
+ghost use Rattle.goal_syntax.specs.Judging.GoalsLeft.{fresh_faults, inner_waiting, stack_parts};
+ghost use Rattle.goal_syntax.specs.Judging.GoalsLeft.{waiting_parts};
 ghost use Rattle.goal_forms.specs.GoalSteps.{inner_names};
 ghost use Rattle.goal_syntax.specs.Judging.FaultLists.{fault_list, AddsFaults};
 ghost use Rattle.goal_forms.specs.Parts.{sites, site_at};

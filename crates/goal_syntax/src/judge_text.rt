@@ -1,6 +1,7 @@
 //! The faults of texts, and the one that comes first.
 
-ghost use Rattle.std.specs.Prelude.{◌≡◌, ◌<◌, ◌≤◌, ◌+◌, ◌^◌, ◌++◌, length, take, IfOk, OnOk, option_map};
+ghost use Rattle.std.specs.Prelude.{◌≡◌, ◌<◌, ◌≤◌, ◌+◌, ◌^◌, ◌++◌, length, take, IfOk, OnOk};
+ghost use Rattle.std.specs.Prelude.{option_map};
 ghost use Rattle.kan_grammar.specs.Texts.TopForms.{definitions};
 ghost use Rattle.kan_grammar.specs.Texts.TextFaults.{is_before, first_of, least, forms_faults};
 ghost use Rattle.goal_forms.specs.Contexts.{data_at, defined_in};

@@ -2,6 +2,7 @@
 pub mod Carried
 mod Complete
 mod CutExamples
+pub mod CountLaws
 pub mod Cutting
 mod DeepExamples
 pub mod Exactly

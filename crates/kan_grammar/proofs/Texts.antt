@@ -2,5 +2,6 @@
 pub mod NameLaws
 mod TextExamples
 mod FaultExamples
+pub mod LineLaws
 mod ReplyExamples
 mod ProgramExamples

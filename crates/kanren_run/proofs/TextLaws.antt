@@ -3,31 +3,31 @@ use Rattle.std.proofs.Common.{◌≡◌, ◌≤◌, ℕ, Bool, true, false, List
 use Rattle.std.specs.Prelude.{Some, Result, IsErrAnd, nat_le, ◌==◌}
 use Rattle.std.specs.Str.{is_utf8, chars}
 use Rattle.std.proofs.lemmas.Bool.Decides.{nat_tests}
-use Rattle.kan_terms.specs.Table.{Table, no_names}
+use Rattle.kan_terms.specs.Table.{Table}
 use Rattle.kan_grammar.specs.Data.Faults.{Reading, data_are, refused, run, read_tokens, read_text, fault}
 use Rattle.kan_grammar.specs.Data.Written.{Written}
 use Rattle.kan_grammar.specs.Data.Builds.{build_datum, map_reading}
 use Rattle.kan_grammar.specs.Data.Enclosing.{as_written}
-use Rattle.kan_grammar.specs.Data.Tokens.{Placed, placed, tokens, tokens_from}
-use Rattle.kan_grammar.specs.Texts.TextNames.{GoesOn, with_prefixes, with_text_names, with_token, with_tokens, text_table}
+use Rattle.kan_grammar.specs.Data.Tokens.{tokens, tokens_from}
+use Rattle.kan_grammar.specs.Texts.TextNames.{GoesOn, first_names, with_prefixes, with_text_names, with_tokens, text_table}
 use Rattle.kan_grammar.specs.Texts.Reply.{Reply, reply_to_data, unless_fault}
 use Rattle.kan_grammar.specs.Texts.ProgramText.{program_of_text, queries_of_text}
-use Rattle.kan_grammar.proofs.Texts.NameLaws.{goes_on_same, goes_on_further, extends_token, extends_prefixes}
+use Rattle.kan_grammar.proofs.Texts.NameLaws.{goes_on_library, goes_on_first, prefixes_stay}
 use Rattle.sexpr.specs.Seen.{written, as_kept}
 use Rattle.sexpr.proofs.KeptLaws.{keeps_data}
 use Rattle.sexpr.specs.Reads.{Reads}
 use Rattle.sexpr.specs.declared.data.Datum.{Datum}
 use Rattle.sexpr.specs.declared.data.ReadError.{ReadError}
 use Rattle.sexpr.specs.declared.data.ReadError.TheVariants as reading
-use Rattle.sexpr.proofs.ReplyLaws.{replies_as_read}
+use Rattle.sexpr.proofs.ReplyLaws.{kept_serves, replies_as_read}
 use Rattle.goal_syntax.specs.Compiling.Compiles.{AreOfText, Compiles, IsAcceptedAlone, IsCompiled, fault_found}
 use Rattle.goal_syntax.specs.declared.refusal.SyntaxError.{SyntaxError}
 use Rattle.goal_syntax.specs.declared.refusal.SyntaxError.TheVariants as syntax
 use Rattle.goal_syntax.specs.declared.compiler.Compiled.{Compiled}
-use Rattle.goal_syntax.proofs.Compiling.LibraryLaws.{prefixes_again}
-use Rattle.goal_syntax.proofs.Compiling.OfTextLaws.{read_of_text}
+use Rattle.goal_syntax.proofs.Compiling.OfTextLaws.{none_accepted, read_of_text}
 use Rattle.rel_library.specs.Library.{library}
 use Rattle.rel_library.specs.Accepted.{is_read}
+use Rattle.rel_library.proofs.LibraryFaultless.{library_serves}
 use Rattle.rel_library.proofs.LibraryReads.{library_reads}
 use Rattle.kanren_run.specs.Answers.{answer, IsRefused}
 use Rattle.kanren_run.specs.Replies.{ComesTo, HasRuns, LibraryRead, TextRead, wanting}
@@ -41,30 +41,30 @@ no_tokens : tokens [] ≡ []
 unfolding tokens tokens_from
 no_tokens = refl
 
-pub none_named : no_names ≡ with_text_names no_names []
-none_named = ap (with_tokens no_names) (sym no_tokens)
+pub none_named : first_names ≡ with_text_names first_names []
+none_named = ap (with_tokens first_names) (sym no_tokens)
 
 -- and has no data
 pub none_read : (table : Table) → Reads [] table (Ok [])
 unfolding run read_tokens read_text tokens tokens_from is_utf8 chars
 none_read table = refl
 
-pub no_library : (library : Bool) (names : Table) (ds : List Datum) → library ≡ false → names ≡ no_names → ds ≡ [] → LibraryRead library names ds
+nothing_read : (table : Table) (ls : List Datum) → Reads [] table (Ok ls) → ls ≡ []
+nothing_read table [] read = refl
+nothing_read table (d ∷ ds) read =
+    let none : read_text as_kept [] ≡ data_are [] = none_read table in
+    let both : data_are [] ≡ data_are (map (written table) (d ∷ ds)) = sym none ∙ read in
+    absurd cc
+
+pub no_library : (library : Bool) (names : Table) (ds : List Datum) → library ≡ false → names ≡ first_names → ds ≡ [] → LibraryRead library names ds
 no_library library names ds off empty none = rw (off, empty, none) (record { named = none_named; reads = λ later goes_on. none_read later })
 
--- the names of a text go on those before them
-goes_on_tokens : (table : Table) (ts : List Placed) → GoesOn table (with_tokens table ts)
-goes_on_tokens table [] = goes_on_same table
-goes_on_tokens table (placed at t ∷ ts) = goes_on_further table (with_token table t) (with_tokens (with_token table t) ts) (extends_token table t).goes_on (goes_on_tokens (with_token table t) ts)
-
-goes_on_text : (table : Table) (text : List ℕ) → GoesOn table (with_prefixes (with_text_names table text))
-goes_on_text table text =
-    goes_on_further table (with_text_names table text) (with_prefixes (with_text_names table text)) (goes_on_tokens table (tokens text)) (extends_prefixes (with_text_names table text)).goes_on
-
 -- the library is read under the names of it and of a text behind it
-pub library_read : (s : Settings) (text : List ℕ) (names : Table) (ls : List Datum) → LibraryRead s.library names ls → Reads (library_before s.library) (text_table (library_before s.library) text) (Ok ls)
+pub library_read : (s : Settings) (text : List ℕ) (names : Table) (ls : List Datum) → LibraryRead s.library names ls →
+    Reads (library_before s.library) (text_table (library_before s.library) text) (Ok ls)
 library_read s text names ls h =
-    h.reads (text_table (library_before s.library) text) (subst (λ t. GoesOn t (text_table (library_before s.library) text)) (sym h.named) (goes_on_text (with_text_names no_names (library_before s.library)) text))
+    h.reads (text_table (library_before s.library) text)
+    (subst (λ t. GoesOn t (text_table (library_before s.library) text)) (sym h.named) (goes_on_library (library_before s.library) text))
 
 -- what data that were read are answered with
 to_data : (s : Settings) (text : List ℕ) (names : Table) (ls ds : List Datum) → TextRead s text names ls ds →
@@ -80,26 +80,38 @@ pub reading_refused : (s : Settings) (text : List ℕ) (before names : Table) (l
 reading_refused s text before names ls x at number library is read =
     replies_as_read (library_before s.library) text s.dialect ls (Err (reading.Fault at number)) (library_read s text before ls library) (subst (λ y. Reads text names (Err y)) is read)
 
+-- the names of a text behind the library have the symbols of the prefixes already
+named_behind : (library : Bool) (text : List ℕ) (before old : Table) (ls : List Datum) → LibraryRead library before ls →
+    old ≡ with_text_names before text → text_table (library_before library) text ≡ old
+named_behind library text before old ls read numbered = ap (λ t. with_text_names t text) (sym read.named) ∙ sym numbered
+
+pub named_with_prefixes : (library : Bool) (text : List ℕ) (before old : Table) (ls : List Datum) → LibraryRead library before ls →
+    old ≡ with_text_names before text → text_table (library_before library) text ≡ with_prefixes old
+named_with_prefixes library text before old ls read numbered =
+    let same = named_behind library text before old ls read numbered in
+    same ∙ sym (prefixes_stay old (subst (GoesOn first_names) same (goes_on_first (library_before library) text)))
+
 -- a text that was read behind the library
 pub text_read : (s : Settings) (text : List ℕ) (before old : Table) (ls ds : List Datum) → LibraryRead s.library before ls → old ≡ with_text_names before text →
     Reads text (with_prefixes old) (Ok ds) → TextRead s text (with_prefixes old) ls ds
 text_read s text before old ls ds library numbered read =
-    let same : text_table (library_before s.library) text ≡ with_prefixes old = ap with_prefixes (ap (λ t. with_text_names t text) (sym library.named) ∙ sym numbered) in
+    let same : text_table (library_before s.library) text ≡ with_prefixes old = named_with_prefixes s.library text before old ls library numbered in
     record { named = same; library = subst (λ t. Reads (library_before s.library) t (Ok ls)) same (library_read s text before ls library); forms = read }
 
--- the symbols of the prefixes come once
-pub prefixes_same : (old new : Table) → new ≡ with_prefixes old → with_prefixes new ≡ with_prefixes old
-prefixes_same old new same = ap with_prefixes same ∙ prefixes_again old
+-- the library has no fault and no run under the names of a text behind it, and neither has none
+library_alone : (on : Bool) (names : Table) (ls : List Datum) → Reads (library_before on) names (Ok ls) →
+    GoesOn (with_text_names first_names (library_before on)) names → IsAcceptedAlone names ls
+library_alone true names ls read goes_on = kept_serves library names ls read (library_serves names goes_on)
+library_alone false names ls read goes_on = none_accepted names ls (nothing_read names ls read)
 
--- the same under a table that has the symbols of the prefixes already
-pub read_again : (s : Settings) (text : List ℕ) (old new : Table) (ls ds : List Datum) → new ≡ with_prefixes old → TextRead s text (with_prefixes old) ls ds → TextRead s text (with_prefixes new) ls ds
-read_again s text old new ls ds same h = subst (λ t. TextRead s text t ls ds) (sym (prefixes_same old new same)) h
-
-pub of_text_again : (old new : Table) (ds : List Datum) → new ≡ with_prefixes old → AreOfText (with_prefixes old) ds → AreOfText (with_prefixes new) ds
-of_text_again old new ds same h = subst (λ t. AreOfText t ds) (sym (prefixes_same old new same)) h
-
-pub alone_again : (old new : Table) (ds : List Datum) → new ≡ with_prefixes old → IsAcceptedAlone (with_prefixes old) ds → IsAcceptedAlone (with_prefixes new) ds
-alone_again old new ds same h = subst (λ t. IsAcceptedAlone t ds) (sym (prefixes_same old new same)) h
+pub accepted_behind : (on : Bool) (text : List ℕ) (before old : Table) (ls : List Datum) → LibraryRead on before ls →
+    old ≡ with_text_names before text → IsAcceptedAlone (with_prefixes old) ls
+accepted_behind on text before old ls read numbered =
+    let same = named_with_prefixes on text before old ls read numbered in
+    let further : GoesOn before (with_prefixes old) = subst (λ t. GoesOn before t) same
+    (subst (λ t. GoesOn t (text_table (library_before on) text)) (sym read.named) (goes_on_library (library_before on) text)) in
+    library_alone on (with_prefixes old) ls (read.reads (with_prefixes old) further)
+    (subst (λ t. GoesOn t (with_prefixes old)) read.named further)
 
 -- what data that were compiled are answered with
 compiled_answer : (s : Settings) (names : Table) (ls ds : List Datum) (text : List ℕ) →
@@ -154,7 +166,7 @@ reads_library at number names r is h = by (read_text as_written library) library
     by (refused f) read e = cc
 
 -- and so are its data
-pub library_is_read : (library_on : Bool) (old names : Table) (ls : List Datum) → library_on ≡ true → old ≡ no_names → names ≡ with_text_names old library →
+pub library_is_read : (library_on : Bool) (old names : Table) (ls : List Datum) → library_on ≡ true → old ≡ first_names → names ≡ with_text_names old library →
     ((later : Table) → GoesOn names later → Reads library later (Ok ls)) → LibraryRead library_on names ls
 library_is_read library_on old names ls on empty numbered reads = rw on (record { named = numbered ∙ ap (λ t. with_text_names t library) empty; reads = reads })
 
@@ -175,8 +187,3 @@ of_library names later library_on ls read further = by library_on refl
         short : (x : Bool) → length (library_before x) ≤ 1048576
         short true = omega (arith, library_short)
         short false = omega arith
-
--- no data are those of nothing
-pub none_of : (ds : List Datum) → (length ds == 0) ≡ true → ds ≡ []
-none_of [] h = refl
-none_of (d ∷ ds) h = absurd (grind (arith, nat_tests))

@@ -1,14 +1,15 @@
 //! Texts: their program and their runs.
 
-ghost use Rattle.std.specs.Prelude.{◌≡◌, ◌+◌, ◌<◌, ◌≤◌, ◌^◌, length, List, ℕ, [], true, Ok};
+ghost use Rattle.std.specs.Prelude.{◌≡◌, ◌+◌, ◌<◌, ◌≤◌, ◌^◌, length, List, ℕ, Ok};
 ghost use Rattle.std.specs.Prelude.{IfOk, OnOk};
 ghost use Rattle.kan_terms.specs.Table.{no_names};
-ghost use Rattle.kan_grammar.specs.Texts.TextNames.{Extends, with_prefixes};
+ghost use Rattle.kan_grammar.specs.Texts.TextNames.{Extends, first_names, with_prefixes};
 ghost use Rattle.goal_syntax.specs.Compiling.Compiles.{AreOfText, IsAcceptedAlone};
 ghost use Rattle.kanren_run.specs.Replies.{ComesTo, LibraryRead, TextRead, wanting};
 
 use crate::refusal::Fault;
 use crate::settings::Settings;
+use goal_forms::number_prefixes;
 use goal_syntax::{Compiled, SyntaxError, compile};
 use kan_grammar::Dialect;
 use kan_terms::{Memory, Names};
@@ -35,7 +36,7 @@ impl From<Memory> for NotRun {
 
 // Reads the library, where it is asked for. It has no fault.
 fn library_data(alloc: Global, library: bool, names: &mut Names) -> Result<Data, Memory>
-    requires empty { names.old ≡ no_names }
+    requires first { names.old ≡ first_names }
     ensures read { IfOk result (λ found. LibraryRead library names.new found) }
     ensures few { OnOk result (Extends 1048576 names.old names.new) }
 {
@@ -49,38 +50,8 @@ fn library_data(alloc: Global, library: bool, names: &mut Names) -> Result<Data,
     }
 }
 
-// Whether there are fewer data than a u32 counts. No text has more.
-fn are_few(library: &[Datum], forms: &[Datum]) -> bool
-    ensures { result ≡ true → length library.now + length forms.now < 2 ^ 32 }
-{
-    match library.len().checked_add(forms.len()) {
-        Some(count) => u32::try_from(count).is_ok(),
-        None => false,
-    }
-}
-
-// Whether data may stand in front of a text: they have no fault and no run.
-fn are_library(
-    alloc: Global,
-    library: &[Datum],
-    names: &mut Names,
-    dialect: Dialect,
-) -> Result<bool, Memory>
-    requires names { length names.old.symbols + 3 < 2 ^ 32 }
-    requires few { length library.now < 2 ^ 32 }
-    requires texts { AreOfText (with_prefixes names.old) library.now }
-    ensures table { OnOk result (names.new ≡ with_prefixes names.old) }
-    ensures alone { IfOk result (λ alone. alone ≡ true
-        → IsAcceptedAlone (with_prefixes names.old) library.now) }
-{
-    match compile(alloc, &[], library, names, dialect) {
-        Ok(compiled) => Ok(compiled.queries.is_empty()),
-        Err(_) => Err(Memory),
-    }
-}
-
 // The program and the runs of a text's data behind those of a library that may stand there.
-fn compile_behind(
+fn compile_data(
     alloc: Global,
     settings: Settings,
     library: &[Datum],
@@ -88,7 +59,6 @@ fn compile_behind(
     names: &mut Names,
 ) -> Result<Compiled, NotRun>
     requires names { length names.old.symbols + 3 < 2 ^ 32 }
-    requires few { length library.now + length forms.now < 2 ^ 32 }
     requires library { AreOfText (with_prefixes names.old) library.now }
     requires texts { AreOfText (with_prefixes names.old) forms.now }
     requires alone { IsAcceptedAlone (with_prefixes names.old) library.now }
@@ -103,37 +73,9 @@ fn compile_behind(
     }
 }
 
-// The program and the runs of a text's data behind those of the library, if there are any.
-fn compile_data(
-    alloc: Global,
-    settings: Settings,
-    library: &[Datum],
-    forms: &[Datum],
-    names: &mut Names,
-) -> Result<Compiled, NotRun>
-    requires names { length names.old.symbols + 6 < 2 ^ 32 }
-    requires library { AreOfText (with_prefixes names.old) library.now }
-    requires texts { AreOfText (with_prefixes names.old) forms.now }
-    ensures { (text : List ℕ)
-        → TextRead settings text (with_prefixes names.old) library.now forms.now
-        → ComesTo settings text names.new result }
-{
-    if !are_few(library, forms) {
-        return Err(NotRun::Memory);
-    }
-    if library.is_empty() {
-        return compile_behind(alloc, settings, library, forms, names);
-    }
-    if are_library(alloc, library, names, settings.dialect)? {
-        compile_behind(alloc, settings, library, forms, names)
-    } else {
-        Err(NotRun::Memory)
-    }
-}
-
 /// The program and the runs of a text behind the library, if that is asked for, whose names get
-/// numbers; or the fault for which it isn't run: that of the reading of its data, or else that of
-/// the data.
+/// numbers: first the symbols of prefixes, then the names of the library, then those of the text.
+/// Or the fault for which it isn't run: that of the reading of its data, or else that of the data.
 #[tactic(auto, using(goal_syntax::proofs::Compiling::OfTextLaws::read_of_text))]
 pub(crate) fn compile_text(
     alloc: Global,
@@ -145,6 +87,7 @@ pub(crate) fn compile_text(
     requires empty { names.old ≡ no_names }
     ensures { ComesTo settings text.now names.new result }
 {
+    number_prefixes(names)?;
     let library = library_data(alloc, settings.library, names)?;
     match read(alloc, text, names) {
         Ok(data) => compile_data(alloc, settings, library.as_slice(), data.as_slice(), names),

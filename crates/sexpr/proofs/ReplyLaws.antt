@@ -1,5 +1,5 @@
 -- Data as they are kept have the sites of those as they are written, and so the same reply.
-use Rattle.std.proofs.Common.{◌≡◌, ℕ, List, [], ◌∷◌, ◌++◌, map, refl, sym, ap, ◌∙◌}
+use Rattle.std.proofs.Common.{◌≡◌, ℕ, List, [], ◌∷◌, ◌++◌, map, refl, sym, ap, subst, ◌∙◌}
 use Rattle.std.specs.Prelude.{Result, Ok, Err}
 use Rattle.kan_terms.specs.Table.{Table}
 use Rattle.kan_grammar.specs.declared.dialect.Dialect.{Dialect}
@@ -14,6 +14,7 @@ use Rattle.kan_grammar.specs.Texts.TextNames.{text_table}
 use Rattle.kan_grammar.specs.Texts.ProgramText.{Meant, text_meaning}
 use Rattle.kan_grammar.specs.Texts.TextFaults.{faults_of, least}
 use Rattle.kan_grammar.specs.Texts.Reply.{Reply, reply, reply_to_data, reply_to_reading, data_of, unless_fault}
+use Rattle.kan_grammar.specs.Texts.Reply.{IsLibrary}
 use Rattle.sexpr.specs.Seen.{written, as_kept}
 use Rattle.sexpr.specs.Reads.{Reads}
 use Rattle.sexpr.specs.Laws.{IsReply, KeepsSites, RepliesAsRead}
@@ -101,3 +102,21 @@ replies_as_read library text dialect ls answer l t =
     kept_reply dialect table (data_of (read_text as_written library)) (map (written table) ls) (read_text as_written text) answer
     (kept_library (read_text as_written library) (map (written table) ls) (read_data library table (Ok ls) l ls refl))
     (read_data text table answer t) (read_fault text table answer t)
+
+-- a library serves as it is kept where it serves as it is written
+serves_kept : (table : Table) (ds : List Written) → IsLibrary table ds →
+    IsLibrary table (map (build_datum as_kept) ds)
+serves_kept table ds serves = record {
+  faultless = ap (λ xs. least (faults_of table [] xs)) (keep_all_sites table ds) ∙ serves.faultless;
+  runless = λ dialect.
+      ap (λ xs. (text_meaning dialect table [] xs).queries) (keep_all_sites table ds)
+      ∙ serves.runless dialect;
+}
+
+pub kept_serves : (bytes : List ℕ) (table : Table) (ls : List Datum) → Reads bytes table (Ok ls) →
+    IsLibrary table (data_of (read_text as_written bytes)) → IsLibrary table (map (written table) ls)
+kept_serves bytes table ls read serves =
+    subst (IsLibrary table)
+    (kept_library (read_text as_written bytes) (map (written table) ls)
+    (read_data bytes table (Ok ls) read ls refl))
+    (serves_kept table (data_of (read_text as_written bytes)) serves)

@@ -1,5 +1,6 @@
 -- Data of texts, and libraries that are accepted by themselves, for those who compile.
-use Rattle.std.proofs.Common.{◌≡◌, ◌≤◌, ◌^◌, ℕ, List, [], length, refl, arith}
+use Rattle.std.proofs.Common.{◌≡◌, ◌≤◌, ◌<◌, ◌+◌, ◌^◌, ℕ, List, [], map, length, refl, arith}
+use Rattle.std.proofs.lemmas.List.{length-map}
 use Rattle.std.specs.Prelude.{None, Ok}
 use Rattle.std.specs.Str.{is_utf8, chars}
 use Rattle.kan_terms.specs.Table.{Table}
@@ -11,7 +12,8 @@ use Rattle.kan_grammar.specs.declared.dialect.Dialect.{Dialect}
 use Rattle.kan_grammar.specs.Texts.TextNames.{GoesOn, with_prefixes}
 use Rattle.kan_grammar.proofs.Texts.NameLaws.{extends_prefixes, goes_on_further}
 use Rattle.sexpr.specs.Reads.{Reads}
-use Rattle.sexpr.specs.Seen.{as_kept}
+use Rattle.kan_grammar.proofs.Data.CountLaws.{few_data}
+use Rattle.sexpr.specs.Seen.{as_kept, written}
 use Rattle.sexpr.specs.declared.data.Datum.{Datum}
 use Rattle.goal_syntax.specs.Compiling.Compiles.{AreOfText, IsAcceptedAlone}
 
@@ -42,3 +44,18 @@ none_runs dialect t = refl
 
 pub none_accepted : (names : Table) (ds : List Datum) → ds ≡ [] → IsAcceptedAlone names ds
 none_accepted names ds e = rw e (record { faultless = none_faulty names; runless = λ dialect. none_runs dialect names })
+
+-- data of a text are at most as many as its bytes, so those of two are counted by a u32
+few_of_text : (names : Table) (ds : List Datum) → AreOfText names ds → length ds ≤ 2 ^ 20
+few_of_text names ds of =
+    omega (
+      arith,
+      few_data as_kept of.bytes (map (written names) ds) of.are,
+      length-map ds (written names),
+      of.few,
+    )
+
+pub few_of_both : (names : Table) (library text : List Datum) → AreOfText names library →
+    AreOfText names text → length library + length text < 2 ^ 32
+few_of_both names library text ls ds =
+    omega (arith, few_of_text names library ls, few_of_text names text ds)

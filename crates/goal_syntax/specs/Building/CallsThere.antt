@@ -33,6 +33,8 @@ abbrev pub are_there : List RelationEntry → List GoalEntry → Bool
 are_there rows = list_all (call_there rows)
 
 -- what came to tables keeps templates low, and its calls are there exactly where a test says so
-pub record KeepsClosed (ds : List Sited) (ts us : Tables) (passes : List RelationEntry → Bool) : Type 0 where
+pub record KeepsClosed (ds : List Sited) (ts us : Tables) (passes : List RelationEntry →
+    Bool) : Type 0 where
   pub low : KeepsLow ds ts us
-  pub called : (rows : List RelationEntry) → are_there rows us.goals ≡ (are_there rows ts.goals && passes rows)
+  pub called : (rows : List RelationEntry) → are_there rows us.goals
+      ≡ (are_there rows ts.goals && passes rows)

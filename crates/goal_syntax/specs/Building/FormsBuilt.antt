@@ -1,5 +1,6 @@
 -- What the relations of tables and the queries that are built of a text mean.
-use Rattle.std.specs.Prelude.{◌≡◌, ℕ, true, nat_lt, List, [], ◌∷◌, ◌++◌, Option, Some, None, map, length}
+use Rattle.std.specs.Prelude.{◌≡◌, ℕ, true, nat_lt, List, [], ◌∷◌, ◌++◌, Option, Some, None, map}
+use Rattle.std.specs.Prelude.{length}
 use Rattle.std.specs.List.{list_all, flat_map}
 use Rattle.kan_terms.specs.Tree.{leaf}
 use Rattle.kan_model.specs.Programs.Goals as model
@@ -19,7 +20,9 @@ asked_equation names = model.Goal.prim (model.Primitive.same (slot_list 1 names)
 
 -- the goal of a run over a list of names, and before it suspends
 abbrev pub asked_fresh : Dialect → List Defined → List ℕ → GoalForms → model.Goal
-asked_fresh dialect rs names gs = model.Goal.fresh (length names) (conjunction (asked_equation names ∷ goals_in dialect rs (within (None ∷ []) names) gs))
+asked_fresh dialect rs names gs =
+    model.Goal.fresh (length names)
+    (conjunction (asked_equation names ∷ goals_in dialect rs (within (None ∷ []) names) gs))
 
 abbrev pub asked_list : Dialect → List Defined → List ℕ → GoalForms → model.Goal
 asked_list dialect rs names gs = suspended_in dialect (asked_fresh dialect rs names gs)
@@ -32,7 +35,8 @@ abbrev pub query_made : List model.Goal → Query → model.Query
 query_made gs q = record { goal = goal_at gs q.goal; limit = q.limit }
 
 -- the relations of tables and these queries are those that are meant, and their goals are there
-pub record Means (ts : Tables) (qs : List Query) (rs : List model.Relation) (asked : List model.Query) : Type 0 where
+pub record Means (ts : Tables) (qs : List Query) (rs : List model.Relation)
+    (asked : List model.Query) : Type 0 where
   pub relations : map (relation_made (goals_of ts)) ts.relations ≡ rs
   pub queries : map (query_made (goals_of ts)) qs ≡ asked
   pub bodies_there : list_all (λ r. nat_lt r.body (length ts.goals)) ts.relations ≡ true
@@ -40,7 +44,11 @@ pub record Means (ts : Tables) (qs : List Query) (rs : List model.Relation) (ask
 
 -- the relation of these parameters and goals, and the query for a goal
 abbrev pub relation_meant : Dialect → List Defined → List ℕ → GoalForms → model.Relation
-relation_meant dialect rs params gs = record { params = length params; body = conjunction (goals_in dialect rs (within [] params) gs) }
+relation_meant dialect rs params gs =
+    record {
+      params = length params;
+      body = conjunction (goals_in dialect rs (within [] params) gs);
+    }
 
 abbrev pub query_asked : ℕ → Option ℕ → Query
 query_asked goal limit = record { goal = goal; limit = limit }
@@ -70,9 +78,12 @@ AddsNames ts us names = entry_names us ≡ entry_names ts ++ names
 -- these relations came to what tables mean
 abbrev pub AddsRelations : Tables → Tables → List model.Relation → Type 0
 AddsRelations ts us relations =
-    (qs : List Query) (before : List model.Relation) (asked : List model.Query) → Means ts qs before asked → Means us qs (before ++ relations) asked
+    (qs : List Query) (before : List model.Relation) (asked : List model.Query) →
+    Means ts qs before asked → Means us qs (before ++ relations) asked
 
 -- these relations and runs came to what tables and queries mean
-abbrev pub AddsForms : Tables → Tables → List Query → List Query → List model.Relation → List model.Query → Type 0
+abbrev pub AddsForms : Tables → Tables → List Query → List Query → List model.Relation →
+    List model.Query → Type 0
 AddsForms ts us qs more relations runs =
-    (before : List model.Relation) (asked : List model.Query) → Means ts qs before asked → Means us more (before ++ relations) (asked ++ runs)
+    (before : List model.Relation) (asked : List model.Query) → Means ts qs before asked →
+    Means us more (before ++ relations) (asked ++ runs)

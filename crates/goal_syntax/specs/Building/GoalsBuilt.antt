@@ -1,5 +1,6 @@
 -- The goals that were built, and the entries that stand for goals.
-use Rattle.std.specs.Prelude.{◌≡◌, ℕ, Bool, true, ◌&&◌, List, ◌∷◌, Option, Some, None, map, length, reverse}
+use Rattle.std.specs.Prelude.{◌≡◌, ℕ, Bool, true, ◌&&◌, List, ◌∷◌, Option, Some, None, map, length}
+use Rattle.std.specs.Prelude.{reverse}
 use Rattle.kan_terms.specs.Table.{Table}
 use Rattle.kan_grammar.specs.declared.dialect.Dialect.{Dialect}
 use Rattle.kan_grammar.specs.Texts.Sited.{Sited}
@@ -7,7 +8,8 @@ use Rattle.kan_model.specs.Programs.Goals.{Goal}
 use Rattle.kan_grammar.specs.Texts.TopForms.{Defined}
 use Rattle.kan_grammar.specs.Texts.Resolved.{Names, goal_in}
 use Rattle.kan_model.specs.Programs.Calls.{call_there}
-use Rattle.kan_model.specs.Programs.Tables.{GoalEntry, RelationEntry, Tables, templates_of, goal_at, goals_of, goal_of, is_goal_grown}
+use Rattle.kan_model.specs.Programs.Tables.{GoalEntry, RelationEntry, Tables, templates_of, goal_at}
+use Rattle.kan_model.specs.Programs.Tables.{goals_of, goal_of, is_goal_grown}
 use Rattle.kan_model.specs.Programs.Nodes.{goal_entry}
 use Rattle.kan_model.specs.declared.nodes.GoalNode.{GoalNode}
 use Rattle.goal_syntax.specs.Building.CallsThere.{calls_named, are_there}
@@ -15,14 +17,19 @@ use Rattle.goal_forms.specs.GoalSteps.{step_goal}
 use Rattle.goal_forms.specs.declared.goal.Goal as opened
 use Rattle.goal_forms.specs.declared.goal.Goal.TheVariants.{Fresh, AllOf, OneOf, Clauses}
 
--- the goals that were built and wait to be joined, the last one first; under which relations the calls of the table are there
+-- the goals that were built and wait to be joined, the last one first; under which relations the
+-- calls of the table are there
 pub record Built : Type 0 where
   pub made : List Goal
   pub called : List RelationEntry → Bool
 
 -- the goals at the places on a stack
 abbrev pub built : Tables → List ℕ → Built
-built ts places = record { made = map (goal_at (goals_of ts)) (reverse places); called = λ rows. are_there rows ts.goals }
+built ts places =
+    record {
+      made = map (goal_at (goals_of ts)) (reverse places);
+      called = λ rows. are_there rows ts.goals;
+    }
 
 -- one goal more
 abbrev pub with_goal : Goal → Built → Built
@@ -37,7 +44,8 @@ abbrev pub entry_goal : Tables → GoalEntry → Goal
 entry_goal ts e = goal_of (templates_of ts.terms) ts.arguments (goals_of ts) e
 
 abbrev pub with_entry : Tables → GoalEntry → Built → Built
-with_entry ts e b = record { made = entry_goal ts e ∷ b.made; called = λ rows. b.called rows && call_there rows e }
+with_entry ts e b =
+    record { made = entry_goal ts e ∷ b.made; called = λ rows. b.called rows && call_there rows e }
 
 -- an entry that may be added stands for a goal
 pub record Stands (ts : Tables) (e : GoalEntry) (g : Goal) : Type 0 where
@@ -51,7 +59,8 @@ StandsFor ts (Some node) (Some g) = Stands ts (goal_entry node) g
 StandsFor ts n g = ⊥
 
 -- the goal of one that has no goals in it
-abbrev pub own_goal : Dialect → List Defined → Table → List Sited → Names → opened.Goal → Option Goal
+abbrev pub own_goal : Dialect → List Defined → Table → List Sited → Names → opened.Goal →
+    Option Goal
 own_goal dialect rs t ds ns (Fresh b gs) = None
 own_goal dialect rs t ds ns (AllOf gs) = None
 own_goal dialect rs t ds ns (OneOf gs) = None

@@ -5,7 +5,8 @@ use Rattle.kan_grammar.specs.declared.dialect.Dialect.{Dialect}
 use Rattle.kan_grammar.specs.Texts.Sited.{Sited, site, is_proper}
 use Rattle.kan_model.specs.Programs.Goals.{Goal}
 use Rattle.kan_grammar.specs.Texts.Binders.{binder}
-use Rattle.kan_grammar.specs.Texts.GoalForms.{GoalForm, GoalForms, all_of, misshapen, goal_form, goal_forms, clause_forms}
+use Rattle.kan_grammar.specs.Texts.GoalForms.{GoalForm, GoalForms, all_of, misshapen, goal_form}
+use Rattle.kan_grammar.specs.Texts.GoalForms.{goal_forms, clause_forms}
 use Rattle.kan_grammar.specs.Texts.TopForms.{Defined}
 use Rattle.kan_grammar.specs.Texts.Resolved.{Names, conjunction, disjunction, goal_in, goals_in}
 use Rattle.kan_model.specs.Programs.Tables.{GoalEntry}
@@ -75,7 +76,8 @@ abbrev pub suspended : Dialect → Built → Built
 suspended Book b = b
 suspended All b = record b { made = later_last b.made }
 
--- the work on the first element of a row, and on the others, where there are any; the entries of an empty row, and of two goals that are joined
+-- the work on the first element of a row, and on the others, where there are any; the entries of an
+-- empty row, and of two goals that are joined
 abbrev pub first_work : Row → ℕ → Work
 first_work rows.All p = works.Goal p
 first_work rows.One p = works.Goal p
@@ -98,12 +100,18 @@ join_entry rows.Clauses g h = GoalEntry.either g h
 -- what is made once all work on a stack is done, the top first
 abbrev pub finish : Dialect → List Defined → Table → List Sited → Names → List Work → Built → Built
 finish dialect rs t ds ns [] b = b
-finish dialect rs t ds ns (works.Goal p ∷ ws) b = finish dialect rs t ds ns ws (with_goal (goal_in dialect rs ns (goal_form t (site_at ds p))) b)
-finish dialect rs t ds ns (works.Clause p ∷ ws) b = finish dialect rs t ds ns ws (with_goal (goal_in dialect rs ns (clause_form t (site_at ds p))) b)
-finish dialect rs t ds ns (works.Row row p ∷ ws) b = finish dialect rs t ds ns ws (with_goal (row_goal row (goals_in dialect rs ns (row_forms row t (site_at ds p)))) b)
+finish dialect rs t ds ns (works.Goal p ∷ ws) b =
+    finish dialect rs t ds ns ws (with_goal (goal_in dialect rs ns (goal_form t (site_at ds p))) b)
+finish dialect rs t ds ns (works.Clause p ∷ ws) b =
+    finish dialect rs t ds ns ws
+    (with_goal (goal_in dialect rs ns (clause_form t (site_at ds p))) b)
+finish dialect rs t ds ns (works.Row row p ∷ ws) b =
+    finish dialect rs t ds ns ws
+    (with_goal (row_goal row (goals_in dialect rs ns (row_forms row t (site_at ds p)))) b)
 finish dialect rs t ds ns (works.Join row ∷ ws) b = finish dialect rs t ds ns ws (joined row b)
 finish dialect rs t ds ns (works.Fresh k ∷ ws) b = finish dialect rs t ds ns ws (freshened k b)
-finish dialect rs t ds ns (works.Suspend ∷ ws) b = finish dialect rs t ds ns ws (suspended dialect b)
+finish dialect rs t ds ns (works.Suspend ∷ ws) b =
+    finish dialect rs t ds ns ws (suspended dialect b)
 finish dialect rs t ds ns (works.Leave n ∷ ws) b = finish dialect rs t ds (take n ns) ws b
 
 -- how much work a row is, a goal and a clause
@@ -122,7 +130,9 @@ works_size ds (w ∷ ws) = work_size ds w + works_size ds ws
 
 -- the work that a goal leaves, the last on top
 abbrev pub inner_works : Table → List Sited → Names → opened.Goal → List Work
-inner_works t ds ns (Fresh b gs) = works.Suspend ∷ works.Fresh (length (binder t (site_at ds b)).value) ∷ works.Leave (length ns) ∷ works.Row rows.All gs ∷ []
+inner_works t ds ns (Fresh b gs) =
+    works.Suspend ∷ works.Fresh (length (binder t (site_at ds b)).value) ∷ works.Leave (length ns)
+    ∷ works.Row rows.All gs ∷ []
 inner_works t ds ns (AllOf gs) = works.Row rows.All gs ∷ []
 inner_works t ds ns (OneOf gs) = works.Row rows.One gs ∷ []
 inner_works t ds ns (Clauses cs) = works.Suspend ∷ works.Row rows.Clauses cs ∷ []

@@ -1,7 +1,8 @@
 -- What stands at places of tables that grow, and what is kept of them while they grow.
 use Rattle.std.specs.Prelude.{◌≡◌, ℕ, ◌<◌, ◌^◌, ◌≤◌, ◌+◌, List, length}
 use Rattle.kan_model.specs.Programs.Goals.{Template, Goal}
-use Rattle.kan_model.specs.Programs.Tables.{Tables, template_at, templates_of, goal_at, goals_of, arguments_at}
+use Rattle.kan_model.specs.Programs.Tables.{Tables, template_at, templates_of, goal_at, goals_of}
+use Rattle.kan_model.specs.Programs.Tables.{arguments_at}
 
 -- the template at a place
 pub record HasTemplate (ts : Tables) (p : ℕ) (t : Template) : Type 0 where

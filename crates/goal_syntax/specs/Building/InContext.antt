@@ -7,13 +7,15 @@ use Rattle.kan_model.specs.declared.draft.Draft.{Draft}
 use Rattle.kan_grammar.specs.Texts.Resolved.{Names, conjunction, goals_in, template_in}
 use Rattle.kan_grammar.specs.Texts.ProgramText.{relations_in, queries_in, relations_of, queries_of}
 use Rattle.kan_grammar.specs.Texts.TopForms.{form}
-use Rattle.goal_forms.specs.Contexts.{data_of, datum_at, data_at, defined_in, binder_at, head_at, goals_at, term_at, terms_at, form_of}
+use Rattle.goal_forms.specs.Contexts.{data_of, datum_at, data_at, defined_in, binder_at, head_at}
+use Rattle.goal_forms.specs.Contexts.{goals_at, term_at, terms_at, form_of}
 use Rattle.goal_forms.specs.TermSteps.{task_form}
 use Rattle.goal_forms.specs.declared.context.Context.{Context}
 use Rattle.goal_forms.specs.declared.form.Form as parsed
 use Rattle.goal_forms.specs.declared.goal.Goal as opened
 use Rattle.goal_forms.specs.declared.term.Task.{Task}
-use Rattle.goal_syntax.specs.Building.FormsBuilt.{asked_fresh, asked_list, relation_meant, names_in, relation_names}
+use Rattle.goal_syntax.specs.Building.FormsBuilt.{asked_fresh, asked_list, relation_meant, names_in}
+use Rattle.goal_syntax.specs.Building.FormsBuilt.{relation_names}
 use Rattle.goal_syntax.specs.Building.GoalsBuilt.{Built, own_goal}
 use Rattle.goal_syntax.specs.Building.GoalsLeft.{finish}
 use Rattle.goal_syntax.specs.Building.LowTemplates.{KeepsLow}
@@ -21,61 +23,80 @@ use Rattle.goal_syntax.specs.declared.build_goal.Work.{Work}
 
 -- the template of a task's term, and those of the terms in a list, where these names are in scope
 abbrev pub task_template : Context → Names → Task → Template
-task_template context scope task = template_in scope (task_form (data_of context) context.names.now task)
+task_template context scope task =
+    template_in scope (task_form (data_of context) context.names.now task)
 
 abbrev pub term_templates : Context → Names → ℕ → List Template
 term_templates context scope place = map (template_in scope) (terms_at context place)
 
 -- the goal of the goals in a list, which hold together
 abbrev pub list_goal : Context → Names → ℕ → Goal
-list_goal context scope place = conjunction (goals_in context.dialect (defined_in context) scope (goals_at context place))
+list_goal context scope place =
+    conjunction (goals_in context.dialect (defined_in context) scope (goals_at context place))
 
 -- the same behind another goal
 abbrev pub goal_behind : Context → Goal → Names → ℕ → Goal
-goal_behind context first scope place = conjunction (first ∷ goals_in context.dialect (defined_in context) scope (goals_at context place))
+goal_behind context first scope place =
+    conjunction
+    (first ∷ goals_in context.dialect (defined_in context) scope (goals_at context place))
 
 -- the goal of one that has no goals in it
 abbrev pub goal_alone : Context → Names → opened.Goal → Option Goal
-goal_alone context scope goal = own_goal context.dialect (defined_in context) context.names.now (data_of context) scope goal
+goal_alone context scope goal =
+    own_goal context.dialect (defined_in context) context.names.now (data_of context) scope goal
 
 -- what is made once all work on a stack is done, the top first
 abbrev pub made_after : Context → Names → List Work → Built → Built
-made_after context scope works before = finish context.dialect (defined_in context) context.names.now (data_of context) scope works before
+made_after context scope works before =
+    finish context.dialect (defined_in context) context.names.now
+    (data_of context) scope works before
 
 -- the goal of a run over a list of names, and before it suspends
 abbrev pub run_goal : Context → ℕ → ℕ → Goal
-run_goal context binder goals = asked_list context.dialect (defined_in context) (binder_at context binder).value (goals_at context goals)
+run_goal context binder goals =
+    asked_list context.dialect (defined_in context) (binder_at context binder).value
+    (goals_at context goals)
 
 abbrev pub fresh_goal : Context → ℕ → ℕ → Goal
-fresh_goal context binder goals = asked_fresh context.dialect (defined_in context) (binder_at context binder).value (goals_at context goals)
+fresh_goal context binder goals =
+    asked_fresh context.dialect (defined_in context) (binder_at context binder).value
+    (goals_at context goals)
 
 -- the relation with a head and a list of goals
 abbrev pub relation_at : Context → ℕ → ℕ → model.Relation
-relation_at context head goals = relation_meant context.dialect (defined_in context) (head_at context head).value (goals_at context goals)
+relation_at context head goals =
+    relation_meant context.dialect (defined_in context) (head_at context head).value
+    (goals_at context goals)
 
 -- the relations and the runs of a top form that was parsed, and the names of the relations
 abbrev pub relations_parsed : Context → parsed.Form → List model.Relation
-relations_parsed context parts = relations_in context.dialect (defined_in context) (form_of context parts)
+relations_parsed context parts =
+    relations_in context.dialect (defined_in context) (form_of context parts)
 
 abbrev pub queries_parsed : Context → parsed.Form → List model.Query
-queries_parsed context parts = queries_in context.dialect (defined_in context) (form_of context parts)
+queries_parsed context parts =
+    queries_in context.dialect (defined_in context) (form_of context parts)
 
 abbrev pub names_parsed : Context → parsed.Form → List ℕ
 names_parsed context parts = names_in (form_of context parts)
 
 -- those of the top form at a place
 abbrev pub form_relations : Context → ℕ → List model.Relation
-form_relations context place = relations_in context.dialect (defined_in context) (form context.names.now (datum_at context place))
+form_relations context place =
+    relations_in context.dialect (defined_in context)
+    (form context.names.now (datum_at context place))
 
 abbrev pub form_names : Context → ℕ → List ℕ
 form_names context place = names_in (form context.names.now (datum_at context place))
 
 -- and those of the top forms at places
 abbrev pub forms_relations : Context → List ℕ → List model.Relation
-forms_relations context places = relations_of context.dialect context.names.now (defined_in context) (data_at context places)
+forms_relations context places =
+    relations_of context.dialect context.names.now (defined_in context) (data_at context places)
 
 abbrev pub forms_queries : Context → List ℕ → List model.Query
-forms_queries context places = queries_of context.dialect context.names.now (defined_in context) (data_at context places)
+forms_queries context places =
+    queries_of context.dialect context.names.now (defined_in context) (data_at context places)
 
 abbrev pub forms_names : Context → List ℕ → List ℕ
 forms_names context places = relation_names context.names.now (data_at context places)

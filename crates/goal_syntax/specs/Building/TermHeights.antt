@@ -11,13 +11,16 @@ use Rattle.goal_forms.specs.TermSteps.{task_form}
 use Rattle.goal_syntax.specs.declared.build_term.Work.{Work}
 use Rattle.goal_syntax.specs.declared.build_term.Work.TheVariants.{Term, Pair}
 
--- all templates are low that are built while the work on a stack is done, the top first, and those built before
+-- all templates are low that are built while the work on a stack is done, the top first, and those
+-- built before
 abbrev pub all_low : List Sited → Table → Names → List Work → List Template → Bool
 all_low ds t ns [] made = list_all is_low made
-all_low ds t ns (Term task ∷ ws) made = all_low ds t ns ws (template_in ns (task_form ds t task) ∷ made)
+all_low ds t ns (Term task ∷ ws) made =
+    all_low ds t ns ws (template_in ns (task_form ds t task) ∷ made)
 all_low ds t ns (Pair ∷ ws) made = list_all is_low made && all_low ds t ns ws (paired made)
 
 -- with those of a table
-pub record WorksLow (ds : List Sited) (t : Table) (ns : Names) (ws : List Work) (ts : List Template) (places : List ℕ) : Type 0 where
+pub record WorksLow (ds : List Sited) (t : Table) (ns : Names) (ws : List Work) (ts : List Template)
+    (places : List ℕ) : Type 0 where
   pub left : all_low ds t ns ws (built ts places) ≡ true
   pub there : list_all is_low ts ≡ true

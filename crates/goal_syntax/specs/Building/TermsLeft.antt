@@ -41,7 +41,8 @@ paired (d ∷ a ∷ made) = Tree.pair a d ∷ made
 -- what is built once all work on a stack is done, the top first, and the template built last
 abbrev pub finish : List Sited → Table → Names → List Work → List Template → List Template
 finish ds t ns [] made = made
-finish ds t ns (Term task ∷ ws) made = finish ds t ns ws (template_in ns (task_form ds t task) ∷ made)
+finish ds t ns (Term task ∷ ws) made =
+    finish ds t ns ws (template_in ns (task_form ds t task) ∷ made)
 finish ds t ns (Pair ∷ ws) made = finish ds t ns ws (paired made)
 
 -- how much work is left at most

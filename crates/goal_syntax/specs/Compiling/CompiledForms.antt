@@ -27,10 +27,15 @@ pub record IsMeant (m : Meant) (program : Program) (queries : List Query) : Type
   pub small : is_small (programs.meaning program) ≡ true
   pub room : HasRoom (programs.tables program)
 
--- the forms of a text behind those of a library give their program and runs, or the fault that is answered
-abbrev pub CompilesForms : Dialect → Table → List Sited → List Sited → Result Compiled SyntaxError → Type 0
+-- the forms of a text behind those of a library give their program and runs, or the fault that is
+-- answered
+abbrev pub CompilesForms : Dialect → Table → List Sited → List Sited → Result Compiled SyntaxError →
+    Type 0
 CompilesForms dialect names library text (Ok c) =
-    (least (faults_of names library text) ≡ None) × IsMeant (text_meaning dialect names library text) c.program c.queries
-    × (are_named names (programs.tables c.program) ≡ true) × (entry_names (programs.tables c.program) ≡ relation_names names (library ++ text))
-CompilesForms dialect names library text (Err (Fault at number)) = least (faults_of names library text) ≡ Some (faults.fault at number)
+    (least (faults_of names library text) ≡ None)
+    × IsMeant (text_meaning dialect names library text) c.program c.queries
+    × (are_named names (programs.tables c.program) ≡ true)
+    × (entry_names (programs.tables c.program) ≡ relation_names names (library ++ text))
+CompilesForms dialect names library text (Err (Fault at number)) =
+    least (faults_of names library text) ≡ Some (faults.fault at number)
 CompilesForms dialect names library text (Err Memory) = Unit {0}

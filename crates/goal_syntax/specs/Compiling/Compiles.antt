@@ -1,5 +1,6 @@
 -- What compiling a text answers.
-use Rattle.std.specs.Prelude.{◌≡◌, ◌≤◌, ◌^◌, ℕ, ◌++◌, [], List, map, length, true, Option, Some, None, Result, Ok, Err}
+use Rattle.std.specs.Prelude.{◌≡◌, ◌≤◌, ◌^◌, ℕ, ◌++◌, [], List, map, length, true, Option, Some}
+use Rattle.std.specs.Prelude.{None, Result, Ok, Err}
 use Rattle.kan_terms.specs.Table.{Table}
 use Rattle.kan_model.specs.Programs.Goals as model
 use Rattle.kan_model.specs.Programs.Scope.{is_small}
@@ -27,26 +28,33 @@ use Rattle.goal_syntax.specs.declared.compiler.Compiled.{Compiled}
 
 -- the fault of a text behind a library that is answered, where it has one
 abbrev pub fault_found : Table → List Datum → List Datum → Option faults.Fault
-fault_found names library text = fault_of_text names (map (written names) library) (map (written names) text)
+fault_found names library text =
+    fault_of_text names (map (written names) library) (map (written names) text)
 
 -- the relations of a text behind a library, and its runs
 abbrev pub relations_meant : Dialect → Table → List Datum → List Datum → List model.Relation
-relations_meant dialect names library text = (program_of_text dialect names (map (written names) library) (map (written names) text)).relations
+relations_meant dialect names library text =
+    (program_of_text dialect names (map (written names) library)
+    (map (written names) text)).relations
 
 abbrev pub queries_meant : Dialect → Table → List Datum → List Datum → List model.Query
-queries_meant dialect names library text = queries_of_text dialect names (map (written names) library) (map (written names) text)
+queries_meant dialect names library text =
+    queries_of_text dialect names (map (written names) library) (map (written names) text)
 
 -- data as trees of pairs
 abbrev pub sites_of : Table → List Datum → List Sited
 sites_of names ds = map (with_sites names) (map (written names) ds)
 
 -- a program and its runs are those of a text that has no fault
-pub record IsCompiled (dialect : Dialect) (names : Table) (library text : List Datum) (program : Program) (queries : List Query) : Type 0 where
+pub record IsCompiled (dialect : Dialect) (names : Table) (library text : List Datum)
+    (program : Program) (queries : List Query) : Type 0 where
   pub accepted : fault_found names library text ≡ None
   pub relations : (programs.meaning program).relations ≡ relations_meant dialect names library text
-  pub queries_are : map (programs.query_of program) queries ≡ queries_meant dialect names library text
+  pub queries_are : map (programs.query_of program) queries
+      ≡ queries_meant dialect names library text
   -- relations have the names at the heads of their defrels
-  pub heads : entry_names (programs.tables program) ≡ relation_names names (sites_of names library ++ sites_of names text)
+  pub heads : entry_names (programs.tables program)
+      ≡ relation_names names (sites_of names library ++ sites_of names text)
   -- nothing is open in it, with the goals of the runs
   pub closed : are_closed (programs.tables program) (map goal_place queries) ≡ true
   pub small : is_small (programs.meaning program) ≡ true
@@ -56,12 +64,16 @@ pub record IsCompiled (dialect : Dialect) (names : Table) (library text : List D
   pub named : are_named names (programs.tables program) ≡ true
 
 -- a text gives its program and runs, or the fault that is answered; want of memory says nothing
-abbrev pub Compiles : Dialect → Table → List Datum → List Datum → Result Compiled SyntaxError → Type 0
-Compiles dialect names library text (Ok c) = IsCompiled dialect names library text c.program c.queries
-Compiles dialect names library text (Err (Fault at number)) = fault_found names library text ≡ Some (faults.fault at number)
+abbrev pub Compiles : Dialect → Table → List Datum → List Datum → Result Compiled SyntaxError →
+    Type 0
+Compiles dialect names library text (Ok c) =
+    IsCompiled dialect names library text c.program c.queries
+Compiles dialect names library text (Err (Fault at number)) =
+    fault_found names library text ≡ Some (faults.fault at number)
 Compiles dialect names library text (Err Memory) = Unit {0}
 
--- the table afterwards has the symbols that prefixes stand for; where memory is wanting, maybe not all of them
+-- the table afterwards has the symbols that prefixes stand for; where memory is wanting, maybe not
+-- all of them
 abbrev pub TableAfter : Table → Table → Result Compiled SyntaxError → Type 0
 TableAfter before after (Ok c) = after ≡ with_prefixes before
 TableAfter before after (Err (Fault at number)) = after ≡ with_prefixes before

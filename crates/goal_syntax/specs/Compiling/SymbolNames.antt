@@ -12,7 +12,8 @@ has_name names s = is_some (name_of names.symbols s)
 abbrev pub has_text : Table → ℕ → Bool
 has_text names s = is_some (name_of names.strings s)
 
--- the symbol of a template has one, and its string a text, and the tag of a goal, and the name of a relation
+-- the symbol of a template has one, and its string a text, and the tag of a goal, and the name of a
+-- relation
 abbrev pub is_term_named : Table → TermEntry → Bool
 is_term_named names (TermEntry.sym s) = has_name names s
 is_term_named names (TermEntry.str s) = has_text names s
@@ -27,4 +28,6 @@ is_relation_named names r = has_name names r.name
 
 -- all symbols in the tables of a program have names
 abbrev pub are_named : Table → Tables → Bool
-are_named names ts = list_all (is_term_named names) ts.terms && list_all (is_goal_named names) ts.goals && list_all (is_relation_named names) ts.relations
+are_named names ts =
+    list_all (is_term_named names) ts.terms && list_all (is_goal_named names) ts.goals
+    && list_all (is_relation_named names) ts.relations

@@ -13,25 +13,34 @@ use Rattle.kan_grammar.specs.Texts.TextFaults.{term_faults, call_faults, goal_fa
 use Rattle.goal_forms.specs.Parts.{site_at}
 use Rattle.goal_forms.specs.TermSteps.{site_size}
 use Rattle.goal_forms.specs.declared.goal.Goal as opened
-use Rattle.goal_forms.specs.declared.goal.Goal.TheVariants.{Same, Differ, Symbol, Number, Text, Absent, Fresh, AllOf, OneOf, Clauses, Call, Misshapen}
+use Rattle.goal_forms.specs.declared.goal.Goal.TheVariants.{Same, Differ, Symbol, Number, Text}
+use Rattle.goal_forms.specs.declared.goal.Goal.TheVariants.{Absent, Fresh, AllOf, OneOf, Clauses}
+use Rattle.goal_forms.specs.declared.goal.Goal.TheVariants.{Call, Misshapen}
 use Rattle.goal_syntax.specs.declared.judge_goal.Waiting.{Waiting}
 use Rattle.goal_syntax.specs.declared.judge_goal.Waiting.TheVariants as waiting
 
 -- the faults of a goal's terms, of its head and of its shape
 abbrev pub own_faults : List Defined → Table → List Sited → Names → opened.Goal → List Fault
-own_faults rs t ds ns (Same a b) = term_faults ns (term_form t (site_at ds a)) ++ term_faults ns (term_form t (site_at ds b))
-own_faults rs t ds ns (Differ a b) = term_faults ns (term_form t (site_at ds a)) ++ term_faults ns (term_form t (site_at ds b))
+own_faults rs t ds ns (Same a b) =
+    term_faults ns (term_form t (site_at ds a)) ++ term_faults ns (term_form t (site_at ds b))
+own_faults rs t ds ns (Differ a b) =
+    term_faults ns (term_form t (site_at ds a)) ++ term_faults ns (term_form t (site_at ds b))
 own_faults rs t ds ns (Symbol a) = term_faults ns (term_form t (site_at ds a))
 own_faults rs t ds ns (Number a) = term_faults ns (term_form t (site_at ds a))
 own_faults rs t ds ns (Text a) = term_faults ns (term_form t (site_at ds a))
-own_faults rs t ds ns (Absent a b) = (tag t (site_at ds a)).faults ++ term_faults ns (term_form t (site_at ds b))
-own_faults rs t ds ns (Call at s args) = call_faults (arity rs s) at (length (term_forms t (site_at ds args))) ++ flat_map (term_faults ns) (term_forms t (site_at ds args))
+own_faults rs t ds ns (Absent a b) =
+    (tag t (site_at ds a)).faults ++ term_faults ns (term_form t (site_at ds b))
+own_faults rs t ds ns (Call at s args) =
+    call_faults (arity rs s) at (length (term_forms t (site_at ds args)))
+    ++ flat_map (term_faults ns) (term_forms t (site_at ds args))
 own_faults rs t ds ns (Misshapen at) = fault at 10 ∷ []
 own_faults rs t ds ns g = []
 
 -- the faults of its binder, and of its goals
 abbrev pub inner_faults : List Defined → Table → List Sited → Names → opened.Goal → List Fault
-inner_faults rs t ds ns (Fresh b gs) = (binder t (site_at ds b)).faults ++ goals_faults rs (within ns (binder t (site_at ds b)).value) (goal_forms t (site_at ds gs))
+inner_faults rs t ds ns (Fresh b gs) =
+    (binder t (site_at ds b)).faults ++ goals_faults rs (within ns (binder t (site_at ds b)).value)
+    (goal_forms t (site_at ds gs))
 inner_faults rs t ds ns (AllOf gs) = goals_faults rs ns (goal_forms t (site_at ds gs))
 inner_faults rs t ds ns (OneOf gs) = goals_faults rs ns (goal_forms t (site_at ds gs))
 inner_faults rs t ds ns (Clauses cs) = goals_faults rs ns (clause_forms t (site_at ds cs))
@@ -40,9 +49,12 @@ inner_faults rs t ds ns g = []
 -- the faults of what waits, the top first; a scope is left where that waits
 abbrev pub stack_faults : List Defined → Table → List Sited → Names → List Waiting → List Fault
 stack_faults rs t ds ns [] = []
-stack_faults rs t ds ns (waiting.Goal g ∷ later) = goal_faults rs ns (goal_form t (site_at ds g)) ++ stack_faults rs t ds ns later
-stack_faults rs t ds ns (waiting.Goals gs ∷ later) = goals_faults rs ns (goal_forms t (site_at ds gs)) ++ stack_faults rs t ds ns later
-stack_faults rs t ds ns (waiting.Clauses cs ∷ later) = goals_faults rs ns (clause_forms t (site_at ds cs)) ++ stack_faults rs t ds ns later
+stack_faults rs t ds ns (waiting.Goal g ∷ later) =
+    goal_faults rs ns (goal_form t (site_at ds g)) ++ stack_faults rs t ds ns later
+stack_faults rs t ds ns (waiting.Goals gs ∷ later) =
+    goals_faults rs ns (goal_forms t (site_at ds gs)) ++ stack_faults rs t ds ns later
+stack_faults rs t ds ns (waiting.Clauses cs ∷ later) =
+    goals_faults rs ns (clause_forms t (site_at ds cs)) ++ stack_faults rs t ds ns later
 stack_faults rs t ds ns (waiting.Leave n ∷ later) = stack_faults rs t ds (take n ns) later
 
 -- how many parts what waits reads at most

@@ -10,8 +10,10 @@ use Rattle.goal_syntax.specs.declared.judge_goal.Waiting.{Waiting}
 
 -- the faults of what waits, the top first, where these names are in scope
 abbrev pub faults_left : Context → Names → List Waiting → List Fault
-faults_left context scope waiting = stack_faults (defined_in context) context.names.now (data_of context) scope waiting
+faults_left context scope waiting =
+    stack_faults (defined_in context) context.names.now (data_of context) scope waiting
 
 -- the faults of a goal's terms, of its head and of its shape
 abbrev pub faults_alone : Context → Names → opened.Goal → List Fault
-faults_alone context scope goal = own_faults (defined_in context) context.names.now (data_of context) scope goal
+faults_alone context scope goal =
+    own_faults (defined_in context) context.names.now (data_of context) scope goal

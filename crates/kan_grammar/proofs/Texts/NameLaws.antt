@@ -1,10 +1,12 @@
 -- Tables that go on where others end.
-use Rattle.std.proofs.Common.{◌≡◌, ℕ, ◌+◌, ◌≤◌, Bool, true, false, List, [], ◌∷◌, ◌++◌, length, refl, sym, ap, ◌∙◌, append_assoc, append-nil, arith}
+use Rattle.std.proofs.Common.{◌≡◌, ℕ, ◌+◌, ◌≤◌, Bool, true, false, List, [], ◌∷◌, ◌++◌, length, refl, sym, ap, subst, ◌∙◌, append_assoc, append-nil, arith}
 use Rattle.std.proofs.lemmas.List.{length-append}
 use Rattle.std.specs.Prelude.{is_some, if◌then◌else◌}
 use Rattle.kan_terms.specs.Table.{Table, number_of, with_symbol, with_string}
 use Rattle.kan_grammar.specs.Data.Words.{Token, opening, closing, prefix, dot, atom, bad, bad_string, symbol, string, number, truth, out_of_range, reserved}
-use Rattle.kan_grammar.specs.Texts.TextNames.{with_token, with_prefixes, GoesOn, Extends}
+use Rattle.kan_grammar.specs.Data.Tokens.{Placed, placed, tokens}
+use Rattle.kan_grammar.specs.Texts.TextNames.{with_token, with_tokens, with_text_names, with_prefixes, first_names}
+use Rattle.kan_grammar.specs.Texts.TextNames.{text_table, GoesOn, Extends}
 
 pub goes_on_same : (table : Table) → GoesOn table table
 goes_on_same table = record { symbols = ([], sym (append-nil table.symbols)); strings = ([], sym (append-nil table.strings)) }
@@ -68,3 +70,35 @@ extends_token table bad = extends_same 1 table
 pub extends_prefixes : (table : Table) → Extends 3 table (with_prefixes table)
 extends_prefixes table =
     extends_further 2 1 3 table _ _ (extends_further 1 1 2 table _ _ (extends_symbol table _) (extends_symbol _ _) (omega arith)) (extends_symbol _ _) (omega arith)
+
+-- a table goes on with the names of tokens, and so with those of a text
+goes_on_tokens : (table : Table) (ts : List Placed) → GoesOn table (with_tokens table ts)
+goes_on_tokens table [] = goes_on_same table
+goes_on_tokens table (placed at t ∷ ts) =
+    goes_on_further table (with_token table t) (with_tokens (with_token table t) ts)
+    (extends_token table t).goes_on (goes_on_tokens (with_token table t) ts)
+
+pub goes_on_text : (table : Table) (text : List ℕ) → GoesOn table (with_text_names table text)
+goes_on_text table text = goes_on_tokens table (tokens text)
+
+pub goes_on_library : (library text : List ℕ) →
+    GoesOn (with_text_names first_names library) (text_table library text)
+goes_on_library library text = goes_on_text (with_text_names first_names library) text
+
+-- a table that begins with the symbols of prefixes has them already
+begun : (more strings : List (List ℕ)) →
+    with_prefixes (record { symbols = first_names.symbols ++ more; strings = strings })
+    ≡ record { symbols = first_names.symbols ++ more; strings = strings }
+begun more strings = refl
+
+pub prefixes_stay : (table : Table) → GoesOn first_names table → with_prefixes table ≡ table
+prefixes_stay table on =
+    let same : record { symbols = first_names.symbols ++ on.symbols.0; strings = table.strings } ≡ table
+    = λ i. record { symbols = sym on.symbols.1 i; strings = table.strings } in
+    subst (λ t. with_prefixes t ≡ t) same (begun on.symbols.0 table.strings)
+
+-- so do the names of a text behind a library
+pub goes_on_first : (library text : List ℕ) → GoesOn first_names (text_table library text)
+goes_on_first library text =
+    goes_on_further first_names (with_text_names first_names library) (text_table library text)
+    (goes_on_text first_names library) (goes_on_library library text)

@@ -30,11 +30,11 @@ reply_in_all library text = reply library text All
 abbrev equal : Template → Template → Goal
 equal a b = Goal.prim (Primitive.same a b)
 
--- names are numbered as their tokens come, and the words of prefixes behind them
+-- the words of prefixes come first, and names are numbered behind them as their tokens come
 accepted_text : reply_in_book [] (codes "(run* q (== q '(a \"b\")))") ≡
-    Reply.accepted (record { symbols = codes "run*" ∷ codes "q" ∷ codes "==" ∷ codes "a" ∷ codes "quote" ∷ codes "quasiquote" ∷ codes "unquote" ∷ []; strings = codes "b" ∷ [] })
-    (record { relations = []; goals = equal (Tree.leaf 0) (Tree.pair (Tree.sym 3) (Tree.pair (Tree.str 0) Tree.nil)) ∷ [] })
-    (record { goal = equal (Tree.leaf 0) (Tree.pair (Tree.sym 3) (Tree.pair (Tree.str 0) Tree.nil)); limit = None } ∷ [])
+    Reply.accepted (record { symbols = codes "quote" ∷ codes "quasiquote" ∷ codes "unquote" ∷ codes "run*" ∷ codes "q" ∷ codes "==" ∷ codes "a" ∷ []; strings = codes "b" ∷ [] })
+    (record { relations = []; goals = equal (Tree.leaf 0) (Tree.pair (Tree.sym 6) (Tree.pair (Tree.str 0) Tree.nil)) ∷ [] })
+    (record { goal = equal (Tree.leaf 0) (Tree.pair (Tree.sym 6) (Tree.pair (Tree.str 0) Tree.nil)); limit = None } ∷ [])
 unfolding reply_in_book
 accepted_text = refl
 
@@ -47,10 +47,10 @@ refused_for_forms : reply_in_book [] (codes "(run* q (== q x) (foo q))") ≡ Rep
 unfolding reply_in_book
 refused_for_forms = refl
 
--- the words of prefixes that a library spells out stand among its names
+-- a word of a prefix that a library spells out has its number already
 spelled_in_a_library : reply_in_book (codes "(defrel (two p) (== p (quote p)))") (codes "(run* q (two q))") ≡
-    Reply.accepted (record { symbols = codes "defrel" ∷ codes "two" ∷ codes "p" ∷ codes "==" ∷ codes "quote" ∷ codes "run*" ∷ codes "q" ∷ codes "quasiquote" ∷ codes "unquote" ∷ []; strings = [] })
-    (record { relations = record { params = 1; body = equal (Tree.leaf 0) (Tree.sym 2) } ∷ []; goals = equal (Tree.leaf 0) (Tree.sym 2) ∷ Goal.call 0 (Tree.leaf 0 ∷ []) ∷ [] })
+    Reply.accepted (record { symbols = codes "quote" ∷ codes "quasiquote" ∷ codes "unquote" ∷ codes "defrel" ∷ codes "two" ∷ codes "p" ∷ codes "==" ∷ codes "run*" ∷ codes "q" ∷ []; strings = [] })
+    (record { relations = record { params = 1; body = equal (Tree.leaf 0) (Tree.sym 5) } ∷ []; goals = equal (Tree.leaf 0) (Tree.sym 5) ∷ Goal.call 0 (Tree.leaf 0 ∷ []) ∷ [] })
     (record { goal = Goal.call 0 (Tree.leaf 0 ∷ []); limit = None } ∷ [])
 unfolding reply_in_book
 spelled_in_a_library = refl
@@ -62,10 +62,10 @@ refused_behind_a_library = refl
 
 -- a library with a template in it
 prefixes_in_a_library : reply_in_all (codes "(defrel (two p) (fresh (a) (== p `(a . ,a))))") (codes "(run* q (two q))") ≡
-    Reply.accepted (record { symbols = codes "defrel" ∷ codes "two" ∷ codes "p" ∷ codes "fresh" ∷ codes "a" ∷ codes "==" ∷ codes "run*" ∷ codes "q" ∷ codes "quote" ∷ codes "quasiquote" ∷ codes "unquote" ∷ []; strings = [] })
+    Reply.accepted (record { symbols = codes "quote" ∷ codes "quasiquote" ∷ codes "unquote" ∷ codes "defrel" ∷ codes "two" ∷ codes "p" ∷ codes "fresh" ∷ codes "a" ∷ codes "==" ∷ codes "run*" ∷ codes "q" ∷ []; strings = [] })
     (record {
-      relations = record { params = 1; body = Goal.later (Goal.fresh 1 (equal (Tree.leaf 0) (Tree.pair (Tree.sym 4) (Tree.leaf 1)))) } ∷ [];
-      goals = Goal.later (Goal.fresh 1 (equal (Tree.leaf 0) (Tree.pair (Tree.sym 4) (Tree.leaf 1)))) ∷ Goal.call 0 (Tree.leaf 0 ∷ []) ∷ [];
+      relations = record { params = 1; body = Goal.later (Goal.fresh 1 (equal (Tree.leaf 0) (Tree.pair (Tree.sym 7) (Tree.leaf 1)))) } ∷ [];
+      goals = Goal.later (Goal.fresh 1 (equal (Tree.leaf 0) (Tree.pair (Tree.sym 7) (Tree.leaf 1)))) ∷ Goal.call 0 (Tree.leaf 0 ∷ []) ∷ [];
     })
     (record { goal = Goal.call 0 (Tree.leaf 0 ∷ []); limit = None } ∷ [])
 unfolding reply_in_all

@@ -1,11 +1,12 @@
 -- What a text behind a library is answered with, as a function of their bytes, and what is written then.
-use Rattle.std.specs.Prelude.{◌≡◌, ℕ, Bool, true, false, List, [], Option, Some, None}
+use Rattle.std.specs.Prelude.{◌≡◌, ℕ, Bool, true, false, List, [], ◌∷◌, ◌++◌, Option, Some, None, codes}
 use Rattle.std.specs.List.{list_any}
 use Rattle.kan_terms.specs.Table.{Table}
-use Rattle.kan_refusals.specs.Refusals.{refusal_of, error_line}
+use Rattle.kan_refusals.specs.Refusals.{number_of, refusal_of, text_of}
 use Rattle.kan_refusals.specs.declared.refusals.Refusal.{Refusal}
 use Rattle.kan_model.specs.Programs.Goals.{Program, Query}
 use Rattle.kan_model.specs.Streams.Taking.{Ending, take_query}
+use Rattle.kan_model.specs.Answers.Decimals.{decimal_text}
 use Rattle.kan_model.specs.Answers.Output.{runs_output}
 use Rattle.kan_grammar.specs.declared.dialect.Dialect.{Dialect}
 use Rattle.kan_grammar.specs.Data.Written.{Written}
@@ -49,9 +50,15 @@ pub record IsLibrary (table : Table) (library : List Written) : Type 0 where
   pub faultless : fault_of_text table [] library ≡ None
   pub runless : (dialect : Dialect) → queries_of_text dialect table [] library ≡ []
 
--- the line of a refusal
+-- the line of a refusal at an offset: its number, the offset and what it is called, numbers with as
+-- many digits as they have
+abbrev pub line_at : ℕ → Refusal → List ℕ
+line_at at r =
+    (codes "error " ++ decimal_text (number_of r) ++ codes " at " ++ decimal_text at ++ codes ": "
+    ++ text_of r) ++ 10 ∷ []
+
 abbrev pub line_of : Option Refusal → ℕ → List ℕ
-line_of (Some r) at = error_line at r
+line_of (Some r) at = line_at at r
 line_of None at = []
 
 abbrev pub refusal_line : Fault → List ℕ

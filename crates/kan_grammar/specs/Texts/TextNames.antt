@@ -27,9 +27,14 @@ with_prefix table p = with_symbol table (prefix_name p)
 abbrev pub with_prefixes : Table → Table
 with_prefixes table = with_prefix (with_prefix (with_prefix table quote) quasiquote) unquote
 
--- the names of a text behind a library: first those of the library, then its own, and then the symbols that prefixes stand for
+-- the symbols that prefixes stand for, before all other names
+abbrev pub first_names : Table
+first_names = with_prefixes no_names
+
+-- the names of a text behind a library: first the symbols that prefixes stand for, then the names
+-- of the library, and then its own
 abbrev pub text_table : List ℕ → List ℕ → Table
-text_table library text = with_prefixes (with_text_names (with_text_names no_names library) text)
+text_table library text = with_text_names (with_text_names first_names library) text
 
 -- a table goes on where another ends, so that all numbers stay
 pub record GoesOn (old new : Table) : Type 0 where

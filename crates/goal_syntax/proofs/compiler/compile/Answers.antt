@@ -1,4 +1,5 @@
 use Rattle.goal_syntax.proofs.Compiling.ClosingLaws.{of_text_low, alone_still, compiled_of, table_after}
+use Rattle.goal_syntax.proofs.Compiling.OfTextLaws.{few_of_both}
 use Rattle.goal_syntax.proofs.compiler.compile.Goals as goal
 
 pub compile_data-requires-clause-low_library : goal.compile_data-requires-clause-low_library
@@ -15,3 +16,6 @@ returns-clause-compiled c = rw c.in_ok-prefixes.ensures.table at (compiled_of c.
 
 pub returns-clause-table : goal.returns-clause-table
 returns-clause-table c = table_after c.args.names.now c.number_prefixes.new.names _ c.in_ok-prefixes.ensures.table c.in_ok-prefixes.ensures.names
+
+pub compile_data-requires-clause-few : goal.compile_data-requires-clause-few
+compile_data-requires-clause-few c = few_of_both _ c.args.library.now c.args.text.now c.requires.library c.requires.text

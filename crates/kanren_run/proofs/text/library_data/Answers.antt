@@ -5,7 +5,7 @@ use Rattle.kanren_run.proofs.TextLaws.{no_library, reads_library}
 use Rattle.kanren_run.proofs.text.library_data.Goals as goal
 
 pub returns-then-not-library-clause-read : goal.returns-then-not-library-clause-read
-returns-then-not-library-clause-read c = no_library c.args.library c.args.names.now c.new.result (search rules) c.requires.empty c.new.ensures
+returns-then-not-library-clause-read c = no_library c.args.library c.args.names.now c.new.result (search rules) c.requires.first c.new.ensures
 
 pub unreachable-requires : goal.unreachable-requires
 unreachable-requires c =
