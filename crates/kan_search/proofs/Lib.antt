@@ -1,6 +1,4 @@
-pub mod DecidedLaws
+pub mod HeadLaws
 pub mod JoinLaws
-pub mod KnownLaws
-pub mod PullLaws
 pub mod StartLaws
 pub mod SolutionLaws

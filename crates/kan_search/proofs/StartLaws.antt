@@ -13,11 +13,10 @@ use Rattle.kan_model.specs.Programs.Scope.{width, is_narrow}
 use Rattle.kan_model.specs.Programs.Tables.{goal_at}
 use Rattle.stream_core.specs.Suspensions.{going_on, listed}
 use Rattle.stream_core.specs.CounterBounds.{RestFits}
-use Rattle.stream_core.specs.declared.plain_nodes.PlainId.{PlainId}
 use Rattle.kan_search.specs.Suspensions.{LeavesRoom, pulled_stream}
 
 -- a stream whose stores are turned stands for what it stood for
-pub turned-is : {St : Type 0} (tree : PlainId → model.Thunk) (means : St → facts.Store) (turned heads : List St) (tail next : Option PlainId) → turned ≡ reverse heads → next ≡ tail →
+pub turned-is : {I St : Type 0} (tree : I → model.Thunk) (means : St → facts.Store) (turned heads : List St) (tail next : Option I) → turned ≡ reverse heads → next ≡ tail →
     pulled_stream tree means turned next ≡ listed tree means heads tail
 turned-is tree means turned heads tail next is same = ap₂ (λ hs o. going_on (map means hs) (option_map tree o)) (ap reverse is ∙ reverse-reverse heads) same
 
@@ -30,13 +29,13 @@ narrow-at [] i h = omega arith
 narrow-at (g ∷ gs) zero h = ltb-true (width g) (2 ^ 21) (and_parts (is_narrow g) (list_all is_narrow gs) h).0
 narrow-at (g ∷ gs) (suc i) h = narrow-at gs i (and_parts (is_narrow g) (list_all is_narrow gs) h).1
 
-rest-room : (program : Program) (low high : ℕ) (hs : List facts.Store) (tree : PlainId → model.Thunk) (tail : Option PlainId) → high ≤ 2 * 2 ^ 21 → RestFits program low high (going_on hs (option_map tree tail)) →
+rest-room : {I : Type 0} (program : Program) (low high : ℕ) (hs : List facts.Store) (tree : I → model.Thunk) (tail : Option I) → high ≤ 2 * 2 ^ 21 → RestFits program low high (going_on hs (option_map tree tail)) →
     IfSome tail (λ next. LeavesRoom 0 (tree next))
 rest-room program low high hs tree None most fits = tt
 rest-room program low high hs tree (Some id) most (there, below, above) = omega (arith, most, above)
 
 -- what a run begins with leaves room
-pub start-room : (program : Program) (gs : List Goal) (i : ℕ) (none store : facts.Store) (hs : List facts.Store) (tree : PlainId → model.Thunk) (tail next : Option PlainId) → list_all is_narrow gs ≡ true →
+pub start-room : {I : Type 0} (program : Program) (gs : List Goal) (i : ℕ) (none store : facts.Store) (hs : List facts.Store) (tree : I → model.Thunk) (tail next : Option I) → list_all is_narrow gs ≡ true →
     none ≡ facts.bare 0 → store ≡ facts.with_fresh none 1 → RestFits program store.counter (store.counter + width (goal_at gs i) + 2 ^ 21) (going_on hs (option_map tree tail)) → next ≡ tail →
     IfSome next (λ id. LeavesRoom 0 (tree id))
 start-room program gs i none store hs tree tail next small empty one fits same =

@@ -1,4 +1,5 @@
 pub mod Batches
+pub mod Rests
 pub mod Searches
 pub mod SolutionsLeft
 pub mod Suspensions

@@ -1,6 +1,6 @@
 //! What an advance of a search gives.
 
-use stream_core::{PlainId, Stores};
+use stream_core::Stores;
 
 /// How a run ends.
 #[derive(Clone, Copy, Debug, PartialEq, Eq)]
@@ -22,10 +22,9 @@ pub struct Batch<St> {
     pub ended: Option<Ended>,
 }
 
-// What comes where no store may be given before a pull: the end of the run, or the pull of a
-// suspension.
+// What comes where no store may be given before a pull: the end of the run, or a pull.
 #[derive(Clone, Copy)]
 pub(crate) enum Next {
     Ends(Ended),
-    Pulls(PlainId),
+    Pulls,
 }

@@ -27,10 +27,12 @@ is_accepted (Reply.accepted table program queries) = true
 abbrev pub AreInForm : ℕ → Reply → Type 0
 AreInForm fuel (Reply.refusal f) = ⊤
 AreInForm fuel (Reply.accepted table program queries) =
-    (q : Query) → Contains queries q → (st : Store) → Contains (take_query program fuel q).stores st →
+    (q : Query) → Contains queries q → (st : Store) →
+    Contains (take_query program fuel q).stores st →
     in_form table (answer_of table st) ≡ true
 
--- a text is accepted, its answers are in form, and it is said whether some run of it spends its fuel
+-- a text is accepted, its answers are in form, and it is said whether some run of it spends its
+-- fuel
 pub record Runs (s : Settings) (text : List ℕ) (spent : Bool) : Type 0 where
   pub accepted : is_accepted (answer s text) ≡ true
   pub in_form : AreInForm s.fuel (answer s text)

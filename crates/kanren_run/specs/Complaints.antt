@@ -1,7 +1,8 @@
 -- What standard error says of a call that came to nothing.
 use Rattle.std.specs.Prelude.{ℕ, List, Option, None, Some, codes}
 use Rattle.kan_base.specs.declared.status.Status.{Status}
-use Rattle.kan_base.specs.declared.status.Status.TheVariants.{Usage, ReadFault, WriteFault, TooLong, Memory}
+use Rattle.kan_base.specs.declared.status.Status.TheVariants.{Usage, ReadFault, WriteFault, TooLong}
+use Rattle.kan_base.specs.declared.status.Status.TheVariants.{Memory}
 
 -- the line of a status, where it has one
 abbrev pub complaint : Status → Option (List ℕ)

@@ -53,12 +53,14 @@ GetsWhole (Origin.made number) e text = MakesLoad number e text
 
 -- no more than a text may have was taken of a place, or the source was left alone
 abbrev pub GetsAtMost : Origin → Ends → Type 0
-GetsAtMost (Origin.opened spot) e = TakesAtMost greatest_text (e.source.holds spot) e.source_after.left
+GetsAtMost (Origin.opened spot) e =
+    TakesAtMost greatest_text (e.source.holds spot) e.source_after.left
 GetsAtMost (Origin.made number) e = e.source_after ≡ e.source
 
 -- one byte more than a text may have was taken of a place
 abbrev pub GetsTooMuch : Origin → Ends → Type 0
-GetsTooMuch (Origin.opened spot) e = TakesCount (greatest_text + 1) (e.source.holds spot) e.source_after.left
+GetsTooMuch (Origin.opened spot) e =
+    TakesCount (greatest_text + 1) (e.source.holds spot) e.source_after.left
 GetsTooMuch (Origin.made number) e = ⊥
 
 -- a text that isn't too long is told to be there

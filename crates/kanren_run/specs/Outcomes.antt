@@ -5,11 +5,13 @@ use Rattle.kan_base.specs.Faults.{one_more}
 use Rattle.kan_base.specs.Views.{SinkView}
 use Rattle.kan_base.specs.Writes.{PutsFront}
 use Rattle.kan_base.specs.declared.status.Status.{Status}
-use Rattle.kan_base.specs.declared.status.Status.TheVariants.{Done, Fuel, Usage, Text, ReadFault, WriteFault, TooLong, Memory}
+use Rattle.kan_base.specs.declared.status.Status.TheVariants.{Done, Fuel, Usage, Text, ReadFault}
+use Rattle.kan_base.specs.declared.status.Status.TheVariants.{WriteFault, TooLong, Memory}
 use Rattle.command_line.specs.Lines.{Line}
 use Rattle.kanren_run.specs.Commands.{line_alone}
 use Rattle.kanren_run.specs.Settings.{settings_of}
-use Rattle.kanren_run.specs.Origins.{Origin, origin_of, Ends, IsOpened, GetsWhole, GetsAtMost, GetsTooMuch, IsThere}
+use Rattle.kanren_run.specs.Origins.{Origin, origin_of, Ends, IsOpened, GetsWhole, GetsAtMost}
+use Rattle.kanren_run.specs.Origins.{GetsTooMuch, IsThere}
 use Rattle.kanren_run.specs.Answers.{answer, answer_bytes, AreInForm, Runs, IsRefused}
 use Rattle.kanren_run.specs.declared.settings.Settings.{Settings}
 
@@ -28,7 +30,8 @@ pub record PutFront (s : Settings) (text : List ℕ) (put after : Option (List �
   pub front : PutsFront put after (answer_bytes s text)
   pub in_form : AreInForm s.fuel (answer s text)
 
--- a text was got whole and is accepted, and its output was put; it is said whether some run spent its fuel
+-- a text was got whole and is accepted, and its output was put; it is said whether some run spent
+-- its fuel
 pub record Ran (o : Origin) (s : Settings) (e : Ends) (spent : Bool) : Type 0 where
   pub text : List ℕ
   pub got : GetsWhole o e text
@@ -55,7 +58,8 @@ pub record Untouched (e : Ends) : Type 0 where
   pub source : e.source_after ≡ e.source
   pub sink : e.sink_after ≡ e.sink
 
--- Want of memory: nothing was done; or nothing was put, and the text was read as far as memory went;
+-- Want of memory: nothing was done; or nothing was put, and the text was read as far as memory
+-- went;
 -- or it was got whole, and a front of what is written for it was put.
 pub data WantedMemory (o : Origin) (s : Settings) (e : Ends) : Type 0 where
   at_once : Untouched e → WantedMemory o s e
@@ -83,7 +87,8 @@ Outcome o s e WriteFault = PutSome o s e
 Outcome o s e TooLong = GetsTooMuch o e × PutNothing e
 Outcome o s e Memory = WantedMemory o s e
 
--- How many calls of the source have failed, and of the sink: one more where the status says so, else
+-- How many calls of the source have failed, and of the sink: one more where the status says so,
+-- else
 -- as many as before.
 abbrev pub read_faults_after : Status → ℕ → ℕ
 read_faults_after ReadFault faults = one_more faults
@@ -113,7 +118,8 @@ AnswersText s text _ = ⊥
 -- Where none failed and the text is told that is asked for, the answer is the one that it has, or
 -- want of memory.
 abbrev pub IsComplete : Origin → Settings → Ends → Status → Type 0
-IsComplete o s e status = (text : List ℕ) → IsThere o e text → NoneFailed e → AnswersText s text status
+IsComplete o s e status =
+    (text : List ℕ) → IsThere o e text → NoneFailed e → AnswersText s text status
 
 -- what is said of the answering of a text from an origin under some settings
 pub record IsFaithfulAt (o : Origin) (s : Settings) (e : Ends) (status : Status) : Type 0 where
@@ -138,7 +144,8 @@ abbrev pub IsFaithfulTo : Option Line → Ends → Status → Type 0
 IsFaithfulTo (Some l) e status = IsFaithfulAt (origin_of l) (settings_of l) e status
 IsFaithfulTo None e status = IsNoLine e status
 
--- What is said of a call. Where its words are a line of the command: its outcome by its status, which
+-- What is said of a call. Where its words are a line of the command: its outcome by its status,
+-- which
 -- isn't Usage; how many calls of its ends failed; and that it has the answer of the text where none
 -- did. Where they are none: the status is Usage, or memory was wanting, and all is as it was.
 abbrev pub IsFaithful : Call → Type 0

@@ -1,5 +1,6 @@
 -- What is written of runs, piece after piece.
-use Rattle.std.specs.Prelude.{◌≡◌, ℕ, ◌+◌, ◌<◌, true, List, [], ◌++◌, map, length, Option, Some, None, Result, Ok, Err}
+use Rattle.std.specs.Prelude.{◌≡◌, ℕ, ◌+◌, ◌<◌, true, List, [], ◌++◌, map, length, Option, Some}
+use Rattle.std.specs.Prelude.{None, Result, Ok, Err}
 use Rattle.std.specs.List.{flat_map, list_all}
 use Rattle.std.specs.Io.KnownBytes.{Appends}
 use Rattle.kan_base.specs.Faults.{one_more}
@@ -39,7 +40,9 @@ end_text answers pulls (Some ended) = summary_line answers pulls (ending_of ende
 
 -- what is still to be written of a run that gave so many answers with so many pulls
 abbrev pub rest_text : Table → ℕ → ℕ → Taken → List ℕ
-rest_text table answers pulls t = answer_lines table t.stores ++ summary_line (answers + length t.stores) (pulls + t.pulls) t.ending
+rest_text table answers pulls t =
+    answer_lines table t.stores
+    ++ summary_line (answers + length t.stores) (pulls + t.pulls) t.ending
 
 -- a front of a text is put, where one call of the sink failed, or memory is wanting and none did
 abbrev pub Stops : List ℕ → SinkView → SinkView → Stop → Type 0
@@ -58,18 +61,24 @@ pub record Written (text : List ℕ) (old new : SinkView) (rest : List ℕ) : Ty
   pub put_front : Appends old.put new.put front
   pub still : new.faults ≡ old.faults
 
--- what is left of a run after some of its lines were put: the lines that are still to come, less of them than before, and the same end
-pub record Continues (table : Table) (before : Taken) (answers pulls : ℕ) (after : Taken) (answers_after pulls_after : ℕ) (old new : SinkView) : Type 0 where
-  pub written : Written (rest_text table answers pulls before) old new (rest_text table answers_after pulls_after after)
+-- what is left of a run after some of its lines were put: the lines that are still to come, less of
+-- them than before, and the same end
+pub record Continues (table : Table) (before : Taken) (answers pulls : ℕ) (after : Taken)
+    (answers_after pulls_after : ℕ) (old new : SinkView) : Type 0 where
+  pub written : Written (rest_text table answers pulls before) old new
+      (rest_text table answers_after pulls_after after)
   pub named : Each (HasNames table) after.stores
   pub ending : after.ending ≡ before.ending
   pub less : length after.stores + after.pulls < length before.stores + before.pulls
 
--- the next lines of a run were put, and more are to come or they were the last ones; or a front of all that were to come was put
-abbrev pub WritesNext : Table → Taken → ℕ → ℕ → Taken → ℕ → ℕ → SinkView → SinkView → Result (Option Ended) Stop → Type 0
+-- the next lines of a run were put, and more are to come or they were the last ones; or a front of
+-- all that were to come was put
+abbrev pub WritesNext : Table → Taken → ℕ → ℕ → Taken → ℕ → ℕ → SinkView → SinkView →
+    Result (Option Ended) Stop → Type 0
 WritesNext t before n p after m q old new (Ok None) = Continues t before n p after m q old new
 WritesNext t before n p after m q old new (Ok (Some ended)) =
-    Appends old.put new.put (rest_text t n p before) × (new.faults ≡ old.faults) × (ending_of ended ≡ before.ending)
+    Appends old.put new.put (rest_text t n p before) × (new.faults ≡ old.faults)
+    × (ending_of ended ≡ before.ending)
 WritesNext t before n p after m q old new (Err stop) = Stops (rest_text t n p before) old new stop
 
 -- a program may be run for some queries: nothing is open, it is small, and its tags have names

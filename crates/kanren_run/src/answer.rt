@@ -18,7 +18,8 @@ pub(crate) fn print_answer<St: Store>(
     lines: &mut Vec<u8>,
 ) -> Result<(), Memory>
     requires { HasNames names.now (St.meaning store.now) }
-    ensures { OnOk result (lines.new.items ≡ lines.old.items ++ output.answer_line names.now (St.meaning store.now)) }
+    ensures { OnOk result (lines.new.items ≡ lines.old.items
+        ++ output.answer_line names.now (St.meaning store.now)) }
 {
     let answer = reify::answer_of(alloc, store, names)?;
     let text = reify::print_answer(alloc, &answer, names)?;
@@ -40,7 +41,8 @@ fn ending(ended: Ended) -> &'static str
 
 // The summary line of a run.
 fn summary(alloc: Global, answers: u64, pulls: u64, ended: Ended) -> Result<String, Memory>
-    ensures { IfOk result (λ line. string_bytes line ≡ output.summary_line answers pulls (ending_of ended)) }
+    ensures { IfOk result (λ line. string_bytes line
+        ≡ output.summary_line answers pulls (ending_of ended)) }
 {
     let mut line = String::new(alloc);
     let ending = ending(ended);
@@ -56,7 +58,8 @@ pub(crate) fn print_summary(
     ended: Ended,
     lines: &mut Vec<u8>,
 ) -> Result<(), Memory>
-    ensures { OnOk result (lines.new.items ≡ lines.old.items ++ output.summary_line answers pulls (ending_of ended)) }
+    ensures { OnOk result (lines.new.items ≡ lines.old.items
+        ++ output.summary_line answers pulls (ending_of ended)) }
 {
     let line = summary(alloc, answers, pulls, ended)?;
     lines.extend_from_slice(line.as_bytes())?;

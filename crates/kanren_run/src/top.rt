@@ -34,7 +34,8 @@ use std::alloc::Global;
 
 /// Gets the text that the words ask for, runs it, and writes its output.
 ///
-/// The words are those after the program's name: options and at most one name of a file. The answers
+/// The words are those after the program's name: options and at most one name of a file. The
+/// answers
 /// of a run come in the order of its stream, each a line, and behind them the run's summary line;
 /// they are written as they are found. A text that is refused gives one line that says so.
 pub fn kanren_alone<S: Source, K: Sink>(
@@ -60,7 +61,8 @@ pub fn kanren_alone<S: Source, K: Sink>(
     kanren_over::<SolvedStore<TreeBindings>, S, K>(alloc, words, source, sink)
 }
 
-/// What `kanren_alone` does, over stores of any kind. All give the same bytes; they differ in time and
+/// What `kanren_alone` does, over stores of any kind. All give the same bytes; they differ in time
+/// and
 /// memory.
 pub fn kanren_over<St: Store, S: Source, K: Sink>(
     alloc: Global,

@@ -11,7 +11,8 @@ ghost use Rattle.kan_grammar.specs.Texts.Reply.{is_spent};
 ghost use Rattle.kanren_run.specs.Answers.{spends};
 ghost use Rattle.kanren_run.specs.Settings.{InRange};
 ghost use Rattle.kanren_run.specs.Tags.{HasNames, Each};
-ghost use Rattle.kanren_run.specs.Writing.{CanRun, Puts, WritesNext, answer_lines, end_text, rest_text, memory_wanted, sink_failed};
+ghost use Rattle.kanren_run.specs.Writing.{CanRun, Puts, WritesNext, answer_lines, end_text};
+ghost use Rattle.kanren_run.specs.Writing.{rest_text, memory_wanted, sink_failed};
 
 use crate::answer::{print_answer, print_summary};
 use crate::settings::Settings;
@@ -20,6 +21,7 @@ use kan_model::{Program, Query, Store};
 use kan_search::{Batch, Ended, Search};
 use kan_terms::{Memory, Names};
 use std::alloc::Global;
+use stream_core::{Nodes, PlainNodes};
 
 /// Why a run wasn't written whole.
 #[derive(Clone, Copy, Debug, PartialEq, Eq)]
@@ -54,7 +56,8 @@ fn print_answers<St: Store>(
     lines: &mut Vec<u8>,
 ) -> Result<(), Memory>
     requires { Each (HasNames names.now) (map St.meaning answers.now) }
-    ensures { OnOk result (lines.new.items ≡ lines.old.items ++ answer_lines names.now (map St.meaning answers.now)) }
+    ensures { OnOk result (lines.new.items ≡ lines.old.items
+        ++ answer_lines names.now (map St.meaning answers.now)) }
 {
     for store in answers {
         print_answer(alloc, store, names, lines)?;
@@ -62,7 +65,8 @@ fn print_answers<St: Store>(
     Ok(())
 }
 
-// The lines of a batch: those of its answers and, where the run has ended with it, the run's summary line.
+// The lines of a batch: those of its answers and, where the run has ended with it, the run's
+// summary line.
 fn batch_lines<St: Store>(
     alloc: Global,
     batch: &Batch<St>,
@@ -71,7 +75,9 @@ fn batch_lines<St: Store>(
     names: &Names,
 ) -> Result<Vec<u8>, Memory>
     requires { Each (HasNames names.now) (map St.meaning batch.now.answers) }
-    ensures { IfOk result (λ lines. lines.items ≡ answer_lines names.now (map St.meaning batch.now.answers) ++ end_text answers pulls batch.now.ended) }
+    ensures { IfOk result
+        (λ lines. lines.items ≡ answer_lines names.now (map St.meaning batch.now.answers)
+        ++ end_text answers pulls batch.now.ended) }
 {
     let mut lines = Vec::new(alloc);
     print_answers(alloc, batch.answers.items(), names, &mut lines)?;
@@ -91,7 +97,8 @@ fn write_batch<K: Sink, St: Store>(
     sink: &mut K,
 ) -> Result<(), Stop>
     requires { Each (HasNames names.now) (map St.meaning batch.now.answers) }
-    ensures { Puts (answer_lines names.now (map St.meaning batch.now.answers) ++ end_text answers pulls batch.now.ended) (K.view sink.old) (K.view sink.new) result }
+    ensures { Puts (answer_lines names.now (map St.meaning batch.now.answers)
+        ++ end_text answers pulls batch.now.ended) (K.view sink.old) (K.view sink.new) result }
 {
     let lines = batch_lines(alloc, batch, answers, pulls, names)?;
     put_all(sink, &lines)?;
@@ -108,17 +115,20 @@ fn sum(count: u64, more: usize) -> Result<u64, Memory>
     }
 }
 
-// Writes the next lines of a run, which has given so many answers so far; says how it ended where these are its last ones.
-fn write_next<K: Sink, St: Store>(
+// Writes the next lines of a run, which has given so many answers so far; says how it ended where
+// these are its last ones.
+fn write_next<K: Sink, St: Store, N: Nodes<St> + Drop>(
     alloc: Global,
-    search: &mut Search<'_, St>,
+    search: &mut Search<'_, St, N>,
     answers: &mut u64,
     names: &Names,
     sink: &mut K,
 ) -> Result<Option<Ended>, Stop>
     requires round { 1 ≤ round_of search.old }
-    requires named { Each (HasNames names.now) (left St.meaning search.old).stores }
-    ensures next { WritesNext names.now (left St.meaning search.old) answers.old (pulls_made search.old) (left St.meaning search.new) answers.new (pulls_made search.new) (K.view sink.old) (K.view sink.new) result }
+    requires named { Each (HasNames names.now) (left search.old).stores }
+    ensures next { WritesNext names.now (left search.old) answers.old
+        (pulls_made search.old) (left search.new) answers.new (pulls_made search.new)
+        (K.view sink.old) (K.view sink.new) result }
     ensures round { round_of search.new ≡ round_of search.old }
 {
     let batch = search.advance_alone(alloc)?;
@@ -130,16 +140,17 @@ fn write_next<K: Sink, St: Store>(
 }
 
 // Writes the lines of a run, from its first answer on, and says how it ended.
-fn write_search<K: Sink, St: Store>(
+fn write_search<K: Sink, St: Store, N: Nodes<St> + Drop>(
     alloc: Global,
-    search: &mut Search<'_, St>,
+    search: &mut Search<'_, St, N>,
     names: &Names,
     sink: &mut K,
 ) -> Result<Ended, Stop>
     requires round { 1 ≤ round_of search.old }
-    requires named { Each (HasNames names.now) (left St.meaning search.old).stores }
-    ensures puts { Puts (rest_text names.now 0 (pulls_made search.old) (left St.meaning search.old)) (K.view sink.old) (K.view sink.new) result }
-    ensures ended { IfOk result (λ ended. ending_of ended ≡ (left St.meaning search.old).ending) }
+    requires named { Each (HasNames names.now) (left search.old).stores }
+    ensures puts { Puts (rest_text names.now 0 (pulls_made search.old) (left search.old))
+        (K.view sink.old) (K.view sink.new) result }
+    ensures ended { IfOk result (λ ended. ending_of ended ≡ (left search.old).ending) }
 {
     let mut answers = 0;
     loop {
@@ -160,10 +171,14 @@ fn write_query<K: Sink, St: Store>(
 ) -> Result<Ended, Stop>
     requires can_run { CanRun names.now program.now (query.now ∷ []) }
     requires range { InRange settings }
-    ensures puts { Puts (taken_text names.now (take_query (programs.meaning program.now) settings.fuel (query_of program.now query.now))) (K.view sink.old) (K.view sink.new) result }
-    ensures ended { IfOk result (λ ended. ending_of ended ≡ (take_query (programs.meaning program.now) settings.fuel (query_of program.now query.now)).ending) }
+    ensures puts { Puts (taken_text names.now
+        (take_query (programs.meaning program.now) settings.fuel (query_of program.now query.now)))
+        (K.view sink.old) (K.view sink.new) result }
+    ensures ended { IfOk result (λ ended. ending_of ended
+        ≡ (take_query (programs.meaning program.now) settings.fuel
+        (query_of program.now query.now)).ending) }
 {
-    let mut search: Search<St> = Search::open(
+    let mut search: Search<'_, St, PlainNodes<'_, St>> = Search::open_alone(
         alloc,
         program,
         query,
@@ -192,8 +207,12 @@ pub(crate) fn write_runs<K: Sink, St: Store>(
 ) -> Result<bool, Stop>
     requires can_run { CanRun names.now program.now queries.now }
     requires range { InRange settings }
-    ensures puts { Puts (runs_output names.now (programs.meaning program.now) settings.fuel (map (query_of program.now) queries.now)) (K.view sink.old) (K.view sink.new) result }
-    ensures spent { IfOk result (λ spent. spent ≡ spends (programs.meaning program.now) settings.fuel (map (query_of program.now) queries.now)) }
+    ensures puts { Puts (runs_output names.now (programs.meaning program.now) settings.fuel
+        (map (query_of program.now) queries.now)) (K.view sink.old) (K.view sink.new) result }
+    ensures spent { IfOk result
+        (λ spent. spent
+        ≡ spends (programs.meaning program.now) settings.fuel
+        (map (query_of program.now) queries.now)) }
 {
     let mut spent = false;
     for query in queries {

@@ -16,13 +16,16 @@ use kan_terms::{Memory, Names};
 use std::alloc::Global;
 use std::process::Abort;
 use std::test::Fail;
+use stream_core::PlainNodes;
 
 // How many answers a run has in its first batch, and how many pulls it makes for them.
 fn searched(alloc: Global, program: &Program, query: &Query) -> Result<(usize, u64), Memory>
     requires closed { are_closed (programs.tables program.now) (query.now.goal ∷ []) ≡ true }
     requires small { is_small (programs.meaning program.now) ≡ true }
 {
-    let mut search: Search<PlainStore> = Search::open(alloc, program, query, 1000, 100)?;
+    let mut search: Search<'_, PlainStore, PlainNodes<'_, PlainStore>> = Search::open_alone(
+        alloc, program, query, 1000, 100,
+    )?;
     let batch = search.advance_alone(alloc)?;
     Ok((batch.answers.len(), search.pulls()))
 }

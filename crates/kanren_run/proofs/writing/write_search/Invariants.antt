@@ -7,13 +7,13 @@ use Rattle.kanren_run.proofs.writing.write_search.Given as goal
 -- the lines so far are put, and what is left of the run ends as the whole
 abbrev pub invariant-loop-ended : goal.invariant-loop-ended
 invariant-loop-ended g l = record {
-  written : Written (rest_text l.names 0 l.fn.search.pulls (left g.St.Store.meaning l.fn.search)) (g.K.Sink.view l.fn.sink) (g.K.Sink.view l.sink)
-      (rest_text l.names l.answers l.search.pulls (left g.St.Store.meaning l.search));
+  written : Written (rest_text l.names 0 l.fn.search.pulls (left l.fn.search)) (g.K.Sink.view l.fn.sink) (g.K.Sink.view l.sink)
+      (rest_text l.names l.answers l.search.pulls (left l.search));
   round : 1 ≤ l.search.round;
-  named : Each (HasNames l.names) (left g.St.Store.meaning l.search).stores;
-  ending : (left g.St.Store.meaning l.search).ending ≡ (left g.St.Store.meaning l.fn.search).ending;
+  named : Each (HasNames l.names) (left l.search).stores;
+  ending : (left l.search).ending ≡ (left l.fn.search).ending;
 }
 
 -- what is left to be take_query
 abbrev pub decreases-loop-ended : goal.decreases-loop-ended
-decreases-loop-ended g l = length (left g.St.Store.meaning l.search).stores + (left g.St.Store.meaning l.search).pulls
+decreases-loop-ended g l = length (left l.search).stores + (left l.search).pulls

@@ -12,7 +12,7 @@ loop-self-preserved g c =
     let kept = c.next_head.ensures in
     let inv = c.loop-self.invariant in
     record {
-      joined = λ pulls. inv.joined pulls ∙ joined-answer g.St.Store.meaning c.loop-self.answers c.put_last.new.stores c.in-Some.store (left g.St.Store.meaning c.loop-self.self) (left g.St.Store.meaning c.next_head.new.self) pulls c.in_ok-put_last-in-Some.ensures c.in-Some.ensures.some;
+      joined = λ pulls. inv.joined pulls ∙ joined-answer g.St.Store.meaning c.loop-self.answers c.put_last.new.stores c.in-Some.store (left c.loop-self.self) (left c.next_head.new.self) pulls c.in_ok-put_last-in-Some.ensures c.in-Some.ensures.some;
       few = longer-few c.loop-self.answers c.put_last.new.stores c.in-Some.store greatest_batch c.in_ok-put_last-in-Some.ensures (omega arith);
       pulls = kept.pulls ∙ inv.pulls;
       round = kept.round ∙ inv.round;

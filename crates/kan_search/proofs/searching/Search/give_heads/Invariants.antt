@@ -6,7 +6,7 @@ use Rattle.kan_search.proofs.searching.Search.give_heads.Given as goal
 -- what is left, behind the answers that are there
 abbrev pub invariant-loop-self : goal.invariant-loop-self
 invariant-loop-self g l = record {
-  joined : (pulls : ℕ) → joined (map g.St.Store.meaning l.fn.answers) pulls (left g.St.Store.meaning l.fn.self) ≡ joined (map g.St.Store.meaning l.answers) pulls (left g.St.Store.meaning l.self);
+  joined : (pulls : ℕ) → joined (map g.St.Store.meaning l.fn.answers) pulls (left l.fn.self) ≡ joined (map g.St.Store.meaning l.answers) pulls (left l.self);
   few : length l.answers ≤ greatest_batch;
   pulls : l.self.pulls ≡ l.fn.self.pulls;
   round : l.self.round ≡ l.fn.self.round;
@@ -14,4 +14,4 @@ invariant-loop-self g l = record {
 }
 
 abbrev pub decreases-loop-self : goal.decreases-loop-self
-decreases-loop-self g l = length l.self.heads.items
+decreases-loop-self g l = length l.self.heads

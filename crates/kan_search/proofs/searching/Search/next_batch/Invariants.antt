@@ -6,7 +6,7 @@ use Rattle.kan_search.proofs.searching.Search.next_batch.Given as goal
 -- what is left, behind the answers that are there and the pulls that were made
 abbrev pub invariant-loop-answers : goal.invariant-loop-answers
 invariant-loop-answers g l = record {
-  joins : left g.St.Store.meaning l.fn.self ≡ joined (map g.St.Store.meaning l.answers) l.made (left g.St.Store.meaning l.self);
+  joins : left l.fn.self ≡ joined (map g.St.Store.meaning l.answers) l.made (left l.self);
   counted : l.self.pulls ≡ l.fn.self.pulls + l.made;
   few : length l.answers ≤ greatest_batch;
   within : l.made ≤ l.fn.self.round;

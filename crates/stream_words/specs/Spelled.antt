@@ -1,22 +1,12 @@
--- Equality of goals and of streams is decided, since one kind of trees spells them all.
-use Rattle.std.proofs.Common.{◌≡◌, ℕ, true, false, List, [], ◌∷◌, refl, sym, ◌∙◌, ap, ap₂}
-use Rattle.std.specs.Prelude.{pos, negsuc}
-use Rattle.std.proofs.Math.Decide.{ℕ_discrete}
+-- Terms, goals, programs, stores and suspensions as words, and how they are read back.
+use Rattle.std.specs.Prelude.{◌≡◌, true, false, pos, negsuc, List, [], ◌∷◌, refl}
+use Rattle.std.proofs.Common.{ap, ap₂, ◌∙◌}
 use Rattle.kan_terms.specs.Tree.{Tree, Tm}
-use Rattle.kan_model.specs.Programs.Goals.{Primitive, Goal}
+use Rattle.kan_model.specs.Programs.Goals.{Primitive, Goal, Relation, Program}
 use Rattle.kan_model.specs.Stores.Store.{Store}
 use Rattle.kan_model.specs.Streams.Stream.{Stream, Thunk}
-
--- which constructor is spelled
-data Tag : Type 0 where
-  first second third fourth fifth sixth seventh eighth : Tag
-  deriving Discrete as Tag-discrete
-
-data Word : Type 0 where
-  nothing : Word
-  number : ℕ → Word
-  node : Tag → Word → Word → Word
-  deriving Discrete as Word-discrete
+use Rattle.stream_words.specs.Words.{Word, nothing, number, node}
+use Rattle.stream_words.specs.Words.{first, second, third, fourth, fifth, sixth, seventh, eighth}
 
 abbrev of_term : Tm → Word
 of_term (Tree.leaf v) = node first (number v) nothing
@@ -130,14 +120,59 @@ goal-back (Goal.fresh k g) = ap (Goal.fresh k) (goal-back g)
 goal-back (Goal.later g) = ap Goal.later (goal-back g)
 goal-back (Goal.call r args) = ap (Goal.call r) (terms-back args)
 
-abbrev of_store : Store → Word
+abbrev of_goals : List Goal → Word
+of_goals [] = nothing
+of_goals (g ∷ gs) = node first (of_goal g) (of_goals gs)
+
+abbrev to_goals : Word → List Goal
+to_goals (node first v w) = to_goal v ∷ to_goals w
+to_goals _ = []
+
+goals-back : (gs : List Goal) → to_goals (of_goals gs) ≡ gs
+goals-back [] = refl
+goals-back (g ∷ gs) = ap₂ (λ x xs. x ∷ xs) (goal-back g) (goals-back gs)
+
+abbrev of_relation : Relation → Word
+of_relation r = node first (number r.params) (of_goal r.body)
+
+abbrev to_relation : Word → Relation
+to_relation (node first (number n) w) = record { params = n; body = to_goal w }
+to_relation _ = record { params = 0; body = Goal.fail }
+
+relation-back : (r : Relation) → to_relation (of_relation r) ≡ r
+relation-back r = ap (λ g. record { params = r.params; body = g }) (goal-back r.body)
+
+abbrev of_relations : List Relation → Word
+of_relations [] = nothing
+of_relations (r ∷ rs) = node first (of_relation r) (of_relations rs)
+
+abbrev to_relations : Word → List Relation
+to_relations (node first v w) = to_relation v ∷ to_relations w
+to_relations _ = []
+
+relations-back : (rs : List Relation) → to_relations (of_relations rs) ≡ rs
+relations-back [] = refl
+relations-back (r ∷ rs) = ap₂ (λ x xs. x ∷ xs) (relation-back r) (relations-back rs)
+
+abbrev pub of_program : Program → Word
+of_program p = node first (of_relations p.relations) (of_goals p.goals)
+
+abbrev pub to_program : Word → Program
+to_program (node first v w) = record { relations = to_relations v; goals = to_goals w }
+to_program _ = record { relations = []; goals = [] }
+
+pub program-back : (p : Program) → to_program (of_program p) ≡ p
+program-back p =
+    ap₂ (λ rs gs. record { relations = rs; goals = gs }) (relations-back p.relations) (goals-back p.goals)
+
+abbrev pub of_store : Store → Word
 of_store st = node first (of_primitives st.prims) (number st.counter)
 
-abbrev to_store : Word → Store
+abbrev pub to_store : Word → Store
 to_store (node first v (number n)) = record { prims = to_primitives v; counter = n }
 to_store _ = record { prims = []; counter = 0 }
 
-store-back : (st : Store) → to_store (of_store st) ≡ st
+pub store-back : (st : Store) → to_store (of_store st) ≡ st
 store-back st = ap (λ ps. record { prims = ps; counter = st.counter }) (primitives-back st.prims)
 
 abbrev of_stores : List Store → Word
@@ -153,23 +188,23 @@ stores-back [] = refl
 stores-back (st ∷ sts) = ap₂ (λ x xs. x ∷ xs) (store-back st) (stores-back sts)
 
 abbrev mutual
-  of_stream : Stream → Word
+  pub of_stream : Stream → Word
   of_stream (Stream.ends hs) = node first (of_stores hs) nothing
   of_stream (Stream.goes_on hs i) = node second (of_stores hs) (of_thunk i)
 
-  of_thunk : Thunk → Word
+  pub of_thunk : Thunk → Word
   of_thunk (Thunk.call r args st) = node first (number r) (node first (of_terms args) (of_store st))
   of_thunk (Thunk.pause g env st) = node fourth (of_goal g) (node first (of_terms env) (of_store st))
   of_thunk (Thunk.swap t i) = node second (of_stream t) (of_thunk i)
   of_thunk (Thunk.bind g env i) = node third (node first (of_goal g) (of_terms env)) (of_thunk i)
 
 abbrev mutual
-  to_stream : Word → Stream
+  pub to_stream : Word → Stream
   to_stream (node second v w) = Stream.goes_on (to_stores v) (to_thunk w)
   to_stream (node first v w) = Stream.ends (to_stores v)
   to_stream _ = Stream.ends []
 
-  to_thunk : Word → Thunk
+  pub to_thunk : Word → Thunk
   to_thunk (node first (number r) (node first v w)) = Thunk.call r (to_terms v) (to_store w)
   to_thunk (node fourth u (node first v w)) = Thunk.pause (to_goal u) (to_terms v) (to_store w)
   to_thunk (node second v w) = Thunk.swap (to_stream v) (to_thunk w)
@@ -177,25 +212,18 @@ abbrev mutual
   to_thunk _ = Thunk.call 0 [] (record { prims = []; counter = 0 })
 
 mutual
-  stream-back : (s : Stream) → to_stream (of_stream s) ≡ s
+  pub stream-back : (s : Stream) → to_stream (of_stream s) ≡ s
   stream-back (Stream.ends hs) = ap Stream.ends (stores-back hs)
   stream-back (Stream.goes_on hs i) = ap₂ Stream.goes_on (stores-back hs) (thunk-back i)
 
-  thunk-back : (t : Thunk) → to_thunk (of_thunk t) ≡ t
+  pub thunk-back : (t : Thunk) → to_thunk (of_thunk t) ≡ t
   thunk-back (Thunk.call r args st) = ap₂ (Thunk.call r) (terms-back args) (store-back st)
   thunk-back (Thunk.pause g env st) =
-      ap₂ (λ (h : Goal) (e : List Tm). Thunk.pause h e (to_store (of_store st))) (goal-back g) (terms-back env) ∙ ap (Thunk.pause g env) (store-back st)
+      ap₂ (λ (h : Goal) (e : List Tm). Thunk.pause h e (to_store (of_store st))) (goal-back g)
+      (terms-back env)
+      ∙ ap (Thunk.pause g env) (store-back st)
   thunk-back (Thunk.swap t i) = ap₂ Thunk.swap (stream-back t) (thunk-back i)
   thunk-back (Thunk.bind g env i) =
-      ap₂ (λ (h : Goal) (e : List Tm). Thunk.bind h e (to_thunk (of_thunk i))) (goal-back g) (terms-back env) ∙ ap (Thunk.bind g env) (thunk-back i)
-
-words-decided : (v w : Word) → Dec (v ≡ w)
-words-decided = Word-discrete ℕ_discrete Tag-discrete
-
-pub goals-decided : (g h : Goal) → Dec (g ≡ h)
-goals-decided g h =
-    elim (words-decided (of_goal g) (of_goal h)) [ yes e ↦ yes (sym (goal-back g) ∙ ap to_goal e ∙ goal-back h) | no differs ↦ no (λ e. differs (ap of_goal e)) ]
-
-pub streams-decided : (s t : Stream) → Dec (s ≡ t)
-streams-decided s t =
-    elim (words-decided (of_stream s) (of_stream t)) [ yes e ↦ yes (sym (stream-back s) ∙ ap to_stream e ∙ stream-back t) | no differs ↦ no (λ e. differs (ap of_stream e)) ]
+      ap₂ (λ (h : Goal) (e : List Tm). Thunk.bind h e (to_thunk (of_thunk i))) (goal-back g)
+      (terms-back env)
+      ∙ ap (Thunk.bind g env) (thunk-back i)

@@ -1,0 +1,24 @@
+//! Binding variables one after the other.
+
+use kan_terms::{Bindings, Memory, Term};
+use std::alloc::Global;
+
+// A variable bound to its number in a copy of bindings, unless it is bound.
+fn bind_number<B: Bindings>(bindings: &B, var: u64) -> Result<B, Memory> {
+    if bindings.get(var).is_some() {
+        return bindings.again();
+    }
+    bindings.bind(var, &Term::Num(i128::from(var)))
+}
+
+/// Binds so many variables, keeps all versions, and says how many there are.
+pub(crate) fn keep_versions<B: Bindings>(alloc: Global, count: u64) -> Result<u64, Memory> {
+    let mut versions = Vec::new(alloc);
+    let mut last = B::empty(alloc)?;
+    for var in 0..count {
+        let next = bind_number(&last, var)?;
+        versions.push(last)?;
+        last = next;
+    }
+    Ok(versions.len() as u64)
+}
