@@ -1,5 +1,6 @@
 -- What the equations and replacements of the plain solver stand for.
-use Rattle.std.specs.Prelude.{◌≡◌, ℕ, Bool, true, false, List, [], ◌∷◌, ◌++◌, Option, Some, None, map, reverse, option_map}
+use Rattle.std.specs.Prelude.{◌≡◌, ℕ, Bool, true, false, List, [], ◌∷◌, ◌++◌, Option, Some, None}
+use Rattle.std.specs.Prelude.{map, reverse, option_map}
 use Rattle.std.specs.Borrow.{Bor}
 use Rattle.kan_terms.specs.Tree.{Tree}
 use Rattle.kan_terms.specs.Terms.{tree}
@@ -36,10 +37,14 @@ abbrev pub put_all_first : spec.Replacement → Option spec.Replacement → Opti
 put_all_first [] r = r
 put_all_first (m ∷ ms) r = option_map (spec.put_first m.var m.by) (put_all_first ms r)
 
--- What one step leaves of equations and of the replacements made so far, by the work on the first equation.
-abbrev pub StepTo : List Equation → spec.Replacement → Bool → List Equation → spec.Replacement → spec.Work → Type 0
+-- What one step leaves of equations and of the replacements made so far, by the work on the first
+-- equation.
+abbrev pub StepTo : List Equation → spec.Replacement → Bool → List Equation → spec.Replacement →
+    spec.Work → Type 0
 StepTo es ms goes_on es' ms' spec.Work.identical = (goes_on ≡ true) × (es' ≡ es) × (ms' ≡ ms)
-StepTo es ms goes_on es' ms' (spec.Work.parts first rest) = (goes_on ≡ true) × (es' ≡ first ∷ rest ∷ es) × (ms' ≡ ms)
+StepTo es ms goes_on es' ms' (spec.Work.parts first rest) =
+    (goes_on ≡ true) × (es' ≡ first ∷ rest ∷ es) × (ms' ≡ ms)
 StepTo es ms goes_on es' ms' (spec.Work.substitute x t) =
-    (goes_on ≡ true) × (es' ≡ map (spec.replace_sides x t) es) × (ms' ≡ ms ++ record { var = x; by = t } ∷ [])
+    (goes_on ≡ true) × (es' ≡ map (spec.replace_sides x t) es)
+    × (ms' ≡ ms ++ record { var = x; by = t } ∷ [])
 StepTo es ms goes_on es' ms' spec.Work.clash = goes_on ≡ false

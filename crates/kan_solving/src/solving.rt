@@ -7,7 +7,8 @@ ghost use Rattle.kan_terms.specs.Terms.{tree};
 ghost use Rattle.kan_terms.specs.Tree.{Tree};
 ghost use Rattle.kan_model.specs.Terms.Letters.{spelling, splice};
 ghost use Rattle.kan_model.specs.Stores.Solve as spec;
-ghost use Rattle.kan_solving.specs.Solving.{replaced_by, IsImage, work_of, put_all_first, on_stack, StepTo};
+ghost use Rattle.kan_solving.specs.Solving.{replaced_by, IsImage, work_of, put_all_first, on_stack};
+ghost use Rattle.kan_solving.specs.Solving.{StepTo};
 ghost use Rattle.kan_model.specs.Stores.Composition.{apply_sides};
 ghost use Rattle.kan_model.specs.Stores.Prims.{equation};
 
@@ -59,7 +60,8 @@ fn splice(
     letter: Letter,
     made: &mut Vec<Letter>,
 ) -> Result<(), Memory>
-    ensures { OnOk result (made.new.items ≡ made.old.items ++ splice (map replaced_by replacement.now) letter) }
+    ensures { OnOk result (made.new.items ≡ made.old.items
+        ++ splice (map replaced_by replacement.now) letter) }
 {
     if let Letter::Var(var) = letter {
         if let Some(by) = found(replacement, var) {
@@ -78,7 +80,8 @@ fn splice_all(
     replacement: &[Replaced],
     letters: &[Letter],
 ) -> Result<Vec<Letter>, Memory>
-    ensures { IfOk result (λ made. made.items ≡ flat_map (splice (map replaced_by replacement.now)) letters.now) }
+    ensures { IfOk result
+        (λ made. made.items ≡ flat_map (splice (map replaced_by replacement.now)) letters.now) }
 {
     let mut made = Vec::new(alloc);
     for letter in letters {
@@ -87,13 +90,37 @@ fn splice_all(
     Ok(made)
 }
 
-/// A term under a replacement.
-pub fn apply(alloc: Global, replacement: &[Replaced], term: &Term) -> Result<Term, Memory>
-    ensures { IfOk result (λ made. tree made ≡ spec.apply (map replaced_by replacement.now) (tree term.now)) }
+// A term under a replacement, by its letters.
+fn apply_spelled(alloc: Global, replacement: &[Replaced], term: &Term) -> Result<Term, Memory>
+    ensures { IfOk result (λ made. tree made
+        ≡ spec.apply (map replaced_by replacement.now) (tree term.now)) }
 {
     let letters = spell(alloc, term)?;
     let made = splice_all(alloc, replacement, &letters)?;
     build(alloc, made)
+}
+
+// A variable under a replacement.
+fn apply_to(replacement: &[Replaced], var: u64) -> Result<Term, Memory>
+    ensures { IfOk result (λ made. tree made
+        ≡ spec.apply (map replaced_by replacement.now) (Tree.leaf var)) }
+{
+    match found(replacement, var) {
+        Some(by) => by.again(),
+        None => Ok(Term::Var(var)),
+    }
+}
+
+/// A term under a replacement. Only a pair takes memory for its letters.
+pub fn apply(alloc: Global, replacement: &[Replaced], term: &Term) -> Result<Term, Memory>
+    ensures { IfOk result (λ made. tree made
+        ≡ spec.apply (map replaced_by replacement.now) (tree term.now)) }
+{
+    match term {
+        Term::Pair(_) => apply_spelled(alloc, replacement, term),
+        Term::Var(var) => apply_to(replacement, *var),
+        _ => term.again(),
+    }
 }
 
 // What is to be done with an equation.
@@ -113,15 +140,21 @@ enum Work {
 fn unless_inside(alloc: Global, var: u64, term: &Term) -> Result<Work, Memory>
     ensures { IfOk result (λ made. work_of made ≡ spec.unless_inside var (tree term.now)) }
 {
-    if occurs_in(alloc, var, term)? {
-        return Ok(Work::Clash);
+    match term {
+        Term::Pair(_) | Term::Var(_) => {
+            if occurs_in(alloc, var, term)? {
+                return Ok(Work::Clash);
+            }
+        }
+        _ => {}
     }
     Ok(Work::Substitute(var, term.again()?))
 }
 
 // Replaces one of two different variables by the other.
 fn one_of_two<O: Order>(left: u64, right: u64, order: &O) -> Work
-    ensures { work_of result ≡ spec.work_apart (O.left order.now) (Tree.leaf left) (Tree.leaf right) }
+    ensures { work_of result
+        ≡ spec.work_apart (O.left order.now) (Tree.leaf left) (Tree.leaf right) }
 {
     if order.is_left(left, right) {
         Work::Substitute(left, Term::Var(right))
@@ -132,7 +165,9 @@ fn one_of_two<O: Order>(left: u64, right: u64, order: &O) -> Work
 
 // The equations of the parts of two pairs.
 fn parts(left: &PairParts, right: &PairParts) -> Result<Work, Memory>
-    ensures { IfOk result (λ made. work_of made ≡ spec.work_apart spec.left_first (Tree.pair left.now.0 left.now.1) (Tree.pair right.now.0 right.now.1)) }
+    ensures { IfOk result
+        (λ made. work_of made ≡ spec.work_apart spec.left_first (Tree.pair left.now.0 left.now.1)
+        (Tree.pair right.now.0 right.now.1)) }
 {
     let first = TermPair {
         first: left.first.again()?,
@@ -147,7 +182,8 @@ fn parts(left: &PairParts, right: &PairParts) -> Result<Work, Memory>
 
 // What is to be done with two different sides.
 fn work_apart<O: Order>(alloc: Global, left: &Term, right: &Term, order: &O) -> Result<Work, Memory>
-    ensures { IfOk result (λ made. work_of made ≡ spec.work_apart (O.left order.now) (tree left.now) (tree right.now)) }
+    ensures { IfOk result
+        (λ made. work_of made ≡ spec.work_apart (O.left order.now) (tree left.now) (tree right.now)) }
 {
     match left {
         Term::Var(var) => match right {
@@ -182,7 +218,8 @@ fn replace_in_all(
     replacement: &[Replaced],
     pending: &[TermPair],
 ) -> Result<Vec<TermPair>, Memory>
-    ensures { IfOk result (λ made. map equation made.items ≡ map (apply_sides (map replaced_by replacement.now)) (map equation pending.now)) }
+    ensures { IfOk result (λ made. map equation made.items
+        ≡ map (apply_sides (map replaced_by replacement.now)) (map equation pending.now)) }
 {
     let mut made = Vec::new(alloc);
     for given in pending {
@@ -199,7 +236,8 @@ fn put_first(
     last: Replaced,
     mut answer: Vec<Replaced>,
 ) -> Result<Vec<Replaced>, Memory>
-    ensures { IfOk result (λ made. map replaced_by made.items ≡ spec.put_first last.var (tree last.by) (map replaced_by answer.items)) }
+    ensures { IfOk result (λ made. map replaced_by made.items
+        ≡ spec.put_first last.var (tree last.by) (map replaced_by answer.items)) }
 {
     let by = apply(alloc, &answer, &last.by)?;
     answer.insert(0, Replaced { var: last.var, by })?;
@@ -208,7 +246,8 @@ fn put_first(
 
 // The whole answer, from the replacements in the order in which they were made.
 fn finish(alloc: Global, mut made: Vec<Replaced>) -> Result<Vec<Replaced>, Memory>
-    ensures { IfOk result (λ answer. Some (map replaced_by answer.items) ≡ put_all_first (map replaced_by made.items) (Some [])) }
+    ensures { IfOk result (λ answer. Some (map replaced_by answer.items)
+        ≡ put_all_first (map replaced_by made.items) (Some [])) }
 {
     let mut answer = Vec::new(alloc);
     while let Some(last) = made.pop() {
@@ -224,8 +263,10 @@ fn substitute(
     pending: &[TermPair],
     made: &mut Vec<Replaced>,
 ) -> Result<Vec<TermPair>, Memory>
-    ensures left { IfOk result (λ after. on_stack after.items ≡ map (spec.replace_sides last.var (tree last.by)) (on_stack pending.now)) }
-    ensures noted { OnOk result (map replaced_by made.new.items ≡ map replaced_by made.old.items ++ replaced_by last ∷ []) }
+    ensures left { IfOk result (λ after. on_stack after.items
+        ≡ map (spec.replace_sides last.var (tree last.by)) (on_stack pending.now)) }
+    ensures noted { OnOk result (map replaced_by made.new.items ≡ map replaced_by made.old.items
+        ++ replaced_by last ∷ []) }
 {
     let only = [last];
     let after = replace_in_all(alloc, &only, pending)?;
@@ -242,7 +283,8 @@ fn step<O: Order>(
     pending: &mut Vec<TermPair>,
     made: &mut Vec<Replaced>,
 ) -> Result<bool, Memory>
-    ensures { IfOk result (λ goes_on. StepTo (on_stack pending.old.items) (map replaced_by made.old.items)
+    ensures { IfOk result
+        (λ goes_on. StepTo (on_stack pending.old.items) (map replaced_by made.old.items)
         goes_on (on_stack pending.new.items) (map replaced_by made.new.items) (spec.work (O.left order.now) (equation given))) }
 {
     match work_on(alloc, &given, order)? {

@@ -1,5 +1,5 @@
 -- What the letters of a walked term are, and of the terms that wait on a stack.
-use Rattle.std.proofs.Common.{◌≡◌, ◌<◌, List, [], ◌∷◌, ◌++◌, length, sym, ◌∙◌, ap, append_assoc, append-nil, arith}
+use Rattle.std.proofs.Common.{◌≡◌, ◌<◌, true, false, List, [], ◌∷◌, ◌++◌, length, sym, ◌∙◌, ap, append_assoc, append-nil, arith}
 use Rattle.std.specs.Borrow.{Bor}
 use Rattle.kan_terms.specs.Tree.{Tree, Tm}
 use Rattle.kan_terms.specs.Terms.{tree}
@@ -8,7 +8,7 @@ use Rattle.kan_model.specs.Stores.Solve.{Replacement, apply, image}
 use Rattle.kan_model.specs.Stores.Calls.{WalksTo, IsFoundFor}
 use Rattle.kan_model.specs.Terms.Letters.{spelling, letter_of}
 use Rattle.kan_model.specs.declared.letters.Letter.{Letter}
-use Rattle.reify.specs.Walking.{waiting_under, spelled_under}
+use Rattle.reify.specs.Walking.{waiting_under, spelled_under, is_pair}
 
 -- a term put on top is spelled first
 waiting_under-push : (s : Replacement) (ts : List (Bor Term)) (t : Bor Term) → waiting_under s (ts ++ t ∷ []) ≡ spelling (apply s (tree t.now)) ++ waiting_under s ts
@@ -66,3 +66,33 @@ walked_fewer s old rest new t w split walks parts =
     let same : length (letter_of w ∷ waiting_under s new) ≡ length (waiting_under s old) =
     ap length (parts ∙ ap (λ l. l ++ waiting_under s rest) (walked_spells s (tree t.now) w walks) ∙ sym (waiting_under-push s rest t) ∙ ap (waiting_under s) (sym split)) in
     omega (arith, same)
+
+-- what was found for an image is the image, where it is no pair
+found_alone : (s : Replacement) (u w : Tm) → is_pair w ≡ false → IsFoundFor s u w → w ≡ u
+found_alone s (Tree.leaf x) w single found = found
+found_alone s (Tree.sym x) w single found = found
+found_alone s (Tree.str x) w single found = found
+found_alone s (Tree.num n) w single found = found
+found_alone s (Tree.truth b) w single found = found
+found_alone s Tree.nil w single found = found
+found_alone s (Tree.pair a b) (Tree.pair c d) single found = let none : true ≡ false = single in cc
+found_alone s (Tree.pair a b) (Tree.leaf x) single found = absurd found
+found_alone s (Tree.pair a b) (Tree.sym x) single found = absurd found
+found_alone s (Tree.pair a b) (Tree.str x) single found = absurd found
+found_alone s (Tree.pair a b) (Tree.num x) single found = absurd found
+found_alone s (Tree.pair a b) (Tree.truth x) single found = absurd found
+found_alone s (Tree.pair a b) Tree.nil single found = absurd found
+
+-- no pair is found equal to a term of parts
+no_pair : (a b w : Tm) → is_pair w ≡ false → w ≡ Tree.pair a b → ⊥
+no_pair a b w single same = let none : true ≡ false = sym (ap is_pair same) ∙ single in cc
+
+-- what a term is walked to, where it is no pair, is the term under the answer
+pub walked_alone : (s : Replacement) (t w : Tm) → is_pair w ≡ false → WalksTo s t w → w ≡ apply s t
+walked_alone s (Tree.leaf v) w single found = found_alone s (image s v) w single found
+walked_alone s (Tree.sym x) w single found = found
+walked_alone s (Tree.str x) w single found = found
+walked_alone s (Tree.num n) w single found = found
+walked_alone s (Tree.truth b) w single found = found
+walked_alone s Tree.nil w single found = found
+walked_alone s (Tree.pair a b) w single found = absurd (no_pair a b w single found)

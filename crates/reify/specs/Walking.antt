@@ -1,5 +1,5 @@
 -- The letters of terms under the answer of a store.
-use Rattle.std.specs.Prelude.{List, [], ◌∷◌, ◌++◌}
+use Rattle.std.specs.Prelude.{Bool, true, false, List, [], ◌∷◌, ◌++◌}
 use Rattle.std.specs.Borrow.{Bor}
 use Rattle.kan_terms.specs.Tree.{Tree, Tm}
 use Rattle.kan_terms.specs.Terms.{tree}
@@ -18,3 +18,7 @@ waiting_under s (t ∷ ts) = waiting_under s ts ++ spelling (apply s (tree t.now
 abbrev pub spelled_under : Replacement → Tm → List Letter
 spelled_under s (Tree.pair a b) = Pair ∷ spelling (apply s a) ++ spelling (apply s b)
 spelled_under s t = spelling t
+
+abbrev pub is_pair : Tm → Bool
+is_pair (Tree.pair a b) = true
+is_pair _ = false

@@ -3,7 +3,7 @@ use Rattle.kan_terms.specs.Terms.{tree}
 use Rattle.kan_solving.specs.Solving.{replaced_by}
 use Rattle.kan_model.specs.Stores.Solve.{apply}
 use Rattle.kan_model.proofs.LettersLaws.{applied_spells, spells_one, spelled_ok}
-use Rattle.kan_solving.proofs.solving.apply.Goals as goal
+use Rattle.kan_solving.proofs.solving.apply_spelled.Goals as goal
 
 pub build-requires : goal.build-requires
 build-requires c =
