@@ -1,9 +1,18 @@
-//! The ground terms that an answer covers.
+//! Lines of answers read back, and the ground terms that an answer covers.
 #![tactic(auto)]
 
+mod constraints;
+mod forming;
 mod instances;
 mod marks;
 mod meeting;
+mod ordering;
+mod reading;
+mod shapes;
+mod strings;
+mod terms;
 mod values;
+mod words;
 
 pub use instances::is_instance;
+pub use reading::{AnswerFault, read_answer};

@@ -1,0 +1,14 @@
+-- What was read is the front of the pairs.
+use Rattle.std.proofs.Common.{◌≡◌, length, true}
+use Rattle.std.specs.List.{list_all}
+use Rattle.answer_reading.specs.Words.{Moves}
+use Rattle.answer_reading.specs.Listing.{is_pair_known}
+use Rattle.answer_reading.proofs.ListLaws.{LeftPairs}
+use Rattle.answer_reading.proofs.constraints.read_pairs.Given as goal
+
+abbrev pub invariant-loop-alloc : goal.invariant-loop-alloc
+invariant-loop-alloc l =
+    LeftPairs l.names l.bytes l.pairs l.rest × Moves l.initial.names (length l.bytes) l.names (length l.rest) × (list_all (is_pair_known l.names) l.pairs ≡ true)
+
+abbrev pub decreases-loop-alloc : goal.decreases-loop-alloc
+decreases-loop-alloc l = length l.rest

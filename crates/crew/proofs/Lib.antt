@@ -1,0 +1,5 @@
+mod TakingLaws
+mod AskingLaws
+mod OfferLaws
+mod WorkLaws
+pub mod Crossing
