@@ -18,3 +18,21 @@ small_tables = record {
   goals = GoalEntry.succeed ∷ [];
   relations = record { name = 0; params = 0; body = 0 } ∷ [];
 }
+
+-- the goal that holds, a call, and the goal of which one of both holds
+abbrev pub endless_goals : Tables
+endless_goals = record {
+  terms = [];
+  arguments = [];
+  goals = GoalEntry.succeed ∷ GoalEntry.call 0 0 0 ∷ GoalEntry.either 0 1 ∷ [];
+  relations = [];
+}
+
+-- and a goal that waits, and a relation that holds or else is called again
+abbrev pub endless_tables : Tables
+endless_tables = record {
+  terms = [];
+  arguments = [];
+  goals = GoalEntry.succeed ∷ GoalEntry.call 0 0 0 ∷ GoalEntry.either 0 1 ∷ GoalEntry.later 0 ∷ [];
+  relations = record { name = 0; params = 0; body = 2 } ∷ [];
+}

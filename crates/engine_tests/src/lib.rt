@@ -3,9 +3,15 @@
 #![tactic(auto)]
 
 #[cfg(test)]
+mod endless;
+#[cfg(test)]
 mod programs;
 #[cfg(test)]
+mod searches;
+#[cfg(test)]
 mod stores;
+#[cfg(test)]
+mod streams;
 #[cfg(test)]
 mod suspensions;
 #[cfg(test)]

@@ -5,6 +5,7 @@ ghost use Rattle.kan_model.specs.Streams.Bounds.{top};
 ghost use Rattle.kan_model.specs.Programs.Closed as programs;
 ghost use Rattle.stream_core.specs.Tables.{Grows, IsTableOf};
 ghost use Rattle.stream_core.specs.PlainTables.{plain_table};
+ghost use Rattle.susp_cells.specs.Tables.{table_of};
 ghost use Rattle.engine_tests.specs.Small.{small_tables};
 
 use crate::programs::small_program;
@@ -13,8 +14,10 @@ use kan_plain::PlainStore;
 use kan_terms::{ListOf, Memory};
 use std::alloc::Global;
 use std::process::Abort;
+use std::sync::atomic::{AtomicU64, Ordering};
 use std::test::Fail;
 use stream_core::{Nodes, PlainNodes, Stream, Thunk, force};
+use susp_cells::{Gate, OpenGate, SharedNodes, Table};
 
 // The empty table for the small program.
 fn small_table<'a, St: Store>(alloc: Global, program: &'a Program) -> PlainNodes<'a, St>
@@ -22,6 +25,26 @@ fn small_table<'a, St: Store>(alloc: Global, program: &'a Program) -> PlainNodes
     ensures { IsTableOf program.now (plain_table St.meaning result) }
 {
     PlainNodes::new(alloc, program)
+}
+
+// The empty shared table for the small program.
+fn shared_table<'a, St: Store>(alloc: Global, program: &'a Program) -> Result<Table<'a, St>, Memory>
+    requires { programs.tables program.now ≡ small_tables }
+    ensures { IfOk result (λ made. IsTableOf program.now (table_of made)) }
+{
+    Table::new(alloc, program)
+}
+
+// A gate that counts the threads that pass it.
+#[derive(Drop)]
+struct Counter {
+    passes: AtomicU64,
+}
+
+impl Gate for Counter {
+    fn pass(&self, _who: u32) {
+        self.passes.fetch_add(1, Ordering::SeqCst);
+    }
 }
 
 // The suspension of a call that holds.
@@ -81,6 +104,15 @@ fn what_was_forced_is_kept(rt: HostRuntime) -> Result<(), Fail> {
     expect_kept(&rt, &program, &id, &mut nodes)
 }
 
+#[test]
+fn what_was_forced_is_kept_in_a_shared_table(rt: HostRuntime) -> Result<(), Fail> {
+    let program = small_program(rt.alloc())?;
+    let table: Table<'_, PlainStore> = shared_table(rt.alloc(), &program)?;
+    let mut nodes = SharedNodes::new(&rt, &table, &OpenGate, 0);
+    let id = suspended_call(rt.alloc(), &program, &mut nodes)?;
+    expect_kept(&rt, &program, &id, &mut nodes)
+}
+
 // A suspension that waits for another one, with nothing behind it.
 fn around<N: Nodes<St>, St: Store>(
     alloc: Global,
@@ -129,4 +161,20 @@ fn a_deep_suspension_is_forced(rt: HostRuntime) -> Result<(), Fail> {
     let inner = suspended_call(alloc, &program, &mut nodes)?;
     let id = nested(alloc, inner, 100_000, &mut nodes)?;
     expect_kept(&rt, &program, &id, &mut nodes)
+}
+
+#[test]
+fn each_force_in_a_shared_table_passes_the_gate(rt: HostRuntime) -> Result<(), Fail> {
+    let alloc = rt.alloc();
+    let program = small_program(alloc)?;
+    let table: Table<'_, PlainStore> = shared_table(alloc, &program)?;
+    let gate = Counter {
+        passes: AtomicU64::new(0),
+    };
+    let mut nodes = SharedNodes::new(&rt, &table, &gate, 0);
+    let inner = suspended_call(alloc, &program, &mut nodes)?;
+    let id = nested(alloc, inner, 100_000, &mut nodes)?;
+    expect_kept(&rt, &program, &id, &mut nodes)?;
+    assert_eq!(rt; gate.passes.load(Ordering::SeqCst), 100_001);
+    Ok(())
 }

@@ -1,0 +1,82 @@
+//! Reads lines of answers back: each line of the files that the words name must be an answer that is
+//! printed as the same line. The number of each line that isn't is printed, and then how many passed
+//! and how many failed.
+#![tactic(auto)]
+
+mod line;
+
+use kan_base::{Place, StdSource, take_text};
+use kan_terms::{Memory, Names};
+use line::is_read;
+use std::alloc::Global;
+use std::process::ExitCode;
+use std::{env, io, str};
+
+// How many lines passed, and how many failed.
+#[derive(Clone, Copy)]
+struct Count {
+    passed: u64,
+    failed: u64,
+}
+
+impl Count {
+    // Counts one more line, and prints its number where it failed.
+    fn add(&mut self, rt: &HostRuntime, name: &str, passed: bool) -> io::Result<()> {
+        if passed {
+            self.passed = self.passed.saturating_add(1);
+        } else {
+            self.failed = self.failed.saturating_add(1);
+            let number = self.passed.saturating_add(self.failed);
+            println!(rt; "{name}: line {number} isn't read back")?;
+        }
+        Ok(())
+    }
+}
+
+// Tries one line under a table of its own.
+fn try_line(alloc: Global, line: &str) -> Result<bool, Memory> {
+    let mut names = Names::new(alloc);
+    is_read(alloc, line, &mut names)
+}
+
+// Tries the lines of a text.
+fn try_lines(rt: &HostRuntime, name: &str, text: &str, count: &mut Count) -> io::Result<()> {
+    for line in text.lines() {
+        let passed = try_line(rt.alloc(), line) == Ok(true);
+        count.add(rt, name, passed)?;
+    }
+    Ok(())
+}
+
+// Reads a file and tries its lines.
+fn try_file(rt: &HostRuntime, name: &str, count: &mut Count) -> io::Result<()> {
+    let mut folder = StdSource::new(*rt);
+    let Ok(bytes) = take_text(rt.alloc(), &mut folder, Place::File(name)) else {
+        return count.add(rt, name, false);
+    };
+    match str::from_utf8(&bytes) {
+        Ok(text) => try_lines(rt, name, text, count),
+        Err(_) => count.add(rt, name, false),
+    }
+}
+
+// Tries the files that the words name.
+fn try_files(rt: &HostRuntime) -> io::Result<Count> {
+    let mut count = Count {
+        passed: 0,
+        failed: 0,
+    };
+    for name in env::args(rt)?.skip(1) {
+        try_file(rt, &name, &mut count)?;
+    }
+    let Count { passed, failed } = count;
+    println!(rt; "{passed} passed, {failed} failed")?;
+    Ok(count)
+}
+
+fn main(rt: HostRuntime) -> ExitCode {
+    match try_files(&rt) {
+        Ok(count) if count.failed == 0 => ExitCode::SUCCESS,
+        _ => ExitCode::FAILURE,
+    }
+}
