@@ -7,6 +7,7 @@ use kan_model::Store;
 use kan_search::Search;
 use kan_terms::Memory;
 use std::alloc::Global;
+use stream_core::Nodes;
 use susp_cells::{Susp, Table};
 
 // How many stores a suspension was settled with, and its tail, where it is settled and has one.
@@ -31,11 +32,11 @@ fn next_settled<St: Store>(
 
 /// How many of a chain of tails are settled, each with as many stores as a search finds in a pull.
 /// None where one has others.
-pub(crate) fn compared<St: Store>(
+pub(crate) fn compared<St: Store, N: Nodes<St> + Drop>(
     alloc: Global,
     table: &Table<'_, St>,
     first: Susp<St>,
-    search: &mut Search<'_, St>,
+    search: &mut Search<'_, St, N>,
     most: u32,
 ) -> Result<Option<u32>, Memory>
     requires inside { IsIn table.now first }

@@ -23,6 +23,7 @@ use std::sync::Wait;
 use std::sync::atomic::AtomicU64;
 use std::test::Fail;
 use std::thread::Threads;
+use stream_core::PlainNodes;
 use susp_cells::{Susp, Table};
 use task_deques::{Holder, gather};
 
@@ -130,7 +131,9 @@ fn agreed<St: Store>(
     requires goal { query.now.goal ≡ 1 }
     requires inside { IsIn table.now susp }
 {
-    let mut search: Search<'_, St> = Search::open(alloc, program, query, 1000, 1)?;
+    let mut search: Search<'_, St, PlainNodes<'_, St>> = Search::open_alone(
+        alloc, program, query, 1000, 1,
+    )?;
     compared(alloc, table, susp, &mut search, 100)
 }
 
