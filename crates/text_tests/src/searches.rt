@@ -5,6 +5,7 @@ ghost use Rattle.kan_model.specs.Programs.Closed as programs;
 ghost use Rattle.kan_model.specs.Programs.Nodes.{goal_place};
 ghost use Rattle.kan_model.specs.Programs.Scope.{is_small};
 ghost use Rattle.kan_model.specs.Programs.Tables.{are_closed};
+ghost use Rattle.susp_cells.specs.Tables.{program_of};
 
 use crate::programs::compiled;
 use goal_syntax::Compiled;
@@ -15,23 +16,71 @@ use kan_search::Search;
 use kan_terms::{Memory, Names};
 use std::alloc::Global;
 use std::process::Abort;
+use std::sync::Wait;
 use std::test::Fail;
-use stream_core::PlainNodes;
+use stream_core::{Nodes, PlainNodes};
+use susp_cells::{OpenGate, SharedNodes, Table};
 
-// How many answers a run has in its first batch, and how many pulls it makes for them.
-fn searched(alloc: Global, program: &Program, query: &Query) -> Result<(usize, u64), Memory>
+// How many answers the first batch of a search has, and how many pulls there were with it.
+fn advanced<N: Nodes<PlainStore> + Drop>(
+    alloc: Global,
+    search: &mut Search<'_, PlainStore, N>,
+) -> Result<(usize, u64), Memory> {
+    let batch = search.advance_alone(alloc)?;
+    Ok((batch.answers.len(), search.pulls()))
+}
+
+// The same of a run over the table of one thread.
+fn searched_alone(alloc: Global, program: &Program, query: &Query) -> Result<(usize, u64), Memory>
     requires closed { are_closed (programs.tables program.now) (query.now.goal ∷ []) ≡ true }
     requires small { is_small (programs.meaning program.now) ≡ true }
 {
     let mut search: Search<'_, PlainStore, PlainNodes<'_, PlainStore>> = Search::open_alone(
         alloc, program, query, 1000, 100,
     )?;
-    let batch = search.advance_alone(alloc)?;
-    Ok((batch.answers.len(), search.pulls()))
+    advanced(alloc, &mut search)
+}
+
+// The same over a shared table, which is used with one number.
+fn searched_shared(
+    rt: &(impl Abort + Wait + Alloc<A = Global>),
+    program: &Program,
+    query: &Query,
+    table: &Table<'_, PlainStore>,
+) -> Result<(usize, u64), Memory>
+    requires table { program_of table.now ≡ programs.meaning program.now }
+    requires closed { are_closed (programs.tables program.now) (query.now.goal ∷ []) ≡ true }
+    requires small { is_small (programs.meaning program.now) ≡ true }
+{
+    let nodes = SharedNodes::new(rt, table, &OpenGate, 0);
+    let mut search = Search::open(rt.alloc(), program, nodes, query, 1000, 100)?;
+    advanced(rt.alloc(), &mut search)
+}
+
+// What a run has over both tables, if it is the same.
+fn searched(
+    rt: &(impl Abort + Wait + Alloc<A = Global>),
+    program: &Program,
+    query: &Query,
+) -> Result<(usize, u64), Fail>
+    requires closed { are_closed (programs.tables program.now) (query.now.goal ∷ []) ≡ true }
+    requires small { is_small (programs.meaning program.now) ≡ true }
+{
+    let alone = searched_alone(rt.alloc(), program, query)?;
+    let table: Table<'_, PlainStore> = Table::new(rt.alloc(), program)?;
+    let shared = searched_shared(rt, program, query, &table)?;
+    if alone == shared {
+        Ok(alone)
+    } else {
+        Err(Fail::from("not the same over both tables"))
+    }
 }
 
 // How many answers a program's only run has in its first batch, and how many pulls it makes.
-fn searched_once(alloc: Global, made: &Compiled) -> Result<(usize, u64), Fail>
+fn searched_once(
+    rt: &(impl Abort + Wait + Alloc<A = Global>),
+    made: &Compiled,
+) -> Result<(usize, u64), Fail>
     requires closed { are_closed (programs.tables made.now.program)
         (map goal_place made.now.queries) ≡ true }
     requires small { is_small (programs.meaning made.now.program) ≡ true }
@@ -42,13 +91,12 @@ fn searched_once(alloc: Global, made: &Compiled) -> Result<(usize, u64), Fail>
     let Some(query) = made.queries.get(0) else {
         return Err(Fail::from("no run"));
     };
-    let found = searched(alloc, &made.program, query)?;
-    Ok(found)
+    searched(rt, &made.program, query)
 }
 
 // Demands how many answers a text's only run has, and how many pulls it makes.
 fn expect_search(
-    rt: &(impl Abort + Alloc<A = Global>),
+    rt: &(impl Abort + Wait + Alloc<A = Global>),
     text: &str,
     answers: usize,
     pulls: u64,
@@ -57,7 +105,7 @@ fn expect_search(
 {
     let mut names = Names::new(rt.alloc());
     let made = compiled(rt.alloc(), text, &mut names, Dialect::All)?;
-    let found = searched_once(rt.alloc(), &made)?;
+    let found = searched_once(rt, &made)?;
     assert_eq!(rt; found.0, answers);
     assert_eq!(rt; found.1, pulls);
     Ok(())
