@@ -1,5 +1,6 @@
 -- The ground terms of the names of a term that is to be a ground term.
-use Rattle.std.specs.Prelude.{◌≡◌, ◌<◌, ℕ, suc, Bool, true, ◌&&◌, eqb, nat_lt, cond, List, [], ◌∷◌, length, map, Option, Some, None}
+use Rattle.std.specs.Prelude.{◌≡◌, ◌<◌, ℕ, suc, Bool, true, ◌&&◌, eqb, nat_lt, cond, List, [], ◌∷◌}
+use Rattle.std.specs.Prelude.{length, map, Option, Some, None}
 use Rattle.std.specs.Borrow.{Bor}
 use Rattle.std.specs.Global.{Vec}
 use Rattle.std.specs.List.{flat_map}
@@ -77,7 +78,8 @@ node_under us shapes.Nil = marks.Nil ∷ []
 abbrev pub term_under : List Gd → List Shape → List Mark
 term_under us = flat_map (node_under us)
 
--- marks of names are those of ground terms, which each valuation has under which a term has its marks
+-- marks of names are those of ground terms, which each valuation has under which a term has its
+-- marks
 pub record Finds (xs : List Shape) (ms : List Mark) (vs : List (List Mark)) : Type 0 where
   pub grounds : List Gd
   pub whole : vs ≡ map spelling grounds
@@ -85,12 +87,14 @@ pub record Finds (xs : List Shape) (ms : List Mark) (vs : List (List Mark)) : Ty
   pub total : length grounds ≡ reach 0 xs
 
 -- the same so far, where these shapes and marks are left
-pub record FindsSo (xs : List Shape) (ms : List Mark) (vs : List (List Mark)) (left : List Shape) (rest : List Mark) : Type 0 where
+pub record FindsSo (xs : List Shape) (ms : List Mark) (vs : List (List Mark)) (left : List Shape)
+    (rest : List Mark) : Type 0 where
   pub grounds : List Gd
   pub whole : vs ≡ map spelling grounds
   pub trees : List Gd
   pub spelled : rest ≡ flat_map spelling trees
-  pub fits : (us : List Gd) → term_under us xs ≡ ms → Agrees us grounds × (term_under us left ≡ rest)
+  pub fits : (us : List Gd) → term_under us xs ≡ ms → Agrees us grounds
+      × (term_under us left ≡ rest)
   pub rising : rises (length grounds) left ≡ true
   pub total : reach (length grounds) left ≡ reach 0 xs
 

@@ -1,5 +1,6 @@
 -- The marks of ground terms, and the ground terms of names as lists of marks.
-use Rattle.std.specs.Prelude.{ℕ, zero, suc, Bool, true, false, ◌&&◌, not, eqb, if◌then◌else◌, List, [], ◌∷◌, ◌++◌, length, map, take, slice_get, unwrap_or}
+use Rattle.std.specs.Prelude.{ℕ, zero, suc, Bool, true, false, ◌&&◌, not, eqb, if◌then◌else◌, List}
+use Rattle.std.specs.Prelude.{[], ◌∷◌, ◌++◌, length, map, take, slice_get, unwrap_or}
 use Rattle.std.specs.List.{flat_map, list_all, list_any}
 use Rattle.std.specs.Ordering.{int_eq}
 use Rattle.std.specs.Borrow.{Bor}
@@ -77,7 +78,8 @@ taken shapes.Nil ms = 1
 
 -- the marks of names with those that a node gives: a new name takes those of one whole term
 abbrev pub with_node : List (List Mark) → Shape → List Mark → List (List Mark)
-with_node vs (shapes.Name n) ms = if eqb n (length vs) then vs ++ take (whole_length 1 ms) ms ∷ [] else vs
+with_node vs (shapes.Name n) ms =
+    if eqb n (length vs) then vs ++ take (whole_length 1 ms) ms ∷ [] else vs
 with_node vs shapes.Pair ms = vs
 with_node vs (shapes.Sym s) ms = vs
 with_node vs (shapes.Str s) ms = vs
@@ -114,7 +116,8 @@ absence_met vs kept = list_all (tag_met vs kept.tag) kept.names
 
 abbrev pub all_met : List (List Mark) → model.Answer → Bool
 all_met vs a =
-    list_all (difference_met vs) a.disequalities && list_all (type_met vs kinds.Number) a.numbers && list_all (type_met vs kinds.Symbol) a.symbols
+    list_all (difference_met vs) a.disequalities && list_all (type_met vs kinds.Number) a.numbers
+    && list_all (type_met vs kinds.Symbol) a.symbols
     && list_all (type_met vs kinds.Text) a.strings && list_all (absence_met vs) a.absences
 
 -- the term has these marks, and all constraints are met

@@ -13,4 +13,5 @@ pub record HasAsked (before after : View) (tickets : ℕ) : Type 0 where
 
 -- whatever it won before, to the number n, is won afterwards to this number
 abbrev pub AsksOn : View → View → ℕ → ℕ → Type 0
-AsksOn before after n tickets = (start : View) → HasAsked start before n → HasAsked start after tickets
+AsksOn before after n tickets =
+    (start : View) → HasAsked start before n → HasAsked start after tickets

@@ -1,5 +1,6 @@
 -- What a worker did.
-use Rattle.std.specs.Prelude.{◌≡◌, ℕ, ◌+◌, Bool, true, false, List, [], ◌∷◌, ◌++◌, map, IsPermutation}
+use Rattle.std.specs.Prelude.{◌≡◌, ℕ, ◌+◌, Bool, true, false, List, [], ◌∷◌, ◌++◌, map}
+use Rattle.std.specs.Prelude.{IsPermutation}
 use Rattle.kan_model.specs.Programs.Goals.{Program}
 use Rattle.kan_model.specs.Streams.Stream as model
 use Rattle.kan_model.specs.Streams.Running.{force}
@@ -13,7 +14,8 @@ offered_behind p t = offered_for (tail_of (force p t))
 
 module _ {St : Type 0} where
   -- a task was forced, and some of those behind it were pushed; or it was dropped, and nothing was
-  abbrev pub IsHandled : Program → Offered St → Holder (Offered St) → Holder (Offered St) → Bool → Type 0
+  abbrev pub IsHandled : Program → Offered St → Holder (Offered St) → Holder (Offered St) → Bool →
+      Type 0
   IsHandled p task before after true = Offers before after (offered_behind p (tree_of task))
   IsHandled p task before after false = after ≡ before
 
@@ -21,15 +23,18 @@ module _ {St : Type 0} where
   -- forced, after each of which some of those behind it were pushed, and so many were dropped
   pub data Serves (p : Program) : List (Offered St) → List (Offered St) → ℕ → ℕ → Type 0 where
     nothing : Serves p [] [] 0 0
-    forces : {took gave : List (Offered St)} {forced dropped : ℕ} (task : Offered St) (given : List (Offered St)) →
-        Serves p took gave forced dropped → IsPartOf (map tree_of given) (offered_behind p (tree_of task)) →
+    forces : {took gave : List (Offered St)} {forced dropped : ℕ} (task : Offered St)
+        (given : List (Offered St)) →
+        Serves p took gave forced dropped →
+        IsPartOf (map tree_of given) (offered_behind p (tree_of task)) →
         Serves p (took ++ task ∷ []) (gave ++ given) (forced + 1) dropped
     drops : {took gave : List (Offered St)} {forced dropped : ℕ} (task : Offered St) →
         Serves p took gave forced dropped → Serves p (took ++ task ∷ []) gave forced (dropped + 1)
 
   -- of the tasks that a holder took so many were forced and so many were dropped, and nothing was
   -- pushed but what is offered behind those that were forced
-  pub record HasServed (p : Program) (before after : Holder (Offered St)) (forced dropped : ℕ) : Type 0 where
+  pub record HasServed (p : Program) (before after : Holder (Offered St))
+      (forced dropped : ℕ) : Type 0 where
     pub took : List (Offered St)
     pub gave : List (Offered St)
     pub serves : Serves p took gave forced dropped
@@ -40,4 +45,5 @@ module _ {St : Type 0} where
   -- whatever was served before, with the numbers n and m, is served afterwards with these
   abbrev pub ServesOn : Program → Holder (Offered St) → Holder (Offered St) → ℕ → ℕ → ℕ → ℕ → Type 0
   ServesOn p before after n m forced dropped =
-      (start : Holder (Offered St)) → HasServed p start before n m → HasServed p start after forced dropped
+      (start : Holder (Offered St)) → HasServed p start before n m →
+      HasServed p start after forced dropped

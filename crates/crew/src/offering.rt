@@ -40,7 +40,8 @@ fn offer_tail<St: Store>(
     requires inside { IfSome tail.now (IsIn table.now) }
     requires home { IsHolderOf (names_of table.now.labels) holder.old }
     ensures home { IsHolderOf (names_of table.now.labels) holder.new }
-    ensures offers { Offers holder.old holder.new (option_to_list (option_map label_tree tail.now)) }
+    ensures offers { Offers holder.old holder.new
+        (option_to_list (option_map label_tree tail.now)) }
 {
     if let Some(susp) = tail {
         offer_one(table, holder, susp);

@@ -2,7 +2,8 @@
 
 ghost use Rattle.std.specs.Prelude.{◌≡◌, ◌++◌, ℕ, List, IfSome, IfNone, IsPermutation, length};
 ghost use Rattle.std.specs.Option.{option_to_list};
-ghost use Rattle.task_deques.specs.Holders.{holder_part, pushed_by, taken_by, others_of, IsHolderOf};
+ghost use Rattle.task_deques.specs.Holders.{holder_part, pushed_by, taken_by, others_of};
+ghost use Rattle.task_deques.specs.Holders.{IsHolderOf};
 ghost use Rattle.crew.specs.Turns.{OwnWasEmpty, FirstWereEmpty};
 
 use std::sync::Wait;

@@ -113,7 +113,8 @@ impl<'a, St: Store, G: Gate, R: Wait> Post<'a, St, G, R> {
         }
     }
 
-    // Serves a task: whether a ticket was spent on it. Otherwise it is dropped, and nothing is done.
+    // Serves a task: whether a ticket was spent on it. Otherwise it is dropped, and nothing is
+    // done.
     #[tactic(auto, using(crate::proofs::AskingLaws::none_asked))]
     fn serve(
         &self,

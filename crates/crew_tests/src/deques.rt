@@ -136,7 +136,8 @@ fn race<R: Threads + Wait + Sync>(rt: &R, alloc: Global, count: u64) -> Result<u
     Ok(sum)
 }
 
-// Three are pushed, the first takes one, and the second steals one: what each got, and what is left.
+// Three are pushed, the first takes one, and the second steals one: what each got, and what is
+// left.
 fn three_tasks<R: Wait>(
     rt: &R,
     alloc: Global,

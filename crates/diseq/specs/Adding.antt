@@ -7,12 +7,14 @@ use Rattle.unify_core.specs.Laws.{added_equations}
 use Rattle.diseq.specs.Disequalities.{Disequality, Brought}
 use Rattle.diseq.specs.Watching.{are_watchable}
 
--- where there is no unifier the disequality holds already and is left out, else what unification adds is put at the end
+-- where there is no unifier the disequality holds already and is left out, else what unification
+-- adds is put at the end
 abbrev pub WithAdded : List Disequality → List Disequality → Option (List (Tm × Tm)) → Type 0
 WithAdded old new None = new ≡ old
 WithAdded old new (Some added) = new ≡ old ++ added_equations added ∷ []
 
--- disequalities with one more: what unification finds for its equations is put at the end; the list stays watchable; and it is the old one with the disequality itself, brought up to the bindings
+-- disequalities with one more: what unification finds for its equations is put at the end; the list
+-- stays watchable; and it is the old one with the disequality itself, brought up to the bindings
 pub record Adds (bound : Pairs) (es : Disequality) (old new : List Disequality) : Type 0 where
   pub found : Option (List (Tm × Tm))
   pub unifying : Unifying bound es found

@@ -8,7 +8,9 @@ use Rattle.diseq.specs.Disequalities.{Disequality}
 
 -- an equation is stored as its two sides
 abbrev pub equation_code : Coded Equation
-equation_code = code_by (Tm × Tm) sides_code (λ e. (e.left, e.right)) (λ sides. record { left = sides.0; right = sides.1 }) (λ e. refl)
+equation_code =
+    code_by (Tm × Tm) sides_code (λ e. (e.left, e.right))
+    (λ sides. record { left = sides.0; right = sides.1 }) (λ e. refl)
 
 -- disequalities are stored as lists of equations
 abbrev pub diseqs_code : Coded (List Disequality)

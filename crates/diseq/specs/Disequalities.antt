@@ -27,8 +27,11 @@ SaysAsMuch bound es fs = (f : ℕ → Tm) → IsSolution f bound → Unifies f e
 abbrev pub NeverEqual : Pairs → Disequality → Type 0
 NeverEqual bound es = (f : ℕ → Tm) → IsSolution f bound → Unifies f es → ⊥
 
--- disequalities brought up to bindings: each stands for an older one and says as much, one that always holds by now may be left out, and the order stays
+-- disequalities brought up to bindings: each stands for an older one and says as much, one that
+-- always holds by now may be left out, and the order stays
 pub data Brought (bound : Pairs) : List Disequality → List Disequality → Type 0 where
   none_left : Brought bound [] []
-  listed : {es fs : Disequality} {old new : List Disequality} → SaysAsMuch bound es fs → Brought bound old new → Brought bound (es ∷ old) (fs ∷ new)
-  left_out : {es : Disequality} {old new : List Disequality} → NeverEqual bound es → Brought bound old new → Brought bound (es ∷ old) new
+  listed : {es fs : Disequality} {old new : List Disequality} → SaysAsMuch bound es fs →
+      Brought bound old new → Brought bound (es ∷ old) (fs ∷ new)
+  left_out : {es : Disequality} {old new : List Disequality} → NeverEqual bound es →
+      Brought bound old new → Brought bound (es ∷ old) new

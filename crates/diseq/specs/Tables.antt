@@ -1,5 +1,6 @@
 -- What the table of disequalities stands for.
-use Rattle.std.specs.Prelude.{◌≡◌, ℕ, zero, suc, Bool, true, false, ◌||◌, not, eqb, ltb, List, [], ◌∷◌, ◌++◌, map, Option, Some, None, if◌then◌else◌}
+use Rattle.std.specs.Prelude.{◌≡◌, ℕ, zero, suc, Bool, true, false, ◌||◌, not, eqb, ltb, List, []}
+use Rattle.std.specs.Prelude.{◌∷◌, ◌++◌, map, Option, Some, None, if◌then◌else◌}
 use Rattle.std.specs.Arc.{arc_value}
 use Rattle.std.specs.List.{list_all, list_any}
 use Rattle.kan_model.specs.Stores.Prims.{equation as pair_equation}
@@ -79,7 +80,8 @@ option_list meaning (Some a) = meaning a ∷ []
 pub record Watching (old : Table) (x k : ℕ) (new : Table) : Type 0 where
   pub next : new.next ≡ old.next
   pub entries : (j : ℕ) → found entry_list new.entries j ≡ found entry_list old.entries j
-  pub lists : (y : ℕ) → watching new y ≡ (if eqb y x then watching old x ++ k ∷ [] else watching old y)
+  pub lists : (y : ℕ) → watching new y
+      ≡ (if eqb y x then watching old x ++ k ∷ [] else watching old y)
 
 -- another entry was put at a number
 pub record PutAt (old : Table) (k : ℕ) (entry : List Disequality) (new : Table) : Type 0 where
@@ -87,7 +89,8 @@ pub record PutAt (old : Table) (k : ℕ) (entry : List Disequality) (new : Table
   pub entries : (j : ℕ) → at new j ≡ (if eqb j k then entry else at old j)
   pub lists : (y : ℕ) → watching new y ≡ watching old y
 
--- a number is on the list of the variable that watches a disequality, if there is one, and no list lost a number
+-- a number is on the list of the variable that watches a disequality, if there is one, and no list
+-- lost a number
 pub record WatchingPairs (old : Table) (es : Disequality) (k : ℕ) (new : Table) : Type 0 where
   pub next : new.next ≡ old.next
   pub entries : (j : ℕ) → found entry_list new.entries j ≡ found entry_list old.entries j
@@ -98,10 +101,12 @@ pub record WatchingPairs (old : Table) (es : Disequality) (k : ℕ) (new : Table
 pub record WatchingOther (old : Table) (es : Disequality) (x k : ℕ) (new : Table) : Type 0 where
   pub next : new.next ≡ old.next
   pub entries : (j : ℕ) → found entry_list new.entries j ≡ found entry_list old.entries j
-  pub listed : (y : ℕ) → eqb y x ≡ false → is_watched_by y es ≡ true → is_among k (watching new y) ≡ true
+  pub listed : (y : ℕ) → eqb y x ≡ false → is_watched_by y es ≡ true → is_among k (watching new y)
+      ≡ true
   pub more : (y j : ℕ) → is_among j (watching old y) ≡ true → is_among j (watching new y) ≡ true
 
--- another entry was put at a number, which is on the list of the variable that watches it, unless that is this one; no list lost a number
+-- another entry was put at a number, which is on the list of the variable that watches it, unless
+-- that is this one; no list lost a number
 pub record Replacing (old : Table) (k x : ℕ) (entry : List Disequality) (new : Table) : Type 0 where
   pub next : new.next ≡ old.next
   pub entries : (j : ℕ) → at new j ≡ (if eqb j k then entry else at old j)
@@ -124,14 +129,18 @@ All test t = (k : ℕ) → list_all test (at t k) ≡ true
 abbrev pub HasIdentical : Pairs → Table → Type 0
 HasIdentical bound t = (k : ℕ) × (list_any (is_identical bound) (at t k) ≡ true)
 
--- what a table becomes where some of its disequalities are brought up to bindings: those that are solved anew are watchable, the others stay
+-- what a table becomes where some of its disequalities are brought up to bindings: those that are
+-- solved anew are watchable, the others stay
 pub record Moved (bound : Pairs) (old new : Table) : Type 0 where
   pub next : new.next ≡ old.next
   pub brought : (k : ℕ) → Brought bound (at old k) (at new k)
-  pub kept : (test : Disequality → Bool) → ((es : Disequality) → is_watchable bound es ≡ true → test es ≡ true) → (k : ℕ) → list_all test (at old k) ≡ true → list_all test (at new k) ≡ true
+  pub kept : (test : Disequality → Bool) →
+      ((es : Disequality) → is_watchable bound es ≡ true → test es ≡ true) → (k : ℕ) →
+      list_all test (at old k) ≡ true → list_all test (at new k) ≡ true
   pub watched : AllWatched old → AllWatched new
 
--- what stands at a number can be replaced: it is watched by the variable, and what replaces it says as much and is watchable
+-- what stands at a number can be replaced: it is watched by the variable, and what replaces it says
+-- as much and is watchable
 pub record Replaces (bound : Pairs) (x : ℕ) (old new : List Disequality) : Type 0 where
   pub es : Disequality
   pub one : old ≡ es ∷ []
@@ -146,9 +155,12 @@ Seen bound x old Identical = list_any (is_identical bound) old ≡ true
 Seen bound x old Always = Replaces bound x old []
 Seen bound x old (Solved pairs) = Replaces bound x old (map pair_equation pairs ∷ [])
 
--- those with these numbers were looked at again: none is identical, and then each is settled, or one is
+-- those with these numbers were looked at again: none is identical, and then each is settled, or
+-- one is
 abbrev pub Resolved : Pairs → ℕ → List ℕ → Table → Table → Bool → Type 0
-Resolved bound x ks old new true = Moved bound old new × ((k : ℕ) → is_among k ks ≡ true → list_all (is_settled bound (Tree.leaf x)) (at new k) ≡ true)
+Resolved bound x ks old new true =
+    Moved bound old new
+    × ((k : ℕ) → is_among k ks ≡ true → list_all (is_settled bound (Tree.leaf x)) (at new k) ≡ true)
 Resolved bound x ks old new false = HasIdentical bound old
 
 -- all that pass a test after others were looked at again, or one is identical

@@ -1,5 +1,7 @@
--- Which variable watches a disequality, and which disequalities are looked at again where bindings were added.
-use Rattle.std.specs.Prelude.{ℕ, Bool, true, false, ◌&&◌, ◌||◌, not, List, [], ◌∷◌, Option, Some, None}
+-- Which variable watches a disequality, and which disequalities are looked at again where bindings
+-- were added.
+use Rattle.std.specs.Prelude.{ℕ, Bool, true, false, ◌&&◌, ◌||◌, not, List, [], ◌∷◌, Option, Some}
+use Rattle.std.specs.Prelude.{None}
 use Rattle.std.specs.List.{list_all, list_any}
 use Rattle.kan_terms.specs.Tree.{Tree, Tm}
 use Rattle.kan_terms.specs.Bound.{bound_to}
@@ -17,7 +19,8 @@ abbrev pub is_apart : Pairs → Tm → Tm → Bool
 is_apart bound (Tree.leaf x) t = is_none (bound_to x bound) && not (is_variable x (walked bound t))
 is_apart bound _ t = false
 
--- a disequality is watchable: its first left side is an unbound variable, and isn't what the right side walks to
+-- a disequality is watchable: its first left side is an unbound variable, and isn't what the right
+-- side walks to
 abbrev pub is_watchable : Pairs → Disequality → Bool
 is_watchable bound [] = false
 is_watchable bound (e ∷ es) = is_apart bound e.left e.right

@@ -11,6 +11,7 @@ abbrev pub HasRoom : {I : Type 0} → Table I → I → Type 0
 HasRoom t id = t.belongs id × (top (t.tree id) ≤ 2 ^ 62)
 
 -- a stream of the table whose stores have no variables
-pub record IsBare {I St : Type 0} (t : Table I) (means : St → facts.Store) (s : Stream I St) : Type 0 where
+pub record IsBare {I St : Type 0} (t : Table I) (means : St → facts.Store)
+    (s : Stream I St) : Type 0 where
   pub belong : HasStream t s
   pub fits : TailFits t.program 0 0 (stream_in t means s)

@@ -8,7 +8,13 @@ no_tables = record { terms = []; arguments = []; goals = []; relations = [] }
 
 -- a pair of two slots
 abbrev pub pair_tables : Tables
-pair_tables = record { terms = TermEntry.slot 0 ∷ TermEntry.slot 1 ∷ TermEntry.pair 0 1 ∷ []; arguments = []; goals = []; relations = [] }
+pair_tables =
+    record {
+      terms = TermEntry.slot 0 ∷ TermEntry.slot 1 ∷ TermEntry.pair 0 1 ∷ [];
+      arguments = [];
+      goals = [];
+      relations = [];
+    }
 
 -- and a relation without arguments that always holds
 abbrev pub small_tables : Tables

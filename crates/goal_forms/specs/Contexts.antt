@@ -3,7 +3,8 @@ use Rattle.std.specs.Prelude.{ℕ, List, map}
 use Rattle.kan_terms.specs.Table.{Table}
 use Rattle.kan_grammar.specs.Texts.Sited.{Sited}
 use Rattle.kan_grammar.specs.Texts.TermForms.{TermForm, term_form}
-use Rattle.kan_grammar.specs.Texts.GoalForms.{GoalForms, goal_form, goal_forms, GoalForm, term_forms}
+use Rattle.kan_grammar.specs.Texts.GoalForms.{GoalForms, goal_form, goal_forms, GoalForm}
+use Rattle.kan_grammar.specs.Texts.GoalForms.{term_forms}
 use Rattle.kan_grammar.specs.Texts.Binders.{Checked, binder}
 use Rattle.kan_grammar.specs.Texts.TopForms.{Defined, Form, form, head}
 use Rattle.goal_forms.specs.Parts.{sites, site_at}
@@ -26,7 +27,8 @@ data_at context places = map (site_at (data_of context)) places
 abbrev pub defined_in : Context → List Defined
 defined_in context = relations context.relations.now
 
--- what the datum at a place is as a term, as terms in a row, as goals in a row, as a binder, and as the head of a relation
+-- what the datum at a place is as a term, as terms in a row, as goals in a row, as a binder, and as
+-- the head of a relation
 abbrev pub term_at : Context → ℕ → TermForm
 term_at context place = term_form context.names.now (datum_at context place)
 

@@ -10,15 +10,21 @@ use Rattle.goal_forms.specs.Places.{kept, joined, prefixed_last}
 use Rattle.goal_forms.specs.declared.flatten.Work.{Work}
 use Rattle.goal_forms.specs.declared.flatten.Work.TheVariants as works
 
--- all data are low that are made while the work on a stack is done, the top first, and those made before
+-- all data are low that are made while the work on a stack is done, the top first, and those made
+-- before
 abbrev pub all_low : Table → List Work → List Sited → Bool
 all_low names [] made = list_all is_low_datum made
-all_low names (works.Datum d ∷ ws) made = all_low names ws (with_sites names (written names d.now) ∷ made)
-all_low names (works.Rest items last at ∷ ws) made = all_low names ws (within_sites names at (within names items last) ∷ made)
-all_low names (works.Pair at ∷ ws) made = list_all is_low_datum made && all_low names ws (joined at made)
-all_low names (works.Prefixed at s ∷ ws) made = list_all is_low_datum made && all_low names ws (prefixed_last at s made)
+all_low names (works.Datum d ∷ ws) made =
+    all_low names ws (with_sites names (written names d.now) ∷ made)
+all_low names (works.Rest items last at ∷ ws) made =
+    all_low names ws (within_sites names at (within names items last) ∷ made)
+all_low names (works.Pair at ∷ ws) made =
+    list_all is_low_datum made && all_low names ws (joined at made)
+all_low names (works.Prefixed at s ∷ ws) made =
+    list_all is_low_datum made && all_low names ws (prefixed_last at s made)
 
 -- with those of a table
-pub record WorksLow (names : Table) (ws : List Work) (ds : List Sited) (places : List ℕ) : Type 0 where
+pub record WorksLow (names : Table) (ws : List Work) (ds : List Sited)
+    (places : List ℕ) : Type 0 where
   pub left : all_low names ws (kept ds places) ≡ true
   pub there : AreLow ds

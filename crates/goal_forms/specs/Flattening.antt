@@ -3,7 +3,8 @@ use Rattle.std.specs.Prelude.{◌≡◌, ℕ, ◌+◌, List, [], ◌∷◌}
 use Rattle.kan_terms.specs.Table.{Table}
 use Rattle.kan_grammar.specs.Data.Printed.{prefix_name}
 use Rattle.kan_grammar.specs.Data.Words as words
-use Rattle.kan_grammar.specs.Data.Written.{Written, Within, single, list, prefixed, close, dotted, element}
+use Rattle.kan_grammar.specs.Data.Written.{Written, Within, single, list, prefixed, close, dotted}
+use Rattle.kan_grammar.specs.Data.Written.{element}
 use Rattle.kan_grammar.specs.Texts.Sited.{Sited, with_sites, within_sites, symbol_number}
 use Rattle.sexpr.specs.Seen.{written}
 use Rattle.sexpr.specs.Printing.{within}
@@ -22,8 +23,10 @@ pub record AreNumbered (names : Table) (prefixes : Prefixes) : Type 0 where
 -- what is made once all work on a stack is done, the top first, and the datum made last
 abbrev pub finish : Table → List Work → List Sited → List Sited
 finish names [] made = made
-finish names (works.Datum d ∷ ws) made = finish names ws (with_sites names (written names d.now) ∷ made)
-finish names (works.Rest items last at ∷ ws) made = finish names ws (within_sites names at (within names items last) ∷ made)
+finish names (works.Datum d ∷ ws) made =
+    finish names ws (with_sites names (written names d.now) ∷ made)
+finish names (works.Rest items last at ∷ ws) made =
+    finish names ws (within_sites names at (within names items last) ∷ made)
 finish names (works.Pair at ∷ ws) made = finish names ws (joined at made)
 finish names (works.Prefixed at s ∷ ws) made = finish names ws (prefixed_last at s made)
 

@@ -1,5 +1,6 @@
 -- What the top forms that the code opens stand for.
-use Rattle.std.specs.Prelude.{ℕ, ◌^◌, ℤ, pos, negsuc, nat_lt, false, List, [], ◌∷◌, Option, Some, None, option_map, if◌then◌else◌}
+use Rattle.std.specs.Prelude.{ℕ, ◌^◌, ℤ, pos, negsuc, nat_lt, false, List, [], ◌∷◌, Option, Some}
+use Rattle.std.specs.Prelude.{None, option_map, if◌then◌else◌}
 use Rattle.kan_terms.specs.Table.{Table}
 use Rattle.kan_grammar.specs.Texts.Sited.{Sited}
 use Rattle.kan_grammar.specs.Texts.Binders.{Checked, binder, binder_faults}
@@ -8,7 +9,8 @@ use Rattle.kan_grammar.specs.Texts.TopForms as forms
 use Rattle.kan_grammar.specs.Texts.TopForms.{NameAt, name_at, head_name, head, limit, no_limit}
 use Rattle.goal_forms.specs.Parts.{site_at}
 use Rattle.goal_forms.specs.declared.form.Form.{Form}
-use Rattle.goal_forms.specs.declared.form.Form.TheVariants.{Relation, RunOfOne, RunOfList, Misshapen, Unknown}
+use Rattle.goal_forms.specs.declared.form.Form.TheVariants.{Relation, RunOfOne, RunOfList}
+use Rattle.goal_forms.specs.declared.form.Form.TheVariants.{Misshapen, Unknown}
 
 -- the limit at a place, or none
 abbrev pub limit_at : List Sited → Option ℕ → Checked (Option ℕ)
@@ -26,9 +28,12 @@ run_with t l b goals = forms.run_of_list l (binder t b) (goal_forms t goals)
 
 -- the form that begins with a step
 abbrev pub step_top : List Sited → Table → Form → forms.Form
-step_top ds t (Relation h gs) = forms.relation (head_name (site_at ds h)) (head t (site_at ds h)) (goal_forms t (site_at ds gs))
-step_top ds t (RunOfOne l at s gs) = forms.run_of_one (limit_at ds l) (one_name t at s) (goal_forms t (site_at ds gs))
-step_top ds t (RunOfList l b gs) = forms.run_of_list (limit_at ds l) (binder t (site_at ds b)) (goal_forms t (site_at ds gs))
+step_top ds t (Relation h gs) =
+    forms.relation (head_name (site_at ds h)) (head t (site_at ds h)) (goal_forms t (site_at ds gs))
+step_top ds t (RunOfOne l at s gs) =
+    forms.run_of_one (limit_at ds l) (one_name t at s) (goal_forms t (site_at ds gs))
+step_top ds t (RunOfList l b gs) =
+    forms.run_of_list (limit_at ds l) (binder t (site_at ds b)) (goal_forms t (site_at ds gs))
 step_top ds t (Misshapen at) = forms.misshapen at
 step_top ds t (Unknown at) = forms.unknown at
 

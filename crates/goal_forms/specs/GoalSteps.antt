@@ -9,19 +9,23 @@ use Rattle.kan_grammar.specs.Texts.Resolved.{Names, within}
 use Rattle.goal_forms.specs.Parts.{site_at}
 use Rattle.goal_forms.specs.TermSteps.{site_size}
 use Rattle.goal_forms.specs.declared.goal.Goal.{Goal}
-use Rattle.goal_forms.specs.declared.goal.Goal.TheVariants.{Succeed, Fail, Same, Differ, Symbol, Number, Text, Absent, Fresh, AllOf, OneOf, Clauses, Call, Misshapen}
+use Rattle.goal_forms.specs.declared.goal.Goal.TheVariants.{Succeed, Fail, Same, Differ, Symbol}
+use Rattle.goal_forms.specs.declared.goal.Goal.TheVariants.{Number, Text, Absent, Fresh, AllOf}
+use Rattle.goal_forms.specs.declared.goal.Goal.TheVariants.{OneOf, Clauses, Call, Misshapen}
 
 -- the goal that begins with a step
 abbrev pub step_goal : List Sited → Table → Goal → GoalForm
 step_goal ds t Succeed = GoalForm.succeed
 step_goal ds t Fail = GoalForm.fail
 step_goal ds t (Same a b) = GoalForm.same (term_form t (site_at ds a)) (term_form t (site_at ds b))
-step_goal ds t (Differ a b) = GoalForm.differ (term_form t (site_at ds a)) (term_form t (site_at ds b))
+step_goal ds t (Differ a b) =
+    GoalForm.differ (term_form t (site_at ds a)) (term_form t (site_at ds b))
 step_goal ds t (Symbol a) = GoalForm.symbol (term_form t (site_at ds a))
 step_goal ds t (Number a) = GoalForm.number (term_form t (site_at ds a))
 step_goal ds t (Text a) = GoalForm.text (term_form t (site_at ds a))
 step_goal ds t (Absent a b) = GoalForm.absent (tag t (site_at ds a)) (term_form t (site_at ds b))
-step_goal ds t (Fresh b gs) = GoalForm.fresh (binder t (site_at ds b)) (goal_forms t (site_at ds gs))
+step_goal ds t (Fresh b gs) =
+    GoalForm.fresh (binder t (site_at ds b)) (goal_forms t (site_at ds gs))
 step_goal ds t (AllOf gs) = GoalForm.all_of (goal_forms t (site_at ds gs))
 step_goal ds t (OneOf gs) = GoalForm.one_of (goal_forms t (site_at ds gs))
 step_goal ds t (Clauses cs) = GoalForm.clauses (clause_forms t (site_at ds cs))

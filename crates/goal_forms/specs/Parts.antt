@@ -2,7 +2,8 @@
 use Rattle.std.specs.Prelude.{ℕ, List, [], ◌∷◌, ◌++◌, slice_index_or}
 use Rattle.kan_grammar.specs.Texts.Sited.{Sited}
 use Rattle.goal_forms.specs.declared.flat_data.Part.{Part}
-use Rattle.goal_forms.specs.declared.flat_data.Part.TheVariants.{Name, Text, Number, Truth, Nil, Pair}
+use Rattle.goal_forms.specs.declared.flat_data.Part.TheVariants.{Name, Text, Number, Truth, Nil}
+use Rattle.goal_forms.specs.declared.flat_data.Part.TheVariants.{Pair}
 use Rattle.goal_forms.specs.declared.flat_data.FlatPart.{FlatPart}
 use Rattle.goal_forms.specs.declared.flat_data.FlatData.{FlatData}
 

@@ -22,4 +22,5 @@ joined at (d ∷ a ∷ made) = Sited.pair at a d ∷ made
 -- the list of a symbol and the datum made last
 abbrev pub prefixed_last : ℕ → ℕ → List Sited → List Sited
 prefixed_last at s [] = []
-prefixed_last at s (d ∷ made) = Sited.pair at (Sited.name at s) (Sited.pair at d (Sited.nil at)) ∷ made
+prefixed_last at s (d ∷ made) =
+    Sited.pair at (Sited.name at s) (Sited.pair at d (Sited.nil at)) ∷ made

@@ -3,12 +3,14 @@ use Rattle.std.specs.Prelude.{ℕ, ◌+◌, true, false, List}
 use Rattle.kan_terms.specs.Tree.{Tree}
 use Rattle.kan_terms.specs.Table.{Table}
 use Rattle.kan_grammar.specs.Texts.Sited.{Sited, is_proper, constant}
-use Rattle.kan_grammar.specs.Texts.TermForms.{Use, TermForm, bad_term, term_form, list_form, template_form}
+use Rattle.kan_grammar.specs.Texts.TermForms.{Use, TermForm, bad_term, term_form, list_form}
+use Rattle.kan_grammar.specs.Texts.TermForms.{template_form}
 use Rattle.goal_forms.specs.Parts.{site_at}
 use Rattle.goal_forms.specs.declared.term.Task.{Task}
 use Rattle.goal_forms.specs.declared.term.Task.TheVariants.{Term, Terms, Template, Constant}
 use Rattle.goal_forms.specs.declared.term.Step.{Step}
-use Rattle.goal_forms.specs.declared.term.Step.TheVariants.{Variable, Misshapen, Symbol, Text, Number, Truth, Nil, Pair, Same}
+use Rattle.goal_forms.specs.declared.term.Step.TheVariants.{Variable, Misshapen, Symbol, Text}
+use Rattle.goal_forms.specs.declared.term.Step.TheVariants.{Number, Truth, Nil, Pair, Same}
 
 -- a list of terms, where the parts behind its head are a proper list
 abbrev pub listed : Table → ℕ → Sited → TermForm

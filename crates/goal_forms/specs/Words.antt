@@ -3,7 +3,11 @@ use Rattle.std.specs.Prelude.{ℕ, List as Numbers}
 use Rattle.kan_grammar.specs.Texts.Language as words
 use Rattle.kan_grammar.specs.Texts.Language.{word_among, goal_names, constraint_names, term_names}
 use Rattle.goal_forms.specs.declared.word.Word.{Word}
-use Rattle.goal_forms.specs.declared.word.Word.TheVariants.{Defrel, Run, RunAll, Succeed, Fail, Same, Differ, Symbolo, Numbero, Stringo, Absento, Fresh, Conde, Conj, Disj, ConjTwo, DisjTwo, Quote, Quasiquote, Unquote, Cons, List, Other}
+use Rattle.goal_forms.specs.declared.word.Word.TheVariants.{Defrel, Run, RunAll, Succeed, Fail}
+use Rattle.goal_forms.specs.declared.word.Word.TheVariants.{Same, Differ, Symbolo, Numbero, Stringo}
+use Rattle.goal_forms.specs.declared.word.Word.TheVariants.{Absento, Fresh, Conde, Conj, Disj}
+use Rattle.goal_forms.specs.declared.word.Word.TheVariants.{ConjTwo, DisjTwo, Quote, Quasiquote}
+use Rattle.goal_forms.specs.declared.word.Word.TheVariants.{Unquote, Cons, List, Other}
 
 -- a name of the language
 abbrev pub word_of : Word → words.Word

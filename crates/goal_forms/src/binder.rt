@@ -2,7 +2,8 @@
 
 ghost use Rattle.std.specs.Prelude.{◌≡◌, ◌≤◌, ◌<◌, ◌^◌, ◌+◌, ◌++◌, length, IfOk, OnOk, Some};
 ghost use Rattle.kan_terms.specs.Table.{Table};
-ghost use Rattle.kan_grammar.specs.Texts.Binders.{is_among, may_bind, names_of, bound_names, binder, quoted_symbol};
+ghost use Rattle.kan_grammar.specs.Texts.Binders.{is_among, may_bind, names_of, bound_names};
+ghost use Rattle.kan_grammar.specs.Texts.Binders.{binder, quoted_symbol};
 ghost use Rattle.kan_grammar.specs.Texts.Resolved.{within};
 ghost use Rattle.goal_forms.specs.Parts.{sites, site_at};
 

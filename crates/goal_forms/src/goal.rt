@@ -3,7 +3,8 @@
 ghost use Rattle.std.specs.Prelude.{◌≡◌, ◌+◌, ◌<◌, ◌≤◌, List, true};
 ghost use Rattle.kan_terms.specs.Table.{Table};
 ghost use Rattle.kan_grammar.specs.Texts.Sited.{Sited, name, pair, count};
-ghost use Rattle.kan_grammar.specs.Texts.GoalForms.{goal_form, fresh_form, is_count, parts_of, atom_goal};
+ghost use Rattle.kan_grammar.specs.Texts.GoalForms.{goal_form, fresh_form, is_count, parts_of};
+ghost use Rattle.kan_grammar.specs.Texts.GoalForms.{atom_goal};
 ghost use Rattle.kan_grammar.specs.Texts.Language.{word};
 ghost use Rattle.goal_forms.specs.Words.{word_of};
 ghost use Rattle.goal_forms.specs.Parts.{sites, site_at};

@@ -1,10 +1,13 @@
 //! Terms as they are written, parsed one step at a time.
 
 ghost use Rattle.std.specs.Prelude.{◌≡◌, ◌<◌, ◌≤◌};
-ghost use Rattle.kan_grammar.specs.Texts.TermForms.{term_form, template_form, list_form, quote_form, cons_form, quasiquote_form, unquote_form};
+ghost use Rattle.kan_grammar.specs.Texts.TermForms.{term_form, template_form, list_form};
+ghost use Rattle.kan_grammar.specs.Texts.TermForms.{quote_form, cons_form, quasiquote_form};
+ghost use Rattle.kan_grammar.specs.Texts.TermForms.{unquote_form};
 ghost use Rattle.kan_grammar.specs.Texts.Sited.{constant};
 ghost use Rattle.goal_forms.specs.Parts.{sites, site_at};
-ghost use Rattle.goal_forms.specs.TermSteps.{listed, site_size, step_size, step_form, task_form, task_size};
+ghost use Rattle.goal_forms.specs.TermSteps.{listed, site_size, step_size, step_form, task_form};
+ghost use Rattle.goal_forms.specs.TermSteps.{task_size};
 
 use crate::flat_data::{FlatData, Part};
 use crate::shape::{head_word, is_proper, only_part, pair_parts, two_parts};

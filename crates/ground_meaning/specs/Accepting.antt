@@ -1,5 +1,6 @@
 -- Following the steps of a derivation, with the goals that are still to be shown.
-use Rattle.std.specs.Prelude.{◌≡◌, ◌↔◌, Bool, true, false, eqb, List, [], ◌∷◌, ◌++◌, length, Option, Some, None, slice_get}
+use Rattle.std.specs.Prelude.{◌≡◌, ◌↔◌, Bool, true, false, eqb, List, [], ◌∷◌, ◌++◌, length, Option}
+use Rattle.std.specs.Prelude.{Some, None, slice_get}
 use Rattle.kan_terms.specs.Tree.{Gd}
 use Rattle.kan_model.specs.Programs.Goals.{Goal, Relation, Program}
 use Rattle.kan_model.specs.Meaning.Holds.{holds_at}
@@ -30,9 +31,11 @@ claims_after program Goal.succeed us Step.holds = Some []
 claims_after program (Goal.both g h) us Step.both = Some (claim g us ∷ claim h us ∷ [])
 claims_after program (Goal.either g h) us Step.left = Some (claim g us ∷ [])
 claims_after program (Goal.either g h) us Step.right = Some (claim h us ∷ [])
-claims_after program (Goal.fresh k g) us (Step.choose vs) = when (eqb (length vs) k) (claim g (us ++ vs) ∷ [])
+claims_after program (Goal.fresh k g) us (Step.choose vs) =
+    when (eqb (length vs) k) (claim g (us ++ vs) ∷ [])
 claims_after program (Goal.later g) us Step.enter = Some (claim g us ∷ [])
-claims_after program (Goal.call r args) us Step.enter = body_claim (values us args) (slice_get program.relations r)
+claims_after program (Goal.call r args) us Step.enter =
+    body_claim (values us args) (slice_get program.relations r)
 claims_after _ _ _ _ = None
 
 -- what is left to be shown, in front of other claims
@@ -56,4 +59,6 @@ Shows program steps g us = after_steps program steps (Some (claim g us ∷ [])) 
 
 -- that is, they spell a derivation of the goal
 abbrev pub AcceptedAreSteps : Type 0
-AcceptedAreSteps = (program : Program) (g : Goal) (us : List Gd) (steps : List Step) → Shows program steps g us ↔ AreSteps program g us steps
+AcceptedAreSteps =
+    (program : Program) (g : Goal) (us : List Gd) (steps : List Step) → Shows program steps g us
+    ↔ AreSteps program g us steps

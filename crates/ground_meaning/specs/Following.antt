@@ -1,5 +1,6 @@
 -- Following a step with claims on a stack.
-use Rattle.std.specs.Prelude.{◌≡◌, ◌+◌, ◌≤◌, Bool, true, false, List, [], ◌∷◌, ◌++◌, length, map, Option, Some, None}
+use Rattle.std.specs.Prelude.{◌≡◌, ◌+◌, ◌≤◌, Bool, true, false, List, [], ◌∷◌, ◌++◌, length, map}
+use Rattle.std.specs.Prelude.{Option, Some, None}
 use Rattle.kan_terms.specs.Tree.{Gd}
 use Rattle.kan_model.specs.Meaning.Derivations as model
 use Rattle.kan_model.specs.Programs.Closed as programs
@@ -9,7 +10,8 @@ use Rattle.kan_model.specs.declared.nodes.GoalNode.{GoalNode}
 use Rattle.kan_model.specs.declared.program.Program.{Program}
 use Rattle.ground_meaning.specs.Accepting.{Claim, claim, claims_after, in_front, after_steps}
 use Rattle.ground_meaning.specs.declared.steps.Step.{Step}
-use Rattle.ground_meaning.specs.declared.steps.Step.TheVariants.{Holds, Both, Left, Right, Choose, Enter}
+use Rattle.ground_meaning.specs.declared.steps.Step.TheVariants.{Holds, Both, Left, Right, Choose}
+use Rattle.ground_meaning.specs.declared.steps.Step.TheVariants.{Enter}
 use Rattle.ground_meaning.specs.declared.following.Waiting.{Waiting}
 
 -- the step of the model
@@ -31,9 +33,12 @@ abbrev pub Leaves : Option (List Claim) → Bool → List Claim → Type 0
 Leaves after true new = after ≡ Some new
 Leaves after false new = after ≡ None
 
-abbrev pub Follows : Program → GoalNode → List Gd → Step → List Waiting → Bool → List Waiting → Type 0
+abbrev pub Follows : Program → GoalNode → List Gd → Step → List Waiting → Bool → List Waiting →
+    Type 0
 Follows p node us step old followed new =
-    Leaves (in_front (claims_after (programs.meaning p) (programs.entry_goal p (goal_entry node)) us (step_of step)) (claims_in p old)) followed (claims_in p new)
+    Leaves (in_front
+    (claims_after (programs.meaning p) (programs.entry_goal p (goal_entry node)) us
+    (step_of step)) (claims_in p old)) followed (claims_in p new)
 
 -- the arguments of a call are there
 abbrev pub ArgumentsPlaced : Program → GoalEntry → Type 0
@@ -43,8 +48,11 @@ ArgumentsPlaced p _ = Unit {0}
 -- the same of a claim from the stack
 abbrev pub FollowsClaim : Program → Waiting → Step → List Waiting → Bool → List Waiting → Type 0
 FollowsClaim p w step old followed new =
-    Leaves (in_front (claims_after (programs.meaning p) (programs.goal p w.goal) w.values (step_of step)) (claims_in p old)) followed (claims_in p new)
+    Leaves (in_front
+    (claims_after (programs.meaning p) (programs.goal p w.goal) w.values (step_of step))
+    (claims_in p old)) followed (claims_in p new)
 
 -- the steps show all that waits
 abbrev pub ShowsAll : Program → List Step → List Waiting → Type 0
-ShowsAll p steps waiting = after_steps (programs.meaning p) (map step_of steps) (Some (claims_in p waiting)) ≡ Some []
+ShowsAll p steps waiting =
+    after_steps (programs.meaning p) (map step_of steps) (Some (claims_in p waiting)) ≡ Some []

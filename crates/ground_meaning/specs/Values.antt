@@ -1,4 +1,5 @@
--- The marks of ground terms: what they tell of the term, and those of templates that wait on a stack.
+-- The marks of ground terms: what they tell of the term, and those of templates that wait on a
+-- stack.
 use Rattle.std.specs.Prelude.{◌≡◌, ◌<◌, ℕ, Bool, true, false, eqb, List, [], ◌∷◌, ◌++◌, length}
 use Rattle.std.specs.Ordering.{int_eq}
 use Rattle.kan_terms.specs.Tree.{Gd, bool_eq}
@@ -20,7 +21,9 @@ waiting_marks f (at ∷ more) = waiting_marks f more ++ spelling (f at)
 
 -- a term's marks are put behind others, but for those of templates that are put on the stack
 abbrev pub Puts : (ℕ → Gd) → Gd → List Mark → List Mark → List ℕ → List ℕ → Type 0
-Puts f u old new waiting more = (new ++ waiting_marks f more ≡ old ++ (spelling u ++ waiting_marks f waiting)) × (length old < length new)
+Puts f u old new waiting more =
+    (new ++ waiting_marks f more ≡ old ++ (spelling u ++ waiting_marks f waiting))
+    × (length old < length new)
 
 -- two marks are the same
 abbrev pub mark_eq : Mark → Mark → Bool

@@ -1,5 +1,6 @@
 -- Named files as the code keeps them.
-use Rattle.std.specs.Prelude.{◌≡◌, ◌<◌, ℕ, zero, suc, List, [], ◌∷◌, length, Some, String, Vec, string_bytes}
+use Rattle.std.specs.Prelude.{◌≡◌, ◌<◌, ℕ, zero, suc, List, [], ◌∷◌, length, Some, String, Vec}
+use Rattle.std.specs.Prelude.{string_bytes}
 use Rattle.std.specs.declared.alloc.Global.{Global}
 use Rattle.kan_base.specs.InMemory.{NamedFile, file_of}
 
@@ -19,6 +20,7 @@ bytes_at (file ∷ files) zero = file.1.items
 bytes_at (file ∷ files) (suc at) = bytes_at files at
 
 -- the name finds the file at a place
-pub record FindsAt (name : List ℕ) (files : List (String Global × Vec ℕ Global)) (at : ℕ) : Type 0 where
+pub record FindsAt (name : List ℕ) (files : List (String Global × Vec ℕ Global))
+    (at : ℕ) : Type 0 where
   pub within : at < length files
   pub found : file_of name (all_named files) ≡ Some (bytes_at files at)

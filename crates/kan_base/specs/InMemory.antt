@@ -1,5 +1,7 @@
 -- What sources and sinks in memory hold.
-use Rattle.std.specs.Prelude.{ℕ, ◌-◌, Bool, ◌||◌, ◌&&◌, nat_lt, nat_le, List, [], ◌∷◌, ◌++◌, length, take, drop, min, Option, None, Some, is_none, unwrap_or, if◌then◌else◌}
+use Rattle.std.specs.Prelude.{ℕ, ◌-◌, Bool, ◌||◌, ◌&&◌, nat_lt, nat_le, List, [], ◌∷◌, ◌++◌, length}
+use Rattle.std.specs.Prelude.{take, drop, min, Option, None, Some, is_none, unwrap_or}
+use Rattle.std.specs.Prelude.{if◌then◌else◌}
 use Rattle.std.specs.Str.{bytes_eq}
 use Rattle.kan_base.specs.Spots.{Spot}
 use Rattle.kan_base.specs.Plans.{CallPlan, is_due, after_success, after_failure}
@@ -20,7 +22,8 @@ pub record SourceState : Type 0 where
 -- what the first file of a name holds
 abbrev pub file_of : List ℕ → List NamedFile → Option (List ℕ)
 file_of name [] = None
-file_of name (file ∷ files) = if bytes_eq file.name name then Some file.bytes else file_of name files
+file_of name (file ∷ files) =
+    if bytes_eq file.name name then Some file.bytes else file_of name files
 
 -- what a place holds
 abbrev pub content_of : SourceState → Spot → Option (List ℕ)
@@ -37,7 +40,11 @@ read_count source buffer = min (min (length source.left) (length buffer)) source
 
 -- the source after a place was opened
 abbrev pub after_open : SourceState → Spot → SourceState
-after_open source place = record source { left = unwrap_or (content_of source place) []; plan = after_success source.plan }
+after_open source place =
+    record source {
+      left = unwrap_or (content_of source place) [];
+      plan = after_success source.plan;
+    }
 
 -- the source after n bytes were read
 abbrev pub after_read : SourceState → ℕ → SourceState
@@ -56,7 +63,8 @@ pub record SinkState : Type 0 where
 
 -- a write is to fail: its call is planned to, or nothing of a piece that isn't empty fits
 abbrev pub write_fails : SinkState → List ℕ → Bool
-write_fails sink piece = is_due sink.plan || (nat_lt 0 (length piece) && nat_le sink.room (length sink.put))
+write_fails sink piece =
+    is_due sink.plan || (nat_lt 0 (length piece) && nat_le sink.room (length sink.put))
 
 -- how many bytes a write takes: as many as the piece has, as it takes at most, and as fit
 abbrev pub write_count : SinkState → List ℕ → ℕ
@@ -64,7 +72,8 @@ write_count sink piece = min (min (length piece) sink.piece) (sink.room - length
 
 -- the sink after the first n bytes of a piece were put
 abbrev pub after_write : SinkState → ℕ → List ℕ → SinkState
-after_write sink n piece = record sink { put = sink.put ++ take n piece; plan = after_success sink.plan }
+after_write sink n piece =
+    record sink { put = sink.put ++ take n piece; plan = after_success sink.plan }
 
 -- the sink after a write that failed
 abbrev pub after_failed_write : SinkState → SinkState

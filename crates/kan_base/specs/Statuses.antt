@@ -1,7 +1,8 @@
 -- The exit codes of the statuses.
 use Rattle.std.specs.Prelude.{ℕ}
 use Rattle.kan_base.specs.declared.status.Status.{Status}
-use Rattle.kan_base.specs.declared.status.Status.TheVariants.{Done, Fuel, Usage, Text, ReadFault, WriteFault, TooLong, Memory}
+use Rattle.kan_base.specs.declared.status.Status.TheVariants.{Done, Fuel, Usage, Text, ReadFault}
+use Rattle.kan_base.specs.declared.status.Status.TheVariants.{WriteFault, TooLong, Memory}
 
 -- 0 where everything was done, and a number for each other status
 abbrev pub status_code : Status → ℕ

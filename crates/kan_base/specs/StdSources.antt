@@ -30,7 +30,8 @@ module _ {I F : Type 0} where
   open_kind (File reader) = OpenKind.file
 
   -- what is left of what is open, where its reader tells it
-  abbrev pub left_of : (I → Option (List ℕ)) → (F → Option (List ℕ)) → OpenStream I F → Option (List ℕ)
+  abbrev pub left_of : (I → Option (List ℕ)) → (F → Option (List ℕ)) → OpenStream I F →
+      Option (List ℕ)
   left_of input_left file_left Nothing = None
   left_of input_left file_left (Input reader) = input_left reader
   left_of input_left file_left (File reader) = file_left reader

@@ -1,5 +1,6 @@
 -- Texts that are read to their end.
-use Rattle.std.specs.Prelude.{◌≡◌, ℕ, ◌+◌, ◌≤◌, List, [], ◌++◌, length, Option, None, Some, Result, Ok, Err, ⊤}
+use Rattle.std.specs.Prelude.{◌≡◌, ℕ, ◌+◌, ◌≤◌, List, [], ◌++◌, length, Option, None, Some, Result}
+use Rattle.std.specs.Prelude.{Ok, Err, ⊤}
 use Rattle.std.specs.Io.KnownBytes.{Consumes}
 use Rattle.kan_base.specs.Faults.{one_more}
 use Rattle.kan_base.specs.declared.text.TextStop.{TextStop}
@@ -36,8 +37,10 @@ Stops Memory old new = TakesAtMost greatest_text old new
 -- why there is no text, where these bytes of it were taken before
 abbrev pub StopsAfter : List ℕ → TextStop → Option (List ℕ) → Option (List ℕ) → Type 0
 StopsAfter before Fault old new = ⊤
-StopsAfter before TooLong old new = (n : ℕ) × (length before + n ≡ greatest_text + 1) × TakesCount n old new
-StopsAfter before Memory old new = (n : ℕ) × (length before + n ≤ greatest_text) × TakesCount n old new
+StopsAfter before TooLong old new =
+    (n : ℕ) × (length before + n ≡ greatest_text + 1) × TakesCount n old new
+StopsAfter before Memory old new =
+    (n : ℕ) × (length before + n ≤ greatest_text) × TakesCount n old new
 
 -- how many calls have failed after the reading of a text: one more where it stopped at a fault,
 -- else as many as before

@@ -11,9 +11,12 @@ use Rattle.pull_bounds.specs.Finding.{IsSolvedAt}
 
 -- the answer of a kept store covers the values of variable 0 under the store's solutions
 abbrev pub SolutionsAreCovered : Type 0
-SolutionsAreCovered = (table : Table) (st : Store) (u : Gd) → is_kept st ≡ true → IsSolvedAt u st → Covers (answer_of table st) u
+SolutionsAreCovered =
+    (table : Table) (st : Store) (u : Gd) → is_kept st ≡ true → IsSolvedAt u st →
+    Covers (answer_of table st) u
 
 -- where the store's counter lies above its variables, these are exactly its instances
 abbrev pub InstancesAreValues : Type 0
 InstancesAreValues =
-    (table : Table) (st : Store) (u : Gd) → is_kept st ≡ true → is_counted st ≡ true → 1 ≤ st.counter → Covers (answer_of table st) u ↔ IsSolvedAt u st
+    (table : Table) (st : Store) (u : Gd) → is_kept st ≡ true → is_counted st ≡ true →
+    1 ≤ st.counter → Covers (answer_of table st) u ↔ IsSolvedAt u st

@@ -1,12 +1,15 @@
 //! Closing drafts, and reading programs.
 
-ghost use Rattle.std.specs.Prelude.{◌≡◌, ◌<◌, ◌≤◌, ◌↔◌, ◌^◌, ◌+◌, ◌-◌, ◌&&◌, take, drop, nat_lt, nat_le, min, length, map, true, false, IsTrue, IsSome, slice_get, option_map};
+ghost use Rattle.std.specs.Prelude.{◌≡◌, ◌<◌, ◌≤◌, ◌↔◌, ◌^◌, ◌+◌, ◌-◌, ◌&&◌, take, drop, nat_lt};
+ghost use Rattle.std.specs.Prelude.{nat_le, min, length, map, true, false, IsTrue, IsSome};
+ghost use Rattle.std.specs.Prelude.{slice_get, option_map};
 ghost use Rattle.std.specs.Option.{option_copied};
 ghost use Rattle.std.specs.List.{list_all};
 ghost use Rattle.kan_model.specs.Programs.Tables.{are_closed, goal_at, template_of, program_of};
 ghost use Rattle.kan_model.specs.Programs.Measures.{noted_width, goal_slots};
 ghost use Rattle.kan_model.specs.Programs.Scope.{is_low, calls_there, body_in_scope, in_scope};
-ghost use Rattle.kan_model.specs.Programs.Nodes.{term_entry, goal_entry, relation_entry, goal_place};
+ghost use Rattle.kan_model.specs.Programs.Nodes.{term_entry, goal_entry, relation_entry};
+ghost use Rattle.kan_model.specs.Programs.Nodes.{goal_place};
 ghost use Rattle.kan_model.specs.Programs.Calls.{call_there};
 ghost use Rattle.kan_model.specs.Programs.Drafts as drafts;
 ghost use Rattle.kan_model.specs.Programs.Closed as programs;
@@ -38,7 +41,10 @@ impl Draft {
 
     // Whether each call names a relation, and has as many arguments as it takes.
     fn are_calls_there(&self) -> bool
-        ensures { result ≡ list_all (λ row. call_there (map relation_entry self.now.relations.items) (goal_entry row.node)) self.now.goals.items }
+        ensures { result
+            ≡ list_all
+            (λ row. call_there (map relation_entry self.now.relations.items) (goal_entry row.node))
+            self.now.goals.items }
     {
         self.goals
             .iter()
@@ -54,7 +60,9 @@ impl Draft {
 
     // Whether a goal is there and uses only so many slots.
     fn uses_only(&self, goal: u32, slots: u32) -> bool
-        ensures { result ≡ (nat_lt goal (length (drafts.tables self.now).goals) && in_scope slots (goal_at (drafts.goals self.now) goal)) }
+        ensures { result
+            ≡ (nat_lt goal (length (drafts.tables self.now).goals)
+            && in_scope slots (goal_at (drafts.goals self.now) goal)) }
     {
         match self.goal_row(goal) {
             Some(row) => row.slots <= u64::from(slots),
@@ -64,7 +72,9 @@ impl Draft {
 
     // Whether each body uses only the slots of its arguments.
     fn are_bodies_in_scope(&self) -> bool
-        ensures { result ≡ list_all (λ r. nat_lt r.body (length (drafts.tables self.now).goals) && in_scope r.params (goal_at (drafts.goals self.now) r.body)) self.now.relations.items }
+        ensures { result
+            ≡ list_all (λ r. nat_lt r.body (length (drafts.tables self.now).goals)
+            && in_scope r.params (goal_at (drafts.goals self.now) r.body)) self.now.relations.items }
     {
         self.relations
             .iter()
@@ -73,7 +83,9 @@ impl Draft {
 
     // Whether the goals of all queries are there and use only slot 0.
     fn are_queries_closed(&self, queries: &[Query]) -> bool
-        ensures { result ≡ list_all (λ query. nat_lt query.goal (length (drafts.tables self.now).goals) && in_scope 1 (goal_at (drafts.goals self.now) query.goal)) queries.now }
+        ensures { result
+            ≡ list_all (λ query. nat_lt query.goal (length (drafts.tables self.now).goals)
+            && in_scope 1 (goal_at (drafts.goals self.now) query.goal)) queries.now }
     {
         queries.iter().all(|query| self.uses_only(query.goal, 1))
     }
@@ -104,7 +116,8 @@ impl Draft {
 impl Program {
     /// The template at a place, and None exactly past the end. It takes no memory.
     pub fn term(&self, at: u32) -> Option<&TermNode>
-        ensures { option_map term_entry (option_copied result) ≡ slice_get (programs.tables self.now).terms at }
+        ensures { option_map term_entry (option_copied result)
+            ≡ slice_get (programs.tables self.now).terms at }
     {
         match self.draft.terms.get(at as usize) {
             Some(row) => Some(&row.node),
@@ -114,7 +127,8 @@ impl Program {
 
     // The template at a place, and the empty list past the end.
     pub(crate) fn template_node(&self, at: u32) -> TermNode
-        ensures { programs.template self.now at ≡ template_of (programs.templates self.now) (term_entry result) }
+        ensures { programs.template self.now at
+            ≡ template_of (programs.templates self.now) (term_entry result) }
     {
         match self.term(at) {
             Some(node) => *node,
@@ -124,7 +138,8 @@ impl Program {
 
     /// The goal at a place, and None exactly past the end. It takes no memory.
     pub fn goal(&self, at: u32) -> Option<&GoalNode>
-        ensures { option_map goal_entry (option_copied result) ≡ slice_get (programs.tables self.now).goals at }
+        ensures { option_map goal_entry (option_copied result)
+            ≡ slice_get (programs.tables self.now).goals at }
     {
         match self.draft.goals.get(at as usize) {
             Some(row) => Some(&row.node),
@@ -142,7 +157,8 @@ impl Program {
         }
     }
 
-    /// The argument at a place, a template by its place, and None exactly past the end. It takes no memory.
+    /// The argument at a place, a template by its place, and None exactly past the end. It takes no
+    /// memory.
     pub fn argument(&self, at: u32) -> Option<u32>
         ensures { result ≡ slice_get (programs.tables self.now).arguments at }
     {
@@ -160,12 +176,14 @@ impl Program {
 
     /// The relation at a place, and None exactly past the end. It takes no memory.
     pub fn relation(&self, at: u32) -> Option<&Relation>
-        ensures { option_map relation_entry (option_copied result) ≡ slice_get (programs.tables self.now).relations at }
+        ensures { option_map relation_entry (option_copied result)
+            ≡ slice_get (programs.tables self.now).relations at }
     {
         self.draft.relations.get(at as usize)
     }
 
-    /// How many variables the goal at a place can take before its calls are forced, or the greatest u32 where they are
+    /// How many variables the goal at a place can take before its calls are forced, or the greatest
+    /// u32 where they are
     /// more; None exactly past the end. It takes no memory.
     pub fn width(&self, at: u32) -> Option<u32>
         ensures { result ≡ option_map noted_width (slice_get (programs.goals self.now) at) }

@@ -3,13 +3,15 @@
 ghost use Rattle.std.specs.Prelude.{◌≡◌, IsTrue};
 ghost use Rattle.kan_model.specs.Programs.Tables.{is_grown, templates_of, goals_of};
 ghost use Rattle.kan_model.specs.Programs.Nodes.{term_entries, tables_from};
-ghost use Rattle.kan_model.specs.Programs.Rows.{HeightsNoted, SlotsNoted, WidthsNoted, GoalSlotsNoted};
+ghost use Rattle.kan_model.specs.Programs.Rows.{HeightsNoted, SlotsNoted, WidthsNoted};
+ghost use Rattle.kan_model.specs.Programs.Rows.{GoalSlotsNoted};
 
 use crate::nodes::{GoalNode, GoalRow, Relation, TermNode, TermRow};
 use kan_terms::Memory;
 use std::alloc::Global;
 
-/// The tables of a program that grows. Each entry names entries that are there already, but a call may name a relation
+/// The tables of a program that grows. Each entry names entries that are there already, but a call
+/// may name a relation
 /// that comes later.
 #[derive(Drop)]
 pub struct Draft {
@@ -25,15 +27,25 @@ pub struct Draft {
 }
 
 impl Draft {
-    ghost use Rattle.std.specs.Prelude.{◌<◌, ◌≤◌, ◌-◌, ◌+◌, ◌^◌, min, max, [], ◌∷◌, ◌++◌, length, true, IfOk, OnOk, OnErr};
-    ghost use Rattle.kan_model.specs.Programs.Measures.{slots, most_slots, goal_slots, noted_height, noted_width};
-    ghost use Rattle.kan_model.specs.Programs.Tables.{template_at, template_of, goal_at, goal_of, is_term_grown, is_goal_grown, arguments_at, with_term, with_argument, with_goal, with_relation};
+    ghost use Rattle.std.specs.Prelude.{◌<◌, ◌≤◌, ◌-◌, ◌+◌, ◌^◌, min, max, [], ◌∷◌, ◌++◌, length};
+    ghost use Rattle.std.specs.Prelude.{true, IfOk, OnOk, OnErr};
+    ghost use Rattle.kan_model.specs.Programs.Measures.{slots, most_slots, goal_slots};
+    ghost use Rattle.kan_model.specs.Programs.Measures.{noted_height, noted_width};
+    ghost use Rattle.kan_model.specs.Programs.Tables.{template_at, template_of, goal_at, goal_of};
+    ghost use Rattle.kan_model.specs.Programs.Tables.{is_term_grown, is_goal_grown, arguments_at};
+    ghost use Rattle.kan_model.specs.Programs.Tables.{with_term, with_argument, with_goal};
+    ghost use Rattle.kan_model.specs.Programs.Tables.{with_relation};
     ghost use Rattle.kan_model.specs.Programs.Nodes.{term_entry, goal_entry, relation_entry};
     ghost use Rattle.kan_model.specs.Programs.Drafts.{tables, templates, goals};
 
     /// The draft without entries.
     pub fn new(alloc: Global) -> Draft
-        ensures { tables result ≡ record { terms = []; arguments = []; goals = []; relations = [] } }
+        ensures { tables result ≡ record {
+          terms = [];
+          arguments = [];
+          goals = [];
+          relations = [];
+        } }
     {
         Draft {
             terms: Vec::new(alloc),
@@ -70,7 +82,9 @@ impl Draft {
     fn two_slots(&self, left: u32, right: u32) -> u64
         requires left { left < length self.now.terms.items }
         requires right { right < length self.now.terms.items }
-        ensures { result ≡ max (slots (template_at (templates self.now) left)) (slots (template_at (templates self.now) right)) }
+        ensures { result
+            ≡ max (slots (template_at (templates self.now) left))
+            (slots (template_at (templates self.now) right)) }
     {
         self.one_slots(left).max(self.one_slots(right))
     }
@@ -90,7 +104,8 @@ impl Draft {
     // How many slots must be in scope for arguments.
     fn argument_slots(&self, at: u32, count: u32) -> u64
         requires { at + count ≤ length self.now.arguments.items }
-        ensures { result ≡ most_slots (arguments_at (templates self.now) self.now.arguments.items at count) }
+        ensures { result
+            ≡ most_slots (arguments_at (templates self.now) self.now.arguments.items at count) }
     {
         let from = at as usize;
         let to = from + count as usize;
@@ -118,8 +133,12 @@ impl Draft {
 
     // The width of a goal, as it is noted.
     fn noted_width(&self, node: GoalNode) -> u32
-        requires { is_goal_grown (tables self.now) (length self.now.goals.items) (goal_entry node) ≡ true }
-        ensures { result ≡ noted_width (goal_of (templates self.now) self.now.arguments.items (goals self.now) (goal_entry node)) }
+        requires { is_goal_grown (tables self.now) (length self.now.goals.items) (goal_entry node)
+            ≡ true }
+        ensures { result
+            ≡ noted_width
+            (goal_of (templates self.now) self.now.arguments.items (goals self.now)
+            (goal_entry node)) }
     {
         match node {
             GoalNode::Both(left, right) | GoalNode::Either(left, right) => {
@@ -142,8 +161,12 @@ impl Draft {
 
     // How many slots must be in scope for a goal.
     fn goal_slots(&self, node: GoalNode) -> u64
-        requires { is_goal_grown (tables self.now) (length self.now.goals.items) (goal_entry node) ≡ true }
-        ensures { result ≡ goal_slots (goal_of (templates self.now) self.now.arguments.items (goals self.now) (goal_entry node)) }
+        requires { is_goal_grown (tables self.now) (length self.now.goals.items) (goal_entry node)
+            ≡ true }
+        ensures { result
+            ≡ goal_slots
+            (goal_of (templates self.now) self.now.arguments.items (goals self.now)
+            (goal_entry node)) }
     {
         match node {
             GoalNode::Succeed | GoalNode::Fail => 0,
@@ -186,7 +209,8 @@ impl Draft {
         Ok(at)
     }
 
-    /// Adds an argument, a template by its place, to the table of arguments, and gives the argument's place.
+    /// Adds an argument, a template by its place, to the table of arguments, and gives the
+    /// argument's place.
     pub fn argument(&mut self, term: u32) -> Result<u32, Memory>
         requires there { term < length (tables self.old).terms }
         requires room { length (tables self.old).arguments < 2 ^ 32 - 1 }
@@ -201,7 +225,8 @@ impl Draft {
 
     /// Adds a goal, and gives its place.
     pub fn goal(&mut self, node: GoalNode) -> Result<u32, Memory>
-        requires there { is_goal_grown (tables self.old) (length (tables self.old).goals) (goal_entry node) ≡ true }
+        requires there { is_goal_grown (tables self.old) (length (tables self.old).goals)
+            (goal_entry node) ≡ true }
         requires room { length (tables self.old).goals < 2 ^ 32 - 1 }
         ensures added { OnOk result (tables self.new ≡ with_goal (tables self.old) (goal_entry node)) }
         ensures place { IfOk result (λ at. at ≡ length (tables self.old).goals) }
@@ -218,7 +243,8 @@ impl Draft {
     pub fn relation(&mut self, relation: Relation) -> Result<u32, Memory>
         requires there { relation.body < length (tables self.old).goals }
         requires room { length (tables self.old).relations < 2 ^ 32 - 1 }
-        ensures added { OnOk result (tables self.new ≡ with_relation (tables self.old) (relation_entry relation)) }
+        ensures added { OnOk result
+            (tables self.new ≡ with_relation (tables self.old) (relation_entry relation)) }
         ensures place { IfOk result (λ at. at ≡ length (tables self.old).relations) }
         ensures unchanged { OnErr result (tables self.new ≡ tables self.old) }
     {

@@ -123,7 +123,8 @@ impl Env {
 
     // The first letter of a template's term.
     fn template_letter(&self, program: &Program, term: u32) -> Letter
-        ensures { result ≡ letter_of (instance (terms_of self.now) (programs.template program.now term)) }
+        ensures { result
+            ≡ letter_of (instance (terms_of self.now) (programs.template program.now term)) }
     {
         match program.template_node(term) {
             TermNode::Slot(slot) => self.slot_letter(slot),
@@ -136,15 +137,23 @@ impl Env {
         }
     }
 
-    // Puts the parts of a template that is a pair on a stack of waiting templates, the first part on top.
+    // Puts the parts of a template that is a pair on a stack of waiting templates, the first part
+    // on top.
     fn wait_for_parts(
         &self,
         program: &Program,
         term: u32,
         waiting: &mut Vec<u32>,
     ) -> Result<(), Memory>
-        ensures { OnOk result (letter_of (instance (terms_of self.now) (programs.template program.now term)) ∷ letters_waiting (map (λ at. instance (terms_of self.now) (programs.template program.now at)) waiting.new.items)
-            ≡ spelling (instance (terms_of self.now) (programs.template program.now term)) ++ letters_waiting (map (λ at. instance (terms_of self.now) (programs.template program.now at)) waiting.old.items)) }
+        ensures { OnOk result
+            (letter_of (instance (terms_of self.now) (programs.template program.now term))
+            ∷ letters_waiting
+            (map (λ at. instance (terms_of self.now) (programs.template program.now at))
+            waiting.new.items)
+            ≡ spelling (instance (terms_of self.now) (programs.template program.now term))
+            ++ letters_waiting
+            (map (λ at. instance (terms_of self.now) (programs.template program.now at))
+            waiting.old.items)) }
     {
         match program.template_node(term) {
             TermNode::Pair(first, rest) => {
@@ -158,7 +167,8 @@ impl Env {
 
     // The letters of a template's term.
     fn spelled(&self, alloc: Global, program: &Program, term: u32) -> Result<Vec<Letter>, Memory>
-        ensures { IfOk result (λ letters. letters.items ≡ spelling (instance (terms_of self.now) (programs.template program.now term))) }
+        ensures { IfOk result (λ letters. letters.items
+            ≡ spelling (instance (terms_of self.now) (programs.template program.now term))) }
     {
         let mut letters = Vec::new(alloc);
         let mut waiting = Vec::new(alloc);

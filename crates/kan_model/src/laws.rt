@@ -5,7 +5,8 @@ ghost use Rattle.kan_model.specs.Answers.Decimals.{DecimalAsPrinted};
 ghost use Rattle.kan_model.specs.Answers.InForm.{AnswerInForm, FormIsSolved};
 ghost use Rattle.kan_model.specs.Streams.Stream.{AppendEmpty};
 ghost use Rattle.kan_model.specs.Stores.Composition.{FreshIsKept, SolverGoesOn};
-ghost use Rattle.kan_model.specs.Stores.Unifiers.{AnswerMostGeneral, AnswerUnifies, AppliedTwice, FactorsUnify, ReplacedIsGone};
+ghost use Rattle.kan_model.specs.Stores.Unifiers.{AnswerMostGeneral, AnswerUnifies, AppliedTwice};
+ghost use Rattle.kan_model.specs.Stores.Unifiers.{FactorsUnify, ReplacedIsGone};
 
 /// What the solver answers is a unifier of its equations.
 #[tactic(auto, using(crate::proofs::Solving::UnifierLaws::answer_unifies))]

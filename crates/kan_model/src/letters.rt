@@ -1,10 +1,14 @@
-//! Terms as lists of letters, so that plain code works on lists and never recurses on a term's depth.
+//! Terms as lists of letters, so that plain code works on lists and never recurses on a term's
+//! depth.
 
-ghost use Rattle.std.specs.Prelude.{◌≡◌, [], ◌∷◌, ◌++◌, IfOk, OnOk, IsSome, Some, option_map, IsTrue, ◌↔◌};
+ghost use Rattle.std.specs.Prelude.{◌≡◌, [], ◌∷◌, ◌++◌, IfOk, OnOk, IsSome, Some, option_map};
+ghost use Rattle.std.specs.Prelude.{IsTrue, ◌↔◌};
 ghost use Rattle.std.specs.List.{list_any};
 ghost use Rattle.kan_terms.specs.Tree.{term_eq, occurs};
 ghost use Rattle.kan_terms.specs.Terms.{tree};
-ghost use Rattle.kan_model.specs.Terms.Letters.{spelling, letter_of, waiting_spelling, IsAtomOf, join_two, stack_terms, put_letter, term_of, is_letter_of, letter_eq};
+ghost use Rattle.kan_model.specs.Terms.Letters.{spelling, letter_of, waiting_spelling, IsAtomOf};
+ghost use Rattle.kan_model.specs.Terms.Letters.{join_two, stack_terms, put_letter, term_of};
+ghost use Rattle.kan_model.specs.Terms.Letters.{is_letter_of, letter_eq};
 
 use kan_terms::{Memory, Term};
 use std::alloc::Global;
@@ -45,7 +49,8 @@ pub fn first_letter(term: &Term) -> Letter
 
 // Puts the parts of a pair on a stack of waiting terms, the first part on top.
 fn wait_for_parts<'a>(term: &'a Term, waiting: &mut Vec<&'a Term>) -> Result<(), Memory>
-    ensures { OnOk result (letter_of (tree term.now) ∷ waiting_spelling waiting.new.items ≡ spelling (tree term.now) ++ waiting_spelling waiting.old.items) }
+    ensures { OnOk result (letter_of (tree term.now) ∷ waiting_spelling waiting.new.items
+        ≡ spelling (tree term.now) ++ waiting_spelling waiting.old.items) }
 {
     if let Term::Pair(parts) = term {
         waiting.push(&parts.rest)?;
@@ -86,7 +91,8 @@ fn atom(letter: Letter) -> Option<Term>
 // Makes a pair of the two terms on top of the stack.
 fn join_top(alloc: Global, stack: &mut Vec<Term>) -> Result<(), Memory>
     requires { IsSome (join_two (stack_terms stack.old.items)) }
-    ensures { OnOk result (join_two (stack_terms stack.old.items) ≡ Some (stack_terms stack.new.items)) }
+    ensures { OnOk result (join_two (stack_terms stack.old.items)
+        ≡ Some (stack_terms stack.new.items)) }
 {
     let first = stack.pop().unwrap();
     let rest = stack.pop().unwrap();
@@ -97,7 +103,8 @@ fn join_top(alloc: Global, stack: &mut Vec<Term>) -> Result<(), Memory>
 // Puts the term of a letter on the stack, where a pair takes the two on top.
 fn put_on_stack(alloc: Global, letter: Letter, stack: &mut Vec<Term>) -> Result<(), Memory>
     requires { IsSome (put_letter letter (stack_terms stack.old.items)) }
-    ensures { OnOk result (put_letter letter (stack_terms stack.old.items) ≡ Some (stack_terms stack.new.items)) }
+    ensures { OnOk result (put_letter letter (stack_terms stack.old.items)
+        ≡ Some (stack_terms stack.new.items)) }
 {
     match atom(letter) {
         None => join_top(alloc, stack),

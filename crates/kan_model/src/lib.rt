@@ -1,4 +1,5 @@
-//! The model of miniKanren: programs, stores, streams, runs and answers, as definitions, and the trait of stores.
+//! The model of miniKanren: programs, stores, streams, runs and answers, as definitions, and the
+//! trait of stores.
 #![tactic(auto)]
 
 mod closing;

@@ -48,7 +48,8 @@ pub enum GoalNode {
     Fresh(u32, u32),
     /// The goal holds; the search pauses before it.
     Later(u32),
-    /// The relation holds of the templates from a place of the table of arguments on, as many as the last number says.
+    /// The relation holds of the templates from a place of the table of arguments on, as many as
+    /// the last number says.
     Call(u32, u32, u32),
 }
 

@@ -6,7 +6,8 @@ ghost use Rattle.kan_model.specs.Stores.Store as facts;
 ghost use Rattle.kan_model.specs.Stores.Kept.{is_kept};
 ghost use Rattle.kan_model.specs.Programs.Scope.{is_counted, sides_below};
 ghost use Rattle.kan_model.specs.Stores.Prims.{equation, prim as primitive};
-ghost use Rattle.kan_model.specs.Stores.Calls.{Gives, WalksTo, IsFree, kind_at, AreTags, AreDifferences, answer, differences};
+ghost use Rattle.kan_model.specs.Stores.Calls.{Gives, WalksTo, IsFree, kind_at, AreTags};
+ghost use Rattle.kan_model.specs.Stores.Calls.{AreDifferences, answer, differences};
 
 use crate::prims::{Asserted, Kind};
 use kan_terms::{Memory, PairLists, Tags, Term};
@@ -14,7 +15,8 @@ use std::alloc::Global;
 
 /// Constraints that were asserted one after the other, with a counter above all variables.
 ///
-/// A store never changes: each call gives a new one. Every store is kept, so its constraints have a solution.
+/// A store never changes: each call gives a new one. Every store is kept, so its constraints have a
+/// solution.
 pub trait Store: Sized + Drop {
     // The primitives that were asserted, in their order, and the counter.
     ghost meaning: { Self → facts.Store };
@@ -40,18 +42,23 @@ pub trait Store: Sized + Drop {
     /// The store with one more primitive, and None exactly where that isn't kept.
     fn assert(&self, alloc: Global, prim: &Asserted) -> Result<Option<Self>, Memory>
         requires below { sides_below (meaning self.now).counter (primitive prim.now) ≡ true }
-        ensures { IfOk result (λ made. Gives (facts.with_prim (meaning self.now) (primitive prim.now)) (option_map meaning made)) };
+        ensures { IfOk result
+            (λ made. Gives (facts.with_prim (meaning self.now) (primitive prim.now))
+            (option_map meaning made)) };
 
     /// What `assert` gives, made of this store itself: in place where nobody else holds it.
     fn assert_owned(self, alloc: Global, prim: &Asserted) -> Result<Option<Self>, Memory>
         requires below { sides_below (meaning self).counter (primitive prim.now) ≡ true }
-        ensures { IfOk result (λ made. Gives (facts.with_prim (meaning self) (primitive prim.now)) (option_map meaning made)) };
+        ensures { IfOk result
+            (λ made. Gives (facts.with_prim (meaning self) (primitive prim.now))
+            (option_map meaning made)) };
 
     /// An equal store.
     fn again(&self, alloc: Global) -> Result<Self, Memory>
         ensures { IfOk result (λ made. meaning made ≡ meaning self.now) };
 
-    /// What a variable stands for, as far as its first pair; all else is given back. It takes no memory.
+    /// What a variable stands for, as far as its first pair; all else is given back. It takes no
+    /// memory.
     fn walk<'a>(&'a self, term: &'a Term) -> &'a Term
         ensures { WalksTo (answer (meaning self.now)) (tree term.now) (tree result.now) };
 
@@ -65,10 +72,13 @@ pub trait Store: Sized + Drop {
         requires { IsFree (meaning self.now) var }
         ensures { IfOk result (AreTags (meaning self.now) var) };
 
-    /// For each disequality whose sides may still become equal, pairs that are all equal exactly where its sides are, in
+    /// For each disequality whose sides may still become equal, pairs that are all equal exactly
+    /// where its sides are, in
     /// the order of assertion.
     fn differences(&self, alloc: Global) -> Result<PairLists, Memory>
-        ensures { IfOk result (λ lists. AreDifferences (meaning self.now) (differences (meaning self.now).prims) (map (map equation) lists)) };
+        ensures { IfOk result
+            (λ lists. AreDifferences (meaning self.now) (differences (meaning self.now).prims)
+            (map (map equation) lists)) };
 
     // Every store is kept.
     ghost kept: { (store : Self) → is_kept (meaning store) ≡ true };

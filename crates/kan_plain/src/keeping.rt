@@ -77,7 +77,8 @@ fn is_without(alloc: Global, answer: &[Replaced], tag: u32, term: &Term) -> Resu
 
 // Whether a primitive is allowed under the answer.
 fn allows(alloc: Global, answer: &[Replaced], prim: &Asserted) -> Result<bool, Memory>
-    ensures { IfOk result (λ allowed. allowed ≡ kept.allows (map replaced_by answer.now) (primitive prim.now)) }
+    ensures { IfOk result
+        (λ allowed. allowed ≡ kept.allows (map replaced_by answer.now) (primitive prim.now)) }
 {
     match prim {
         Asserted::Same(_, _) => Ok(true),
@@ -91,7 +92,9 @@ fn allows(alloc: Global, answer: &[Replaced], prim: &Asserted) -> Result<bool, M
 
 // Whether all primitives are allowed under the answer.
 fn all_allowed(alloc: Global, answer: &[Replaced], prims: &[Asserted]) -> Result<bool, Memory>
-    ensures { IfOk result (λ allowed. allowed ≡ list_all (kept.allows (map replaced_by answer.now)) (map primitive prims.now)) }
+    ensures { IfOk result
+        (λ allowed. allowed
+        ≡ list_all (kept.allows (map replaced_by answer.now)) (map primitive prims.now)) }
 {
     for prim in prims {
         let allowed = allows(alloc, answer, prim)?;
@@ -115,7 +118,8 @@ fn lacks_type(kind: Kind, answer: &[Replaced], prims: &[Asserted], term: &Term) 
 
 // Whether a primitive gives no variable a second type.
 fn gives_one_type(answer: &[Replaced], prims: &[Asserted], prim: &Asserted) -> bool
-    ensures { result ≡ kept.gives_one_type (map replaced_by answer.now) (map primitive prims.now) (primitive prim.now) }
+    ensures { result ≡ kept.gives_one_type (map replaced_by answer.now) (map primitive prims.now)
+        (primitive prim.now) }
 {
     match prim {
         Asserted::Symbol(term) => {
@@ -129,7 +133,9 @@ fn gives_one_type(answer: &[Replaced], prims: &[Asserted], prim: &Asserted) -> b
 
 // Whether no variable has two types.
 fn all_of_one_type(answer: &[Replaced], prims: &[Asserted]) -> bool
-    ensures { result ≡ list_all (kept.gives_one_type (map replaced_by answer.now) (map primitive prims.now)) (map primitive prims.now) }
+    ensures { result
+        ≡ list_all (kept.gives_one_type (map replaced_by answer.now) (map primitive prims.now))
+        (map primitive prims.now) }
 {
     for prim in prims {
         if !gives_one_type(answer, prims, prim) {
@@ -145,7 +151,8 @@ pub(crate) fn holds_under(
     answer: &[Replaced],
     prims: &[Asserted],
 ) -> Result<bool, Memory>
-    ensures { IfOk result (λ hold. hold ≡ kept.holds_under (map primitive prims.now) (map replaced_by answer.now)) }
+    ensures { IfOk result
+        (λ hold. hold ≡ kept.holds_under (map primitive prims.now) (map replaced_by answer.now)) }
 {
     let allowed = all_allowed(alloc, answer, prims)?;
     Ok(allowed & all_of_one_type(answer, prims))

@@ -1,4 +1,5 @@
-//! What variables stand for under an answer: their terms, their types and the tags kept out of them.
+//! What variables stand for under an answer: their terms, their types and the tags kept out of
+//! them.
 
 ghost use Rattle.std.specs.Prelude.{◌≡◌, ◌++◌, ◌∷◌, [], map, IfOk, OnOk};
 ghost use Rattle.std.specs.List.{flat_map};
@@ -26,7 +27,8 @@ pub(crate) fn looked<'a>(answer: &'a [Replaced], term: &'a Term) -> &'a Term
 
 // Whether a term stands for this variable.
 fn is_variable(answer: &[Replaced], term: &Term, var: u64) -> bool
-    ensures { result ≡ kept.is_variable var (image_of (map replaced_by answer.now) (tree term.now)) }
+    ensures { result
+        ≡ kept.is_variable var (image_of (map replaced_by answer.now) (tree term.now)) }
 {
     match looked(answer, term) {
         Term::Var(other) => var == *other,
@@ -48,7 +50,8 @@ fn gives_type(kind: Kind, answer: &[Replaced], var: u64, prim: &Asserted) -> boo
 
 // Whether a variable has a type.
 pub(crate) fn has_type(kind: Kind, answer: &[Replaced], prims: &[Asserted], var: u64) -> bool
-    ensures { result ≡ kept.has_type kind (map replaced_by answer.now) (map primitive prims.now) var }
+    ensures { result
+        ≡ kept.has_type kind (map replaced_by answer.now) (map primitive prims.now) var }
 {
     for prim in prims {
         if gives_type(kind, answer, var, prim) {
@@ -81,7 +84,8 @@ fn push_tag(
     prim: &Asserted,
     tags: &mut Tags,
 ) -> Result<(), Memory>
-    ensures { OnOk result (tags.new ≡ tags.old ++ tag_at (map replaced_by answer.now) var (primitive prim.now)) }
+    ensures { OnOk result
+        (tags.new ≡ tags.old ++ tag_at (map replaced_by answer.now) var (primitive prim.now)) }
 {
     if let Asserted::Absent(tag, term) = prim {
         let image = apply(alloc, answer, term)?;
@@ -101,7 +105,9 @@ pub(crate) fn list_tags(
     prims: &[Asserted],
     var: u64,
 ) -> Result<Tags, Memory>
-    ensures { IfOk result (λ tags. tags ≡ flat_map (tag_at (map replaced_by answer.now) var) (map primitive prims.now)) }
+    ensures { IfOk result
+        (λ tags. tags
+        ≡ flat_map (tag_at (map replaced_by answer.now) var) (map primitive prims.now)) }
 {
     let mut tags = ListOf::new(alloc);
     for prim in prims {
@@ -112,7 +118,10 @@ pub(crate) fn list_tags(
 
 // The list of one pair, that of two terms.
 fn only_pair(alloc: Global, left: &Term, right: &Term) -> Result<TermPairs, Memory>
-    ensures { IfOk result (λ pairs. map equation pairs ≡ record { left = tree left.now; right = tree right.now } ∷ []) }
+    ensures { IfOk result (λ pairs. map equation pairs ≡ record {
+      left = tree left.now;
+      right = tree right.now;
+    } ∷ []) }
 {
     let first = left.again()?;
     let rest = right.again()?;
@@ -125,7 +134,8 @@ fn only_pair(alloc: Global, left: &Term, right: &Term) -> Result<TermPairs, Memo
 
 // Adds the sides of a disequality.
 fn push_difference(alloc: Global, prim: &Asserted, lists: &mut PairLists) -> Result<(), Memory>
-    ensures { OnOk result (map (map equation) lists.new ≡ map (map equation) lists.old ++ difference_at (primitive prim.now)) }
+    ensures { OnOk result (map (map equation) lists.new ≡ map (map equation) lists.old
+        ++ difference_at (primitive prim.now)) }
 {
     if let Asserted::Differ(left, right) = prim {
         let pairs = only_pair(alloc, left, right)?;
@@ -138,7 +148,8 @@ fn push_difference(alloc: Global, prim: &Asserted, lists: &mut PairLists) -> Res
 
 // The sides of each disequality, in their order.
 pub(crate) fn list_differences(alloc: Global, prims: &[Asserted]) -> Result<PairLists, Memory>
-    ensures { IfOk result (λ lists. map (map equation) lists ≡ flat_map difference_at (map primitive prims.now)) }
+    ensures { IfOk result (λ lists. map (map equation) lists
+        ≡ flat_map difference_at (map primitive prims.now)) }
 {
     let mut lists = ListOf::new(alloc);
     for prim in prims {

@@ -1,6 +1,7 @@
 //! The plain store: the list of primitives as they were asserted, solved anew at each step.
 
-ghost use Rattle.std.specs.Prelude.{◌≡◌, ◌^◌, ◌≤◌, ◌++◌, ◌∷◌, [], true, map, IfOk, OnOk, IsTrue, option_map};
+ghost use Rattle.std.specs.Prelude.{◌≡◌, ◌^◌, ◌≤◌, ◌++◌, ◌∷◌, [], true, map, IfOk, OnOk, IsTrue};
+ghost use Rattle.std.specs.Prelude.{option_map};
 ghost use Rattle.kan_model.specs.Stores.Solve as spec;
 ghost use Rattle.kan_model.specs.Stores.Kept.{is_kept};
 ghost use Rattle.kan_model.specs.Programs.Scope.{is_counted};
@@ -30,7 +31,8 @@ pub struct PlainStore {
 
 // Adds the equation of a primitive, where it is one.
 fn push_equation(prim: &Asserted, listed: &mut Vec<TermPair>) -> Result<(), Memory>
-    ensures { OnOk result (map equation listed.new.items ≡ map equation listed.old.items ++ equations (primitive prim.now ∷ [])) }
+    ensures { OnOk result (map equation listed.new.items ≡ map equation listed.old.items
+        ++ equations (primitive prim.now ∷ [])) }
 {
     if let Asserted::Same(left, right) = prim {
         let first = left.again()?;
@@ -42,7 +44,8 @@ fn push_equation(prim: &Asserted, listed: &mut Vec<TermPair>) -> Result<(), Memo
 
 // The equations of primitives, in their order.
 fn list_equations(alloc: Global, prims: &[Asserted]) -> Result<Vec<TermPair>, Memory>
-    ensures { IfOk result (λ listed. map equation listed.items ≡ equations (map primitive prims.now)) }
+    ensures { IfOk result (λ listed. map equation listed.items
+        ≡ equations (map primitive prims.now)) }
 {
     let mut listed = Vec::new(alloc);
     for prim in prims {
@@ -62,7 +65,8 @@ fn stack_equations(alloc: Global, prims: &[Asserted]) -> Result<Vec<TermPair>, M
 
 // The answer of the equations of primitives.
 fn answer_of(alloc: Global, prims: &[Asserted]) -> Result<Option<Vec<Replaced>>, Memory>
-    ensures { IfOk result (λ answer. option_map (λ made. map replaced_by made.items) answer ≡ spec.solve (equations (map primitive prims.now))) }
+    ensures { IfOk result (λ answer. option_map (λ made. map replaced_by made.items) answer
+        ≡ spec.solve (equations (map primitive prims.now))) }
 {
     let pending = stack_equations(alloc, prims)?;
     solve(alloc, pending, &LeftFirst)
@@ -73,7 +77,12 @@ impl PlainStore {
     fn of(alloc: Global, prims: Vec<Asserted>, counter: u64) -> Result<Option<PlainStore>, Memory>
         requires counted { is_counted (record { prims = map primitive prims.items; counter = counter }) ≡ true }
         requires bounded { counter ≤ 2 ^ 63 }
-        ensures { IfOk result (λ made. Gives (record { prims = map primitive prims.items; counter = counter }) (option_map (λ store. record { prims = map primitive store.prims.items; counter = store.counter }) made)) }
+        ensures { IfOk result
+            (λ made. Gives (record { prims = map primitive prims.items; counter = counter })
+            (option_map (λ store. record {
+              prims = map primitive store.prims.items;
+              counter = store.counter;
+            }) made)) }
     {
         let Some(answer) = answer_of(alloc, &prims)? else {
             return Ok(None);

@@ -1,8 +1,16 @@
--- The reasons for which a text is refused: the table of their numbers and names, and the line that says so.
+-- The reasons for which a text is refused: the table of their numbers and names, and the line that
+-- says so.
 use Rattle.std.specs.Prelude.{ℕ, zero, List, [], ◌∷◌, ◌++◌, suc, slice_get, Option, None, codes}
 use Rattle.std.specs.Fmt.{decimal}
 use Rattle.kan_refusals.specs.declared.refusals.Refusal.{Refusal}
-use Rattle.kan_refusals.specs.declared.refusals.Refusal.TheVariants.{NotUtf8, UnclosedList, StrayClose, BadToken, BadDot, TooDeep, NumberRange, ReservedName, UnknownForm, BadShape, UnboundName, UnknownRelation, WrongCount, DefinedTwice, BadTag, BadString}
+use Rattle.kan_refusals.specs.declared.refusals.Refusal.TheVariants.{NotUtf8, UnclosedList}
+use Rattle.kan_refusals.specs.declared.refusals.Refusal.TheVariants.{StrayClose, BadToken, BadDot}
+use Rattle.kan_refusals.specs.declared.refusals.Refusal.TheVariants.{TooDeep, NumberRange}
+use Rattle.kan_refusals.specs.declared.refusals.Refusal.TheVariants.{ReservedName, UnknownForm}
+use Rattle.kan_refusals.specs.declared.refusals.Refusal.TheVariants.{BadShape, UnboundName}
+use Rattle.kan_refusals.specs.declared.refusals.Refusal.TheVariants.{UnknownRelation, WrongCount}
+use Rattle.kan_refusals.specs.declared.refusals.Refusal.TheVariants.{DefinedTwice, BadTag}
+use Rattle.kan_refusals.specs.declared.refusals.Refusal.TheVariants.{BadString}
 
 -- the number of a refusal, and what it is called
 pub record Entry : Type 0 where
@@ -37,7 +45,9 @@ text_of refusal = (entry refusal).text
 -- all refusals, in the order of their numbers, which begin with 1
 abbrev pub all_refusals : List Refusal
 all_refusals =
-    NotUtf8 ∷ UnclosedList ∷ StrayClose ∷ BadToken ∷ BadDot ∷ TooDeep ∷ NumberRange ∷ ReservedName ∷ UnknownForm ∷ BadShape ∷ UnboundName ∷ UnknownRelation ∷ WrongCount ∷ DefinedTwice ∷ BadTag ∷ BadString ∷ []
+    NotUtf8 ∷ UnclosedList ∷ StrayClose ∷ BadToken ∷ BadDot ∷ TooDeep ∷ NumberRange ∷ ReservedName
+    ∷ UnknownForm ∷ BadShape ∷ UnboundName ∷ UnknownRelation ∷ WrongCount ∷ DefinedTwice
+    ∷ BadTag ∷ BadString ∷ []
 
 -- the refusal of a number, where it has one
 abbrev pub refusal_of : ℕ → Option Refusal
@@ -46,4 +56,6 @@ refusal_of (suc number) = slice_get all_refusals number
 
 -- the one line of a refused text: the number of the refusal, the offset, and what it is
 abbrev pub error_line : ℕ → Refusal → List ℕ
-error_line at refusal = (codes "error " ++ decimal (number_of refusal) ++ codes " at " ++ decimal at ++ codes ": " ++ text_of refusal) ++ 10 ∷ []
+error_line at refusal =
+    (codes "error " ++ decimal (number_of refusal) ++ codes " at " ++ decimal at ++ codes ": "
+    ++ text_of refusal) ++ 10 ∷ []

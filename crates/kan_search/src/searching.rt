@@ -61,7 +61,8 @@ impl<'a, St: Store, N: Nodes<St> + Drop> Search<'a, St, N> {
     ghost use Rattle.kan_search.specs.SolutionsLeft.{KeepsSolutions, MissesNone};
     ghost use Rattle.kan_search.specs.Waiting.{GivesNone, WantsPull};
 
-    /// The search of a run over a table of its program, at a fuel from 1 to 1,000,000. A batch makes
+    /// The search of a run over a table of its program, at a fuel from 1 to 1,000,000. A batch
+    /// makes
     /// at most so many pulls as a round has, from 1 to 65,536.
     pub fn open(
         alloc: Global,

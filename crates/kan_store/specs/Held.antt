@@ -7,7 +7,13 @@ use Rattle.kan_store.specs.declared.solved.Solved.{Solved}
 use Rattle.kan_store.specs.declared.store.Held.{Held}
 
 abbrev pub parts_of : {B : Type 0} → (B → Pairs) → Solved B → Parts
-parts_of pairs solved = record { bound = pairs solved.bindings; types = types solved.kinds; tags = tags solved.absences; lists = solved.diseqs }
+parts_of pairs solved =
+    record {
+      bound = pairs solved.bindings;
+      types = types solved.kinds;
+      tags = tags solved.absences;
+      lists = solved.diseqs;
+    }
 
 -- the primitives that were asserted, and the counter
 abbrev pub store_of : {B : Type 0} → Held B → Store

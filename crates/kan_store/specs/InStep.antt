@@ -20,15 +20,23 @@ use Rattle.kan_store.specs.Asked.{asked}
 
 -- the types of variables that aren't bound are those that the store's primitives give them
 abbrev pub TypesInStep : Pairs → Types → Replacement → List (Primitive Tm) → Type 0
-TypesInStep bound types s ps = (v : ℕ) → bound_to v bound ≡ None → (k : Kind) → (types v ≡ Some k → has_type k s ps v ≡ true) × (has_type k s ps v ≡ true → types v ≡ Some k)
+TypesInStep bound types s ps =
+    (v : ℕ) → bound_to v bound ≡ None → (k : Kind) → (types v ≡ Some k → has_type k s ps v ≡ true)
+    × (has_type k s ps v ≡ true → types v ≡ Some k)
 
 -- the tags of variables that aren't bound are those whose absence the store's primitives give them
 abbrev pub TagsInStep : Pairs → TagsOf → Replacement → List (Primitive Tm) → Type 0
-TagsInStep bound tags s ps = (v : ℕ) → bound_to v bound ≡ None → (tag : ℕ) → (is_listed tag (tags v) ≡ true → has_absence s ps tag v ≡ true) × (has_absence s ps tag v ≡ true → is_listed tag (tags v) ≡ true)
+TagsInStep bound tags s ps =
+    (v : ℕ) → bound_to v bound ≡ None → (tag : ℕ) →
+    (is_listed tag (tags v) ≡ true → has_absence s ps tag v ≡ true)
+    × (has_absence s ps tag v ≡ true → is_listed tag (tags v) ≡ true)
 
--- The bindings make of each term what the answer s of the store's equations makes of it, types and absences of unbound variables are those that
--- the primitives give, the disequalities are brought up to the bindings and watchable, and each primitive is allowed.
-pub record InStep (bound : Pairs) (types : Types) (tags : TagsOf) (lists : List Disequality) (st : Store) : Type 0 where
+-- The bindings make of each term what the answer s of the store's equations makes of it, types and
+-- absences of unbound variables are those that
+-- the primitives give, the disequalities are brought up to the bindings and watchable, and each
+-- primitive is allowed.
+pub record InStep (bound : Pairs) (types : Types) (tags : TagsOf) (lists : List Disequality)
+    (st : Store) : Type 0 where
   pub answer : Replacement
   pub no_cycle : HasNoCycle bound
   pub solved : solve_store st ≡ Some answer

@@ -35,58 +35,83 @@ pub record SameParts (old new : Parts) : Type 0 where
   pub tags : (v : ℕ) → new.tags v ≡ old.tags v
   pub lists : new.lists ≡ old.lists
 
--- The parts with an equation more: its bindings are added, types and absences go over to the terms of the variables that were bound, and the
--- disequalities are brought up to the bindings. There are none where one of these steps can't be made.
+-- The parts with an equation more: its bindings are added, types and absences go over to the terms
+-- of the variables that were bound, and the
+-- disequalities are brought up to the bindings. There are none where one of these steps can't be
+-- made.
 pub data Equated (old : Parts) (a b : Tm) : Option Parts → Type 0 where
   no_unifier : Unifying old.bound (equation a b ∷ []) None → Equated old a b None
-  no_type : {added : List (Tm × Tm)} {bound : Pairs} → Unifying old.bound (equation a b ∷ []) (Some added) → AddedTo old.bound added bound → HasNoCycle bound →
+  no_type : {added : List (Tm × Tm)} {bound : Pairs} →
+      Unifying old.bound (equation a b ∷ []) (Some added) → AddedTo old.bound added bound →
+      HasNoCycle bound →
       TypesMove bound old.types added None → Equated old a b None
-  no_absence : {added : List (Tm × Tm)} {bound : Pairs} → Unifying old.bound (equation a b ∷ []) (Some added) → AddedTo old.bound added bound → HasNoCycle bound →
+  no_absence : {added : List (Tm × Tm)} {bound : Pairs} →
+      Unifying old.bound (equation a b ∷ []) (Some added) → AddedTo old.bound added bound →
+      HasNoCycle bound →
       TagsMove bound old.tags added None → Equated old a b None
-  no_difference : {added : List (Tm × Tm)} {bound : Pairs} → Unifying old.bound (equation a b ∷ []) (Some added) → AddedTo old.bound added bound → HasNoCycle bound →
+  no_difference : {added : List (Tm × Tm)} {bound : Pairs} →
+      Unifying old.bound (equation a b ∷ []) (Some added) → AddedTo old.bound added bound →
+      HasNoCycle bound →
       list_any (is_identical bound) old.lists ≡ true → Equated old a b None
-  equated : {added : List (Tm × Tm)} {new : Parts} → Unifying old.bound (equation a b ∷ []) (Some added) → AddedTo old.bound added new.bound → HasNoCycle new.bound →
-      TypesMove new.bound old.types added (Some new.types) → TagsMove new.bound old.tags added (Some new.tags) →
-      list_any (is_identical new.bound) old.lists ≡ false → Brought new.bound old.lists new.lists → are_watchable new.bound new.lists ≡ true → Equated old a b (Some new)
+  equated : {added : List (Tm × Tm)} {new : Parts} →
+      Unifying old.bound (equation a b ∷ []) (Some added) → AddedTo old.bound added new.bound →
+      HasNoCycle new.bound →
+      TypesMove new.bound old.types added (Some new.types) →
+      TagsMove new.bound old.tags added (Some new.tags) →
+      list_any (is_identical new.bound) old.lists ≡ false → Brought new.bound old.lists new.lists →
+      are_watchable new.bound new.lists ≡ true → Equated old a b (Some new)
 
--- disequalities brought up to bindings that were made, beside types and absences; there are none where one of them is false by now
-pub data BroughtUp (bound : Pairs) (types : Types) (tags : TagsOf) (lists : List Disequality) : Option Parts → Type 0 where
+-- disequalities brought up to bindings that were made, beside types and absences; there are none
+-- where one of them is false by now
+pub data BroughtUp (bound : Pairs) (types : Types) (tags : TagsOf)
+    (lists : List Disequality) : Option Parts → Type 0 where
   one_false : list_any (is_identical bound) lists ≡ true → BroughtUp bound types tags lists None
-  all_differ : {new : Parts} → new.bound ≡ bound → new.types ≡ types → new.tags ≡ tags → list_any (is_identical bound) lists ≡ false → Brought bound lists new.lists →
+  all_differ : {new : Parts} → new.bound ≡ bound → new.types ≡ types → new.tags ≡ tags →
+      list_any (is_identical bound) lists ≡ false → Brought bound lists new.lists →
       are_watchable bound new.lists ≡ true → BroughtUp bound types tags lists (Some new)
 
 -- and absences that went over to the terms of the variables that were bound
-pub data CarriedTags (bound : Pairs) (added : List (Tm × Tm)) (types : Types) (tags : TagsOf) (lists : List Disequality) : Option Parts → Type 0 where
+pub data CarriedTags (bound : Pairs) (added : List (Tm × Tm)) (types : Types) (tags : TagsOf)
+    (lists : List Disequality) : Option Parts → Type 0 where
   tags_clash : TagsMove bound tags added None → CarriedTags bound added types tags lists None
-  tags_moved : {moved : TagsOf} {r : Option Parts} → TagsMove bound tags added (Some moved) → BroughtUp bound types moved lists r → CarriedTags bound added types tags lists r
+  tags_moved : {moved : TagsOf} {r : Option Parts} → TagsMove bound tags added (Some moved) →
+      BroughtUp bound types moved lists r → CarriedTags bound added types tags lists r
 
 -- and types that did
-pub data CarriedTypes (bound : Pairs) (added : List (Tm × Tm)) (types : Types) (tags : TagsOf) (lists : List Disequality) : Option Parts → Type 0 where
+pub data CarriedTypes (bound : Pairs) (added : List (Tm × Tm)) (types : Types) (tags : TagsOf)
+    (lists : List Disequality) : Option Parts → Type 0 where
   types_clash : TypesMove bound types added None → CarriedTypes bound added types tags lists None
-  types_moved : {moved : Types} {r : Option Parts} → TypesMove bound types added (Some moved) → CarriedTags bound added moved tags lists r → CarriedTypes bound added types tags lists r
+  types_moved : {moved : Types} {r : Option Parts} → TypesMove bound types added (Some moved) →
+      CarriedTags bound added moved tags lists r → CarriedTypes bound added types tags lists r
 
 -- the parts with a type more
 pub data Typing (old : Parts) (kind : Kind) (t : Tm) : Option Parts → Type 0 where
   not_typed : GivesTypes old.types kind (walked old.bound t) None → Typing old kind t None
-  typed : {types : Types} → GivesTypes old.types kind (walked old.bound t) (Some types) → Typing old kind t (Some (record old { types = types }))
+  typed : {types : Types} → GivesTypes old.types kind (walked old.bound t) (Some types) →
+      Typing old kind t (Some (record old { types = types }))
 
 -- the parts with an absence more
 pub data Keeping (old : Parts) (tag : ℕ) (t : Tm) : Option Parts → Type 0 where
   not_kept : GivesTag old.tags tag (full old.bound t) None → Keeping old tag t None
-  kept : {tags : TagsOf} → GivesTag old.tags tag (full old.bound t) (Some tags) → Keeping old tag t (Some (record old { tags = tags }))
+  kept : {tags : TagsOf} → GivesTag old.tags tag (full old.bound t) (Some tags) →
+      Keeping old tag t (Some (record old { tags = tags }))
 
 -- the parts with a disequality more
 pub data Differing (old : Parts) (a b : Tm) : Option Parts → Type 0 where
   identical : term_eq (full old.bound a) (full old.bound b) ≡ true → Differing old a b None
-  differs : {lists : List Disequality} → term_eq (full old.bound a) (full old.bound b) ≡ false → Brought old.bound (old.lists ++ (equation a b ∷ []) ∷ []) lists →
+  differs : {lists : List Disequality} → term_eq (full old.bound a) (full old.bound b) ≡ false →
+      Brought old.bound (old.lists ++ (equation a b ∷ []) ∷ []) lists →
       are_watchable old.bound lists ≡ true → Differing old a b (Some (record old { lists = lists }))
 
 -- what is left of disequalities, each solved anew
 pub data Resolved (bound : Pairs) : List Disequality → List (List Equation) → Type 0 where
   none_left : Resolved bound [] []
-  still : {es : Disequality} {more : List Disequality} {added : List (Tm × Tm)} {lists : List (List Equation)} →
-      Unifying bound es (Some added) → Resolved bound more lists → Resolved bound (es ∷ more) (added_equations added ∷ lists)
-  gone : {es : Disequality} {more : List Disequality} {lists : List (List Equation)} → Unifying bound es None → Resolved bound more lists → Resolved bound (es ∷ more) lists
+  still : {es : Disequality} {more : List Disequality} {added : List (Tm × Tm)}
+      {lists : List (List Equation)} →
+      Unifying bound es (Some added) → Resolved bound more lists →
+      Resolved bound (es ∷ more) (added_equations added ∷ lists)
+  gone : {es : Disequality} {more : List Disequality} {lists : List (List Equation)} →
+      Unifying bound es None → Resolved bound more lists → Resolved bound (es ∷ more) lists
 
 -- the parts with a primitive more
 abbrev pub Adding : Parts → Primitive Tm → Option Parts → Type 0

@@ -35,7 +35,9 @@ of_parts-parts (Primitive.text a) = refl
 of_parts-parts (Primitive.absent tag a) = refl
 
 abbrev pub parts_code : Coded Parts
-parts_code = coded⊎ (coded⊎ sides_code sides_code) (coded⊎ (coded⊎ term_code (coded⊎ term_code term_code)) (coded× coded_ℕ term_code))
+parts_code =
+    coded⊎ (coded⊎ sides_code sides_code)
+    (coded⊎ (coded⊎ term_code (coded⊎ term_code term_code)) (coded× coded_ℕ term_code))
 
 abbrev pub prim_code : Coded (Primitive Tm)
 prim_code = code_by Parts parts_code parts of_parts of_parts-parts

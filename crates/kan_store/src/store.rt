@@ -1,6 +1,7 @@
 //! The solved store: constraints that are solved as they come.
 
-ghost use Rattle.std.specs.Prelude.{◌≡◌, ◌^◌, ◌≤◌, ◌+◌, ◌++◌, ◌∷◌, [], true, map, IfOk, IsTrue, OnOk};
+ghost use Rattle.std.specs.Prelude.{◌≡◌, ◌^◌, ◌≤◌, ◌+◌, ◌++◌, ◌∷◌, [], true, map, IfOk, IsTrue};
+ghost use Rattle.std.specs.Prelude.{OnOk};
 ghost use Rattle.std.specs.Option.{option_to_list};
 ghost use Rattle.std.specs.Arc.{arc_value};
 ghost use Rattle.kan_model.specs.Programs.Scope.{is_counted};
@@ -54,7 +55,8 @@ impl<'a> Tells<Longer<'a>> for Behind {
 
 // What is held once more, with another counter. The trees are shared.
 fn copied_with<B: Bindings>(held: &Held<B>, counter: u64) -> Result<Held<B>, Memory>
-    ensures same { IfOk result (λ copy. SameParts (parts_of B.pairs held.now.solved) (parts_of B.pairs copy.solved)) }
+    ensures same { IfOk result
+        (λ copy. SameParts (parts_of B.pairs held.now.solved) (parts_of B.pairs copy.solved)) }
     ensures prims { IfOk result (λ copy. copy.history.prims ≡ held.now.history.prims) }
     ensures counter { IfOk result (λ copy. copy.counter ≡ counter) }
 {
@@ -67,7 +69,8 @@ fn copied_with<B: Bindings>(held: &Held<B>, counter: u64) -> Result<Held<B>, Mem
 
 // What a pointer holds: itself where nobody else has the pointer, and else a copy.
 fn owned<B: Bindings>(held: Arc<Held<B>>) -> Result<Held<B>, Memory>
-    ensures same { IfOk result (λ own. SameParts (parts_of B.pairs (arc_value held).solved) (parts_of B.pairs own.solved)) }
+    ensures same { IfOk result
+        (λ own. SameParts (parts_of B.pairs (arc_value held).solved) (parts_of B.pairs own.solved)) }
     ensures prims { IfOk result (λ own. own.history.prims ≡ (arc_value held).history.prims) }
     ensures counter { IfOk result (λ own. own.counter ≡ (arc_value held).counter) }
 {

@@ -21,4 +21,5 @@ greatest_in (Tree.pair a b) = greater (greatest_in a) (greatest_in b)
 -- and the greatest that stands in bindings, on either side
 abbrev pub greatest_bound : List (ℕ × Tm) → Option ℕ
 greatest_bound [] = None
-greatest_bound (newest ∷ older) = greater (greater (Some newest.0) (greatest_in newest.1)) (greatest_bound older)
+greatest_bound (newest ∷ older) =
+    greater (greater (Some newest.0) (greatest_in newest.1)) (greatest_bound older)

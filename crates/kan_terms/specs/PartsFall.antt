@@ -17,5 +17,6 @@ deep_le (Truth b) = omega arith
 deep_le Nil = omega arith
 deep_le (Pair parts) = omega arith
 
-pub depth_le-size : (first rest : Term) → max (deep-Term first) (max (deep-Term rest) 0) ≤ size (tree first) + size (tree rest)
+pub depth_le-size : (first rest : Term) →
+    max (deep-Term first) (max (deep-Term rest) 0) ≤ size (tree first) + size (tree rest)
 depth_le-size first rest = omega (arith, deep_le first, deep_le rest)

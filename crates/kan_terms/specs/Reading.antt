@@ -36,7 +36,8 @@ trees-spelling (Tree.pair a b) more =
 
 -- a ground term is read back from its marks
 pub tree_of-spelling : (t : Gd) → tree_of (spelling t) ≡ t
-tree_of-spelling t = ap tree_of (sym (append-nil (spelling t))) ∙ ap first_tree (trees-spelling t [])
+tree_of-spelling t =
+    ap tree_of (sym (append-nil (spelling t))) ∙ ap first_tree (trees-spelling t [])
 
 -- a mark as a symbol, a string, a number, a truth value or one of two signs
 abbrev pub letter : Mark → (ℕ ⊎ (ℕ ⊎ ℤ)) ⊎ (Bool ⊎ Bool)
@@ -67,7 +68,10 @@ mark_of-letter Nil = refl
 
 -- a mark is stored as its letter
 abbrev pub mark_code : Coded Mark
-mark_code = code_by ((ℕ ⊎ (ℕ ⊎ ℤ)) ⊎ (Bool ⊎ Bool)) (coded⊎ (coded⊎ coded_ℕ (coded⊎ coded_ℕ coded_ℤ)) (coded⊎ coded_bool coded_bool)) letter mark_of mark_of-letter
+mark_code =
+    code_by ((ℕ ⊎ (ℕ ⊎ ℤ)) ⊎ (Bool ⊎ Bool))
+    (coded⊎ (coded⊎ coded_ℕ (coded⊎ coded_ℕ coded_ℤ)) (coded⊎ coded_bool coded_bool)) letter mark_of
+    mark_of-letter
 
 -- a ground term is stored as its marks
 abbrev pub ground_code : Coded Gd

@@ -1,5 +1,8 @@
--- The table of names: the texts of symbols and of strings, as lists of bytes, in the order of their numbers.
-use Rattle.std.specs.Prelude.{◌≢◌, ℕ, suc, Bool, ◌&&◌, ◌||◌, not, eqb, nat_lt, List, [], ◌∷◌, ◌++◌, Option, None, Some, is_some, if◌then◌else◌, option_map, bytes_eq, slice_get}
+-- The table of names: the texts of symbols and of strings, as lists of bytes, in the order of their
+-- numbers.
+use Rattle.std.specs.Prelude.{◌≢◌, ℕ, suc, Bool, ◌&&◌, ◌||◌, not, eqb, nat_lt, List, [], ◌∷◌, ◌++◌}
+use Rattle.std.specs.Prelude.{Option, None, Some, is_some, if◌then◌else◌, option_map, bytes_eq}
+use Rattle.std.specs.Prelude.{slice_get}
 use Rattle.std.specs.List.{AllPairs, list_all}
 
 -- symbols and strings are numbered apart: the same text may stand in both lists
@@ -14,7 +17,8 @@ no_names = record { symbols = []; strings = [] }
 -- the number of a text: how many texts stand before it
 abbrev pub number_of : List (List ℕ) → List ℕ → Option ℕ
 number_of [] text = None
-number_of (first ∷ rest) text = if bytes_eq text first then Some 0 else option_map (λ n. suc n) (number_of rest text)
+number_of (first ∷ rest) text =
+    if bytes_eq text first then Some 0 else option_map (λ n. suc n) (number_of rest text)
 
 -- the text that has a number
 abbrev pub name_of : List (List ℕ) → ℕ → Option (List ℕ)
@@ -35,7 +39,8 @@ with_symbol table text = record table { symbols = interned table.symbols text }
 abbrev pub with_string : Table → List ℕ → Table
 with_string table text = record table { strings = interned table.strings text }
 
--- a byte may stand in a string: no control character of ASCII but tab, line feed and carriage return
+-- a byte may stand in a string: no control character of ASCII but tab, line feed and carriage
+-- return
 abbrev pub is_string_byte : ℕ → Bool
 is_string_byte b = (nat_lt 31 b && not (eqb b 127)) || eqb b 9 || eqb b 10 || eqb b 13
 

@@ -8,5 +8,6 @@ texts_code = coded_list (coded_list coded_ℕ)
 
 abbrev pub table_code : Coded Table
 table_code =
-    code_by (List (List ℕ) × List (List ℕ)) (coded× texts_code texts_code) (λ table. (table.symbols, table.strings))
+    code_by (List (List ℕ) × List (List ℕ)) (coded× texts_code texts_code)
+    (λ table. (table.symbols, table.strings))
     (λ lists. record { symbols = lists.0; strings = lists.1 }) (λ table. refl)

@@ -1,6 +1,7 @@
 -- Reading a term back from its letters, by which terms are stored as lists.
 use Rattle.std.specs.Prelude.{◌≡◌, ℕ, ℤ, ◌⊎◌, Bool, true, false, List, [], ◌∷◌, ◌++◌, refl}
-use Rattle.std.specs.Coded.{Coded, code_by, coded⊎, coded×, coded_ℕ, coded_ℤ, coded_bool, coded_list}
+use Rattle.std.specs.Coded.{Coded, code_by, coded⊎, coded×, coded_ℕ, coded_ℤ, coded_bool}
+use Rattle.std.specs.Coded.{coded_list}
 use Rattle.std.proofs.Common.{◌∙◌, ap, sym, inl, inr, append_assoc}
 use Rattle.std.proofs.lemmas.List.{append-nil}
 use Rattle.kan_terms.specs.Tree.{Tree, Tm, join_two, first_tree}
@@ -52,7 +53,8 @@ term_of-letters t = ap term_of (sym (append-nil (letters t))) ∙ ap first_tree 
 
 -- a letter is stored by its parts
 abbrev pub letter_code : Coded Letter
-letter_code = coded⊎ (coded⊎ coded_ℕ (coded⊎ coded_ℕ coded_ℕ)) (coded⊎ (coded⊎ coded_ℤ coded_bool) coded_bool)
+letter_code =
+    coded⊎ (coded⊎ coded_ℕ (coded⊎ coded_ℕ coded_ℕ)) (coded⊎ (coded⊎ coded_ℤ coded_bool) coded_bool)
 
 -- a term is stored as its letters
 abbrev pub term_code : Coded Tm

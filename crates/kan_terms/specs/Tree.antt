@@ -1,5 +1,7 @@
--- Trees: what terms, templates and ground terms have in common. The leaves that stand for something else are of any type.
-use Rattle.std.specs.Prelude.{ℕ, ◌+◌, ◌-◌, ◌^◌, min, ℤ, Bool, true, false, ◌&&◌, ◌||◌, eqb, List, [], ◌∷◌, ◌++◌}
+-- Trees: what terms, templates and ground terms have in common. The leaves that stand for something
+-- else are of any type.
+use Rattle.std.specs.Prelude.{ℕ, ◌+◌, ◌-◌, ◌^◌, min, ℤ, Bool, true, false, ◌&&◌, ◌||◌, eqb, List}
+use Rattle.std.specs.Prelude.{[], ◌∷◌, ◌++◌}
 use Rattle.std.specs.Ordering.{int_eq}
 
 -- a tree with leaves of the type V beside the six kinds of constants

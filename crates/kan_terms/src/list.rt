@@ -65,7 +65,8 @@ impl<T> ListOf<T> {
 
     /// All items in order, to be changed. The list is then what was written.
     pub fn items_mut(&mut self) -> &mut [T]
-        ensures* written { sem 𝓛 (Lends (the_row T.row) (Array T.row 0) self.entry result (written_over self.old)) }
+        ensures* written { sem 𝓛 (Lends (the_row T.row) (Array T.row 0) self.entry result
+            (written_over self.old)) }
         ensures shown { result.now ≡ self.old }
     {
         self.stored.as_mut_slice()

@@ -11,5 +11,6 @@ abbrev pub with_entry : {E : Type 0} → Slots E → ℕ → E → Slots E
 with_entry s d w = record s { entries = with_item s.entries d w }
 
 -- s ends with the last value behind r at the index
-abbrev pub lends_entry : (R : RattleType) → MutBor (Slots R.Denot) → ℕ → Option (MutBor R.Denot) → Fml
+abbrev pub lends_entry : (R : RattleType) → MutBor (Slots R.Denot) → ℕ → Option (MutBor R.Denot) →
+    Fml
 lends_entry R s d r = LendsIf (the_row R) R s r (with_entry s.now d) s.now

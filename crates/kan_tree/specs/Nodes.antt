@@ -1,5 +1,6 @@
 -- What stands under a key.
-use Rattle.std.specs.Prelude.{ℕ, zero, suc, ◌*◌, ◌^◌, ◌/◌, ◌%◌, Option, None, Some, option_map, Bool, ◌&&◌, eqb}
+use Rattle.std.specs.Prelude.{ℕ, zero, suc, ◌*◌, ◌^◌, ◌/◌, ◌%◌, Option, None, Some, option_map}
+use Rattle.std.specs.Prelude.{Bool, ◌&&◌, eqb}
 use Rattle.std.specs.Arc.{arc_value}
 use Rattle.kan_tree.specs.Slots.{at}
 use Rattle.kan_tree.specs.declared.nodes.Node.{Node, out-Node}
@@ -12,7 +13,8 @@ digit_of level key = (key / (2 ^ (level * 4))) % 16
 -- two keys have the same digits up to a level
 abbrev pub agree : ℕ → ℕ → ℕ → Bool
 agree zero k key = eqb (digit_of 0 k) (digit_of 0 key)
-agree (suc level) k key = eqb (digit_of (suc level) k) (digit_of (suc level) key) && agree level k key
+agree (suc level) k key =
+    eqb (digit_of (suc level) k) (digit_of (suc level) key) && agree level k key
 
 -- what an option leads to
 abbrev pub onward : {A B : Type 0} → (A → Option B) → Option A → Option B
@@ -38,4 +40,5 @@ in_inner {T} node d = of_inner (out-Node T node) d
 -- what a node has under a key at a level
 abbrev pub look : {T M : Type 0} → (T → M) → ℕ → ℕ → Node T → Option M
 look meaning zero key node = option_map meaning (in_leaf node (digit_of 0 key))
-look meaning (suc level) key node = onward (look meaning level key) (in_inner node (digit_of (suc level) key))
+look meaning (suc level) key node =
+    onward (look meaning level key) (in_inner node (digit_of (suc level) key))

@@ -1,4 +1,5 @@
-//! The command `kanren`: it gets the text that its words ask for and writes the answers of its runs.
+//! The command `kanren`: it gets the text that its words ask for and writes the answers of its
+//! runs.
 #![tactic(auto)]
 
 use command_line::{WordsFault, process_words};

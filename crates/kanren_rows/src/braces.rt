@@ -88,7 +88,8 @@ fn byte_of(inner: &[u8]) -> Option<u8> {
     }
 }
 
-// Adds what a part stands for that repeats nothing. `turn` is the number of the repetition around it.
+// Adds what a part stands for that repeats nothing. `turn` is the number of the repetition around
+// it.
 fn add_part(
     alloc: Global,
     part: &Part,

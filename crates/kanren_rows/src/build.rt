@@ -23,7 +23,8 @@ struct Draft {
 }
 
 impl Draft {
-    // Adds a line to the input, or to the file that was named last. There is a line feed between two lines.
+    // Adds a line to the input, or to the file that was named last. There is a line feed between
+    // two lines.
     fn add_text(&mut self, line: &[u8]) -> Result<(), Fault> {
         let begun = mem::replace(&mut self.begun, true);
         match self.case.files.last_mut() {
@@ -154,7 +155,8 @@ fn finish(mut draft: Draft) -> Result<Case, Fault> {
     Ok(draft.case)
 }
 
-/// The case of these lines, where `{each}` is this word. The number is that of the case's first line. What stands in files
+/// The case of these lines, where `{each}` is this word. The number is that of the case's first
+/// line. What stands in files
 /// is read from the folder.
 pub(crate) fn build<S: Source>(
     alloc: Global,

@@ -1,6 +1,8 @@
 //! Tries tables of cases: what the program puts and answers for words, texts, sources and sinks.
 //!
-//! The words are the names of the tables; with `plain:` before its name the cases of a table are tried over the plain store. A line is printed for each case, and then how many passed and how many failed.
+//! The words are the names of the tables; with `plain:` before its name the cases of a table are
+//! tried over the plain store. A line is printed for each case, and then how many passed and how
+//! many failed.
 #![tactic(auto)]
 
 mod braces;

@@ -141,7 +141,8 @@ fn turns(alloc: Global, lines: &[Line<'_>]) -> Result<Vec<String>, Fault> {
 
 // Whether all came that must, and nothing else.
 fn agrees(case: &Case, seen: &Seen) -> bool
-    ensures { IsTrue result ↔ ((seen.now.status ≡ case.now.status) × (seen.now.output.items ≡ case.now.output.items)) }
+    ensures { IsTrue result
+        ↔ ((seen.now.status ≡ case.now.status) × (seen.now.output.items ≡ case.now.output.items)) }
 {
     seen.status == case.status && seen.output.as_slice() == case.output.as_slice()
 }
@@ -164,7 +165,8 @@ fn try_turn<S: Source>(
     }
 }
 
-/// Tries a case with each of its words in turn, as far as all comes that must. The folder has the files that the case names.
+/// Tries a case with each of its words in turn, as far as all comes that must. The folder has the
+/// files that the case names.
 pub(crate) fn try_case<S: Source>(
     alloc: Global,
     solver: Solver,

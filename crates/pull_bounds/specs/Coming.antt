@@ -1,4 +1,5 @@
--- Which stores a stream gives within some pulls, and what appending, running and binding keep of that.
+-- Which stores a stream gives within some pulls, and what appending, running and binding keep of
+-- that.
 use Rattle.std.specs.Prelude.{ℕ, ◌+◌, ◌*◌, ◌≤◌, List, length, Contains}
 use Rattle.kan_terms.specs.Tree.{Tm}
 use Rattle.kan_model.specs.Programs.Goals.{Goal, Program}
@@ -14,22 +15,30 @@ ComesWithin program pulls s st = Contains (stores_within program pulls s) st
 
 -- what the left stream gives within b pulls comes within twice as many
 abbrev pub LeftComes : Type 0
-LeftComes = (program : Program) (b : ℕ) (s t : Stream) (st : Store) → ComesWithin program b s st → ComesWithin program (2 * b) (append s t) st
+LeftComes =
+    (program : Program) (b : ℕ) (s t : Stream) (st : Store) → ComesWithin program b s st →
+    ComesWithin program (2 * b) (append s t) st
 
 -- what the right stream gives comes within one more than that
 abbrev pub RightComes : Type 0
-RightComes = (program : Program) (b : ℕ) (s t : Stream) (st : Store) → ComesWithin program b t st → ComesWithin program (2 * b + 1) (append s t) st
+RightComes =
+    (program : Program) (b : ℕ) (s t : Stream) (st : Store) → ComesWithin program b t st →
+    ComesWithin program (2 * b + 1) (append s t) st
 
--- a goal gives no more answers within d pulls than are counted for it, at whatever store and environment
+-- a goal gives no more answers within d pulls than are counted for it, at whatever store and
+-- environment
 abbrev pub AnswersAreBounded : Type 0
-AnswersAreBounded = (program : Program) (g : Goal) (env : List Tm) (st : Store) (d : ℕ) → length (stores_within program d (run g env st)) ≤ answers_within program g d
+AnswersAreBounded =
+    (program : Program) (g : Goal) (env : List Tm) (st : Store) (d : ℕ) →
+    length (stores_within program d (run g env st)) ≤ answers_within program g d
 
 -- a store of a stream, and an answer of a goal at it, where the stream gives so many stores by then
 abbrev pub BoundComes : Type 0
 BoundComes =
     (program : Program) (g : Goal) (env : List Tm) (s : Stream) (b1 b2 : ℕ) (first second : Store) →
     ComesWithin program b1 s first → ComesWithin program b2 (run g env first) second →
-    ComesWithin program (both_pulls (length (stores_within program b1 s)) b1 b2) (bind_all (run g env) g env s) second
+    ComesWithin program (both_pulls (length (stores_within program b1 s)) b1 b2)
+    (bind_all (run g env) g env s) second
 
 -- an answer of the first goal, and one of the second goal at it, give one of both
 abbrev pub BothCome : Type 0

@@ -17,7 +17,8 @@ AreKept st v tags = (tag : ℕ) → Contains tags tag ↔ (keeps_tag st tag v �
 -- for each variable the tags that pass the test with it
 abbrev pub TagLists : (ℕ → ℕ → Bool) → List ℕ → List (List ℕ) → Type 0
 TagLists test [] [] = Unit {0}
-TagLists test (v ∷ vs) (ts ∷ lists) = ((tag : ℕ) → Contains ts tag ↔ (test tag v ≡ true)) × TagLists test vs lists
+TagLists test (v ∷ vs) (ts ∷ lists) =
+    ((tag : ℕ) → Contains ts tag ↔ (test tag v ≡ true)) × TagLists test vs lists
 TagLists test _ _ = ⊥
 
 -- the places of the lists in which a tag is, from a number on

@@ -1,5 +1,6 @@
 -- Whether the equation of a solved form fits a store's types and absences.
-use Rattle.std.specs.Prelude.{ℕ, Bool, true, false, ◌&&◌, not, eqb, Option, Some, None, if◌then◌else◌}
+use Rattle.std.specs.Prelude.{ℕ, Bool, true, false, ◌&&◌, not, eqb, Option, Some, None}
+use Rattle.std.specs.Prelude.{if◌then◌else◌}
 use Rattle.std.specs.List.{list_all}
 use Rattle.kan_terms.specs.Tree.{Tree, Tm, has_symbol}
 use Rattle.kan_terms.specs.Terms.{tree}
@@ -29,9 +30,11 @@ kinds_agree (Some kind) (Some other) = kind_test kind (Some other)
 abbrev pub agrees_at : Store → Option Kind → ℕ → model.Replaced → Bool
 agrees_at st kind x q = if is_variable x q.by then kinds_agree kind (kind_at st q.var) else true
 
--- the type of a replaced variable fits a term: a variable, and all others that it replaces, aren't of another type, and the type allows all else
+-- the type of a replaced variable fits a term: a variable, and all others that it replaces, aren't
+-- of another type, and the type allows all else
 abbrev pub type_fits : Store → model.Replacement → Option Kind → Tm → Bool
-type_fits st form kind (Tree.leaf x) = kinds_agree kind (kind_at st x) && list_all (agrees_at st kind x) form
+type_fits st form kind (Tree.leaf x) =
+    kinds_agree kind (kind_at st x) && list_all (agrees_at st kind x) form
 type_fits st form kind t = kind_allows kind t
 
 -- that of a pair of a form
@@ -40,7 +43,9 @@ types_fit st form p = type_fits st form (kind_at st p.var) p.by
 
 -- no tag of a replaced variable stands in what replaces it
 abbrev pub tags_fit : Store → model.Replaced → Bool
-tags_fit st p = list_all (λ tag. not (has_absence (answer st) st.prims tag p.var && has_symbol tag p.by)) (tags_of st.prims)
+tags_fit st p =
+    list_all (λ tag. not (has_absence (answer st) st.prims tag p.var && has_symbol tag p.by))
+    (tags_of st.prims)
 
 -- types and tags of a pair fit
 abbrev pub fits_at : Store → model.Replacement → model.Replaced → Bool

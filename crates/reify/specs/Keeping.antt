@@ -1,5 +1,6 @@
 -- The forms that are written for the disequalities of a store.
-use Rattle.std.specs.Prelude.{ℕ, Bool, true, ◌&&◌, List, [], ◌∷◌, ◌++◌, Option, Some, None, map, if◌then◌else◌}
+use Rattle.std.specs.Prelude.{ℕ, Bool, true, ◌&&◌, List, [], ◌∷◌, ◌++◌, Option, Some, None, map}
+use Rattle.std.specs.Prelude.{if◌then◌else◌}
 use Rattle.std.specs.Global.{Vec}
 use Rattle.std.specs.List.{list_all}
 use Rattle.std.specs.Option.{option_to_list}
@@ -41,4 +42,7 @@ answer_kept vs st (Some form) = form_kept vs st form
 -- the forms of lists of equations
 abbrev pub forms_meant : List ℕ → Store → List (List Equation) → List model.Replacement
 forms_meant vs st [] = []
-forms_meant vs st (es ∷ lists) = option_to_list (answer_kept vs st (model.solve_by (ranks_lower vs) (map (apply_sides (answer st)) es))) ++ forms_meant vs st lists
+forms_meant vs st (es ∷ lists) =
+    option_to_list
+    (answer_kept vs st (model.solve_by (ranks_lower vs) (map (apply_sides (answer st)) es)))
+    ++ forms_meant vs st lists

@@ -21,7 +21,8 @@ names_below n = list_all (λ v. nat_lt v n)
 -- constraints over the first n names
 abbrev pub constraints_below : ℕ → model.Answer → Bool
 constraints_below n a =
-    list_all (list_all (pair_below n)) a.disequalities && names_below n a.numbers && names_below n a.symbols && names_below n a.strings
+    list_all (list_all (pair_below n)) a.disequalities && names_below n a.numbers
+    && names_below n a.symbols && names_below n a.strings
     && list_all (λ kept. names_below n kept.names) a.absences
 
 -- the names of the term come in order, and the constraints have no others

@@ -18,7 +18,8 @@ atom_text table (Num n) = number_text n
 atom_text table (Truth b) = truth_text b
 atom_text table Nil = codes "()"
 
--- a shape behind an element: a space before the next element, the close of the list, or a dot, the last part and the close
+-- a shape behind an element: a space before the next element, the close of the list, or a dot, the
+-- last part and the close
 abbrev pub rest_text : Table → Shape → List ℕ
 rest_text table Pair = 32 ∷ []
 rest_text table (Name n) = codes " . " ++ name_text n ++ 41 ∷ []
@@ -57,4 +58,5 @@ places_after Nil ps = ps
 abbrev pub shapes_text : Table → List Place → List Shape → List ℕ
 shapes_text table [] xs = []
 shapes_text table (p ∷ ps) [] = []
-shapes_text table (p ∷ ps) (x ∷ xs) = shape_text table p x ++ shapes_text table (places_after x ps) xs
+shapes_text table (p ∷ ps) (x ∷ xs) =
+    shape_text table p x ++ shapes_text table (places_after x ps) xs

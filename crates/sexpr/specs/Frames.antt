@@ -1,9 +1,11 @@
 -- What is open, kept as stacks.
-use Rattle.std.specs.Prelude.{◌≡◌, ℕ, suc, ◌+◌, ◌<◌, ◌≤◌, List, [], ◌∷◌, length, map, Option, None, Some}
+use Rattle.std.specs.Prelude.{◌≡◌, ℕ, suc, ◌+◌, ◌<◌, ◌≤◌, List, [], ◌∷◌, length, map, Option, None}
+use Rattle.std.specs.Prelude.{Some}
 use Rattle.std.specs.List.{fold}
 use Rattle.kan_grammar.specs.Data.Words.{Shape, Token}
 use Rattle.kan_grammar.specs.Data.Written.{Written}
-use Rattle.kan_grammar.specs.Data.Enclosing.{Place, top, in_list, after_dot, after_prefix, Enclosing, awaiting, ended}
+use Rattle.kan_grammar.specs.Data.Enclosing.{Place, top, in_list, after_dot, after_prefix}
+use Rattle.kan_grammar.specs.Data.Enclosing.{Enclosing, awaiting, ended}
 use Rattle.kan_grammar.specs.Data.Faults.{Fault, fault, refusal, after}
 use Rattle.kan_grammar.specs.Texts.TextNames.{GoesOn}
 use Rattle.sexpr.specs.Meaning.{shape_of, prefix_of}
@@ -24,7 +26,8 @@ after_point p at s (e ∷ ds) point = after_dot p at s e ds point
 -- the place that a frame opens inside another
 abbrev pub inside : Table → Place Written → Frame → Place Written
 inside names p (frames.List l) = in_list p l.at (shape_of l.shape) (map (written names) l.items)
-inside names p (frames.Dotted l) = after_point p l.at (shape_of l.shape) (map (written names) l.items) l.point
+inside names p (frames.Dotted l) =
+    after_point p l.at (shape_of l.shape) (map (written names) l.items) l.point
 inside names p (frames.Prefix at q) = after_prefix p at (prefix_of q)
 
 -- the place inside all frames, of which the last is the innermost
@@ -39,7 +42,9 @@ ended_at p at s (e ∷ ds) point d = ended p at s e ds point d
 -- a place, or a list in it whose last datum is there
 abbrev pub ended_in : Table → Place Written → Option Ended → Enclosing Written
 ended_in names p None = awaiting p
-ended_in names p (Some e) = ended_at p e.list.at (shape_of e.list.shape) (map (written names) e.list.items) e.list.point (written names e.last)
+ended_in names p (Some e) =
+    ended_at p e.list.at (shape_of e.list.shape) (map (written names) e.list.items) e.list.point
+    (written names e.last)
 
 -- what is open
 abbrev pub enclosing_of : Table → stacks.Enclosing → Enclosing Written
@@ -64,7 +69,9 @@ pub record HasDepth (o : stacks.Enclosing) : Type 0 where
 
 -- a token is taken under a table: no question refuses it, and what is open is what comes after it
 abbrev pub Takes : Table → stacks.Enclosing → stacks.Enclosing → ℕ → Token → Type 0
-Takes names old new at t = (refusal (enclosing_of names old) at t ≡ None) × (enclosing_of names new ≡ after as_kept (enclosing_of names old) at t)
+Takes names old new at t =
+    (refusal (enclosing_of names old) at t ≡ None)
+    × (enclosing_of names new ≡ after as_kept (enclosing_of names old) at t)
 
 -- and under each table that goes on where this one ends
 abbrev pub TakesToken : Table → stacks.Enclosing → stacks.Enclosing → ℕ → Token → Type 0

@@ -1,6 +1,7 @@
 -- What ties data as they are kept to data as they are written.
 use Rattle.std.specs.Prelude.{◌≡◌, ℕ, List, map, Bool, true, ◌&&◌, [], ◌∷◌, IsTrue, Result, Ok, Err}
-use Rattle.kan_grammar.specs.Data.Written.{Written, Within, single, list, prefixed, close, dotted, element, is_allowed_atom}
+use Rattle.kan_grammar.specs.Data.Written.{Written, Within, single, list, prefixed, close, dotted}
+use Rattle.kan_grammar.specs.Data.Written.{element, is_allowed_atom}
 use Rattle.kan_grammar.specs.Data.Enclosing.{as_written}
 use Rattle.kan_grammar.specs.Data.Faults.{fault, read_text}
 use Rattle.kan_grammar.specs.Data.Printed.{pairs}
@@ -18,13 +19,17 @@ use Rattle.sexpr.specs.declared.data.Datum.{Datum}
 
 -- a reply is that to the data that were read, or to the fault; want of memory says nothing of it
 abbrev pub IsReply : Reply → Dialect → Table → List Written → Result (List Datum) ReadError → Type 0
-IsReply r dialect table library (Ok ds) = r ≡ reply_to_data dialect table library (map (written table) ds)
+IsReply r dialect table library (Ok ds) =
+    r ≡ reply_to_data dialect table library (map (written table) ds)
 IsReply r dialect table library (Err (Fault at number)) = r ≡ Reply.refusal (fault at number)
 IsReply r dialect table library (Err Memory) = Unit {0}
 
--- the data that are kept of a text are made of those that are written in it, and a fault is the same
+-- the data that are kept of a text are made of those that are written in it, and a fault is the
+-- same
 abbrev pub KeepsData : Type 0
-KeepsData = (bytes : List ℕ) → read_text as_kept bytes ≡ map_reading (build_datum as_kept) (read_text as_written bytes)
+KeepsData =
+    (bytes : List ℕ) → read_text as_kept bytes
+    ≡ map_reading (build_datum as_kept) (read_text as_written bytes)
 
 -- what is kept of a datum means the same, so it has the same text
 abbrev pub KeepsMeaning : Type 0
@@ -32,12 +37,18 @@ KeepsMeaning = (d : Written) → pairs (build_datum as_kept d) ≡ pairs d
 
 -- and its parts have the same sites, under each table of names
 abbrev pub KeepsSites : Type 0
-KeepsSites = (table : Table) (d : Written) → with_sites table (build_datum as_kept d) ≡ with_sites table d
+KeepsSites =
+    (table : Table) (d : Written) → with_sites table (build_datum as_kept d) ≡ with_sites table d
 
--- the reply to texts that are read is that to their data as they are kept, under the table of the texts
+-- the reply to texts that are read is that to their data as they are kept, under the table of the
+-- texts
 abbrev pub RepliesAsRead : Type 0
-RepliesAsRead = (library text : List ℕ) (dialect : Dialect) (ls : List Datum) (answer : Result (List Datum) ReadError) →
-    Reads library (text_table library text) (Ok ls) → Reads text (text_table library text) answer → IsReply (reply library text dialect) dialect (text_table library text) (map (written (text_table library text)) ls) answer
+RepliesAsRead =
+    (library text : List ℕ) (dialect : Dialect) (ls : List Datum)
+    (answer : Result (List Datum) ReadError) →
+    Reads library (text_table library text) (Ok ls) → Reads text (text_table library text) answer →
+    IsReply (reply library text dialect) dialect (text_table library text)
+    (map (written (text_table library text)) ls) answer
 
 -- each atom in a datum, and in what stands in a list, is one that a datum may be
 abbrev mutual
@@ -58,4 +69,6 @@ are_named (d ∷ ds) = is_named d && are_named ds
 
 -- each symbol in the data that are read has a name
 abbrev pub ReadsNamed : Type 0
-ReadsNamed = (bytes : List ℕ) (names : Table) (ds : List Datum) → Reads bytes names (Ok ds) → IsTrue (are_named (map (written names) ds))
+ReadsNamed =
+    (bytes : List ℕ) (names : Table) (ds : List Datum) → Reads bytes names (Ok ds) →
+    IsTrue (are_named (map (written names) ds))

@@ -1,6 +1,7 @@
 -- What the tokens of the code stand for.
 use Rattle.std.specs.Prelude.{ℕ, ◌-◌, Option, Some, None, false}
-use Rattle.kan_grammar.specs.Data.Words.{Atom, Shape, round, square, Prefix, quote, quasiquote, unquote, Token}
+use Rattle.kan_grammar.specs.Data.Words.{Atom, Shape, round, square, Prefix, quote, quasiquote}
+use Rattle.kan_grammar.specs.Data.Words.{unquote, Token}
 use Rattle.kan_grammar.specs.Data.Strings.{string_meaning}
 use Rattle.kan_grammar.specs.Data.Tokens.{Start, Piece, blank, spelled}
 use Rattle.sexpr.specs.declared.token.Shape.TheVariants.{Round, Square}

@@ -3,7 +3,8 @@ use Rattle.std.specs.Prelude.{◌≡◌, ℕ, ◌+◌, ◌<◌, List, [], ◌∷
 use Rattle.std.specs.Borrow.{Bor}
 use Rattle.std.specs.Option.{option_map, option_copied}
 use Rattle.kan_model.specs.Answers.Text.{in_quotes, print_rest}
-use Rattle.kan_grammar.specs.Data.Written.{Written, Within, single, list, prefixed, close, dotted, element}
+use Rattle.kan_grammar.specs.Data.Written.{Written, Within, single, list, prefixed, close, dotted}
+use Rattle.kan_grammar.specs.Data.Written.{element}
 use Rattle.kan_grammar.specs.Data.Printed.{Named, label_text, named_text, pairs, pairs_within}
 use Rattle.sexpr.specs.Seen.{inner_of, written}
 use Rattle.kan_terms.specs.Table.{Table, no_names}
@@ -22,7 +23,8 @@ rest_text t = print_rest label_text no_names t
 
 -- what elements and a datum after a dot stand for
 abbrev pub within : Table → Bor (List Datum) → Option (Bor Datum) → Within
-within names items last = inner_of (map (written names) items.now) (option_map (written names) (option_copied last))
+within names items last =
+    inner_of (map (written names) items.now) (option_map (written names) (option_copied last))
 
 -- the text of a piece of work
 abbrev pub work_text : Table → Work → List ℕ
@@ -60,9 +62,11 @@ abbrev pub works_cost : Table → List Work → ℕ
 works_cost names [] = 0
 works_cost names (w ∷ ws) = work_cost names w + works_cost names ws
 
--- from a text and a stack of work to others: what was put and what is left are this text and what was left below it
+-- from a text and a stack of work to others: what was put and what is left are this text and what
+-- was left below it
 abbrev pub Prints : Table → List ℕ → List ℕ → List Work → List Work → List ℕ → Type 0
-Prints names before after below works text = after ++ works_text names works ≡ before ++ (text ++ works_text names below)
+Prints names before after below works text =
+    after ++ works_text names works ≡ before ++ (text ++ works_text names below)
 
 -- and the work that is left takes less than this and what was left below it
 abbrev pub Falls : Table → List Work → List Work → ℕ → Type 0

@@ -3,7 +3,8 @@ use Rattle.std.specs.Prelude.{◌≡◌, ℕ, ◌+◌, ◌^◌, ◌<◌, List, l
 use Rattle.kan_terms.specs.Table.{Table, is_string_text}
 use Rattle.kan_grammar.specs.Data.Words.{Token, atom, string}
 use Rattle.kan_grammar.specs.Data.Tokens.{Placed, Piece, blank, spelled, placed_before}
-use Rattle.kan_grammar.specs.Data.Faults.{fault, Reading, read_text, data_are, refused, run, going, finish}
+use Rattle.kan_grammar.specs.Data.Faults.{fault, Reading, read_text, data_are, refused, run, going}
+use Rattle.kan_grammar.specs.Data.Faults.{finish}
 use Rattle.kan_grammar.specs.Data.Written.{Written}
 use Rattle.kan_grammar.specs.Texts.TextNames.{GoesOn, with_token}
 use Rattle.sexpr.specs.Seen.{written, as_kept}
@@ -17,7 +18,8 @@ use Rattle.sexpr.specs.declared.enclosing.Enclosing as stacks
 abbrev pub memory_wanted : ReadError
 memory_wanted = Memory
 
--- a reading comes to these data, under names, or to this first fault; want of memory says nothing of it
+-- a reading comes to these data, under names, or to this first fault; want of memory says nothing
+-- of it
 abbrev pub Answers : Table → Reading Written → Result (List Datum) ReadError → Type 0
 Answers names reading (Ok ds) = reading ≡ data_are (map (written names) ds)
 Answers names reading (Err (Fault at number)) = reading ≡ refused (fault at number)
@@ -45,12 +47,15 @@ abbrev pub with_piece : Table → Piece → Table
 with_piece names (spelled t n) = with_token names t
 with_piece names (blank n) = names
 
--- a piece is read: before all tokens what was open with it comes to what is open without it, under each table that goes on
+-- a piece is read: before all tokens what was open with it comes to what is open without it, under
+-- each table that goes on
 abbrev pub ReadsPiece : Table → stacks.Enclosing → stacks.Enclosing → ℕ → Piece → Type 0
 ReadsPiece names old new at p = (later : Table) → GoesOn names later → (ts : List Placed) →
-    run as_kept (going (enclosing_of later old)) (placed_before at p ts) ≡ run as_kept (going (enclosing_of later new)) ts
+    run as_kept (going (enclosing_of later old)) (placed_before at p ts)
+    ≡ run as_kept (going (enclosing_of later new)) ts
 
 -- a piece is refused, whatever tokens follow it
 abbrev pub RefusesPiece : ReadError → stacks.Enclosing → ℕ → Piece → Type 0
 RefusesPiece e old at p = (names : Table) (ts : List Placed) →
-    Answers names (finish (run as_kept (going (enclosing_of names old)) (placed_before at p ts))) (Err e)
+    Answers names (finish (run as_kept (going (enclosing_of names old)) (placed_before at p ts)))
+    (Err e)

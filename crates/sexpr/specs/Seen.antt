@@ -1,4 +1,5 @@
--- What data stand for: data as they are written, with round parentheses and without the offsets of dots and closes, which a datum doesn't keep.
+-- What data stand for: data as they are written, with round parentheses and without the offsets of
+-- dots and closes, which a datum doesn't keep.
 use Rattle.std.specs.Prelude.{ℕ, List, Option, None, Some}
 use Rattle.kan_terms.specs.Table.{Table, name_of}
 use Rattle.kan_grammar.specs.Data.Words.{Atom, symbol, string, number, truth, reserved, round}
@@ -41,4 +42,10 @@ written names d = fold-Datum (ℕ → Written) Written (kind_of names) (λ layer
 
 -- data as a datum keeps them
 abbrev pub as_kept : Build Written
-as_kept = record { of_atom = single; of_list = λ at s ds end. list_of at ds None; of_dotted = λ at s ds point d end. list_of at ds (Some d); of_prefixed = prefixed }
+as_kept =
+    record {
+      of_atom = single;
+      of_list = λ at s ds end. list_of at ds None;
+      of_dotted = λ at s ds point d end. list_of at ds (Some d);
+      of_prefixed = prefixed;
+    }

@@ -1,8 +1,10 @@
 //! What is open at a place in a text: the stacks of open lists and of prefixes without their datum.
 
-ghost use Rattle.std.specs.Prelude.{◌≡◌, ◌<◌, ◌≤◌, [], ◌∷◌, ◌++◌, map, None, Some, true, if◌then◌else◌, IfErr, OnOk};
+ghost use Rattle.std.specs.Prelude.{◌≡◌, ◌<◌, ◌≤◌, [], ◌∷◌, ◌++◌, map, None, Some, true};
+ghost use Rattle.std.specs.Prelude.{if◌then◌else◌, IfErr, OnOk};
 ghost use Rattle.std.specs.List.{fold};
-ghost use Rattle.kan_grammar.specs.Data.Words.{Atom, Token, opening, closing, prefix, dot, atom, out_of_range, reserved};
+ghost use Rattle.kan_grammar.specs.Data.Words.{Atom, Token, opening, closing, prefix, dot, atom};
+ghost use Rattle.kan_grammar.specs.Data.Words.{out_of_range, reserved};
 ghost use Rattle.kan_grammar.specs.Data.Written.{is_allowed_atom, single};
 ghost use Rattle.kan_grammar.specs.Data.Enclosing.{top, in_list, awaiting, put};
 ghost use Rattle.kan_grammar.specs.Data.Faults.{refusal, begins, is_shape, fault, answer_at_end};
@@ -10,7 +12,8 @@ ghost use Rattle.sexpr.specs.Meaning.{shape_of, prefix_of};
 ghost use Rattle.sexpr.specs.Seen.{list_of, written, as_kept};
 ghost use Rattle.kan_terms.specs.Table.{Table};
 ghost use Rattle.sexpr.specs.Reads.{Answers, memory_wanted};
-ghost use Rattle.sexpr.specs.Frames.{HasDepth, Refuses, RefusesToken, Takes, depth_inside, inside, enclosing_of, place};
+ghost use Rattle.sexpr.specs.Frames.{HasDepth, Refuses, RefusesToken, Takes, depth_inside, inside};
+ghost use Rattle.sexpr.specs.Frames.{enclosing_of, place};
 
 use crate::data::{Data, Datum, DatumKind, Prefix, ReadError};
 use crate::frame::{DottedFrame, Ended, Frame, ListFrame};

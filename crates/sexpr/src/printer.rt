@@ -2,13 +2,15 @@
 
 ghost use Rattle.std.specs.Prelude.{◌≡◌, ◌+◌, ◌<◌, ◌++◌, OnOk, IfOk, codes, string_bytes};
 ghost use Rattle.std.specs.Option.{option_copied};
-ghost use Rattle.kan_grammar.specs.Data.Printed.{datum_text, named_text, pairs, pairs_within, prefix_name};
+ghost use Rattle.kan_grammar.specs.Data.Printed.{datum_text, named_text, pairs, pairs_within};
+ghost use Rattle.kan_grammar.specs.Data.Printed.{prefix_name};
 ghost use Rattle.sexpr.specs.Meaning.{prefix_of};
 ghost use Rattle.sexpr.specs.Seen.{written};
 ghost use Rattle.kan_terms.specs.Table.{name_of};
 ghost use Rattle.kan_model.specs.Answers.Decimals.{number_text};
 ghost use Rattle.kan_model.specs.Answers.Text.{truth_text};
-ghost use Rattle.sexpr.specs.Printing.{string_atom_text, within, Falls, Prints, rest_text, cost_within, work_text, work_cost};
+ghost use Rattle.sexpr.specs.Printing.{string_atom_text, within, Falls, Prints, rest_text};
+ghost use Rattle.sexpr.specs.Printing.{cost_within, work_text, work_cost};
 ghost use Rattle.sexpr.specs.declared.printer.Work.TheVariants as work_variants;
 
 use crate::data::{Datum, DatumKind, Prefix};

@@ -7,7 +7,8 @@ ghost use Rattle.kan_grammar.specs.Data.Words.{Token, symbol, string};
 ghost use Rattle.kan_grammar.specs.Data.Strings.{string_meaning};
 ghost use Rattle.kan_grammar.specs.Texts.TextNames.{Extends, GoesOn, with_text_names, with_token};
 ghost use Rattle.sexpr.specs.Meaning.{atom_of, token_of, piece_of};
-ghost use Rattle.sexpr.specs.Reads.{CanGrow, HasPieceText, HasText, Reads, ReadsPiece, RefusesPiece, with_piece};
+ghost use Rattle.sexpr.specs.Reads.{CanGrow, HasPieceText, HasText, Reads, ReadsPiece};
+ghost use Rattle.sexpr.specs.Reads.{RefusesPiece, with_piece};
 ghost use Rattle.sexpr.specs.Frames.{HasDepth, RefusesToken, TakesToken};
 
 use crate::data::{Data, DatumKind, ReadError};

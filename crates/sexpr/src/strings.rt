@@ -1,8 +1,10 @@
 //! Strings: how far one goes, the text that it means, and how it is printed.
 
-ghost use Rattle.std.specs.Prelude.{◌≡◌, ◌<◌, ◌++◌, false, length, IfOk, IfSome, OnOk, string_bytes};
+ghost use Rattle.std.specs.Prelude.{◌≡◌, ◌<◌, ◌++◌, false, length, IfOk, IfSome, OnOk};
+ghost use Rattle.std.specs.Prelude.{string_bytes};
 ghost use Rattle.kan_model.specs.Answers.Text.{in_quotes};
-ghost use Rattle.kan_grammar.specs.Data.Strings.{begins_escape, escape_meaning, role, string_length, string_meaning};
+ghost use Rattle.kan_grammar.specs.Data.Strings.{begins_escape, escape_meaning, role};
+ghost use Rattle.kan_grammar.specs.Data.Strings.{string_length, string_meaning};
 ghost use Rattle.sexpr.specs.Strings.{character_meaning, character_text, role_of};
 
 use kan_terms::Memory;

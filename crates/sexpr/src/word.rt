@@ -2,7 +2,9 @@
 
 ghost use Rattle.std.specs.Prelude.{◌≡◌, true};
 ghost use Rattle.std.specs.Str.Parse.{without_leading_sign};
-ghost use Rattle.kan_grammar.specs.Data.Words.{begins_with_digit, without_leading_point, looks_like_number, is_dot, is_reserved, number_token, word_token};
+ghost use Rattle.kan_grammar.specs.Data.Words.{begins_with_digit, without_leading_point};
+ghost use Rattle.kan_grammar.specs.Data.Words.{looks_like_number, is_dot, is_reserved};
+ghost use Rattle.kan_grammar.specs.Data.Words.{number_token, word_token};
 ghost use Rattle.sexpr.specs.Meaning.{token_of};
 
 use crate::bytes::all_digits;

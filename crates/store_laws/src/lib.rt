@@ -1,4 +1,5 @@
-//! Laws of stores: most general answers, and the one solved form of a disequality. Each function has
+//! Laws of stores: most general answers, and the one solved form of a disequality. Each function
+//! has
 //! its law for its contract, and does nothing.
 #![tactic(auto)]
 

@@ -25,7 +25,8 @@ ArgumentsPlaced p _ = Unit {0}
 
 -- an argument's value and the store after it: whatever follows, naming goes on from there
 pub record NamesOne (before : Store) (argument value : Tm) (after : Store) : Type 0 where
-  pub goes_on : (rest : List Tm) → name_pairs before (argument ∷ rest) ≡ and_value value (name_pairs after rest)
+  pub goes_on : (rest : List Tm) → name_pairs before (argument ∷ rest)
+      ≡ and_value value (name_pairs after rest)
   pub flat : is_flat value ≡ true
   pub above : before.counter ≤ after.counter
   pub within : after.counter ≤ before.counter + 1
@@ -36,5 +37,6 @@ in_front values rest = record { values = values ++ rest.values; store = rest.sto
 
 -- the values of the first arguments and the store after them
 pub record NamesFirst (before : Store) (arguments values : List Tm) (after : Store) : Type 0 where
-  pub goes_on : (rest : List Tm) → name_pairs before (arguments ++ rest) ≡ in_front values (name_pairs after rest)
+  pub goes_on : (rest : List Tm) → name_pairs before (arguments ++ rest)
+      ≡ in_front values (name_pairs after rest)
   pub flat : list_all is_flat values ≡ true

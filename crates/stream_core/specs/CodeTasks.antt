@@ -23,8 +23,10 @@ stack f [] = []
 stack f (x ∷ xs) = stack f xs ++ f x ∷ []
 
 -- what stacks of tasks and of streams of the code stand for
-abbrev pub tasks_of : {St : Type 0} → Program → (St → facts.Store) → List (Task St) → List pending.Task
+abbrev pub tasks_of : {St : Type 0} → Program → (St → facts.Store) → List (Task St) →
+    List pending.Task
 tasks_of p means ts = stack (task means (programs.goal p)) ts
 
-abbrev pub streams_of : {I St : Type 0} → Table I → (St → facts.Store) → List (Stream I St) → List model.Stream
+abbrev pub streams_of : {I St : Type 0} → Table I → (St → facts.Store) → List (Stream I St) →
+    List model.Stream
 streams_of t means ss = stack (stream_in t means) ss

@@ -1,5 +1,7 @@
--- Rows of suspensions and the streams that are kept for them, and which ids stand for suspensions whose rows are in order.
-use Rattle.std.specs.Prelude.{ℕ, zero, suc, Bool, false, List, [], ◌∷◌, map, Option, None, slice_get, is_some, IfSome}
+-- Rows of suspensions and the streams that are kept for them, and which ids stand for suspensions
+-- whose rows are in order.
+use Rattle.std.specs.Prelude.{ℕ, zero, suc, Bool, false, List, [], ◌∷◌, map, Option, None}
+use Rattle.std.specs.Prelude.{slice_get, is_some, IfSome}
 use Rattle.kan_model.specs.Programs.Goals.{Program}
 use Rattle.kan_model.specs.Stores.Store as facts
 use Rattle.kan_model.specs.Streams.Stream as model
@@ -32,14 +34,19 @@ module _ {St : Type 0} (means : St → facts.Store) (program : Program) where
   row_tree rows = grown_tree means program (thunks rows)
 
   -- the ids in a row belong, and the stream that it keeps is the force of its tree
-  abbrev pub RowIsSound : (PlainId → Type 0) → (PlainId → model.Thunk) → model.Thunk → Row St → Type 0
-  RowIsSound belongs tree t row = ThunkBelongs belongs row.thunk × IfSome row.kept (ForceOf belongs tree means program t)
+  abbrev pub RowIsSound : (PlainId → Type 0) → (PlainId → model.Thunk) → model.Thunk → Row St →
+      Type 0
+  RowIsSound belongs tree t row =
+      ThunkBelongs belongs row.thunk × IfSome row.kept (ForceOf belongs tree means program t)
 
-  -- an id is placed and its tree fits, and so is all that is reached from it in so many steps, by the ids in suspensions and in kept streams
+  -- an id is placed and its tree fits, and so is all that is reached from it in so many steps, by
+  -- the ids in suspensions and in kept streams
   abbrev pub IsSound : ℕ → List (Row St) → PlainId → Type 0
   IsSound zero rows id = is_placed (thunks rows) id × Fits program (row_tree rows id)
   IsSound (suc n) rows id =
-      is_placed (thunks rows) id × Fits program (row_tree rows id) × IfSome (slice_get rows id.at) (RowIsSound (IsSound n rows) (row_tree rows) (row_tree rows id))
+      is_placed (thunks rows) id × Fits program (row_tree rows id)
+      × IfSome (slice_get rows id.at)
+      (RowIsSound (IsSound n rows) (row_tree rows) (row_tree rows id))
 
   -- an id belongs where all that is reached from it is sound
   abbrev pub BelongsTo : List (Row St) → PlainId → Type 0

@@ -1,5 +1,6 @@
 -- Suspensions in a list, each naming earlier ones by number, and the trees that they stand for.
-use Rattle.std.specs.Prelude.{ℕ, suc, Bool, true, ◌&&◌, nat_lt, List, [], ◌∷◌, ◌++◌, Option, Some, None, slice_get, unwrap_or, ◌<◌, length}
+use Rattle.std.specs.Prelude.{ℕ, suc, Bool, true, ◌&&◌, nat_lt, List, [], ◌∷◌, ◌++◌, Option, Some}
+use Rattle.std.specs.Prelude.{None, slice_get, unwrap_or, ◌<◌, length}
 use Rattle.kan_model.specs.Programs.Goals.{Goal, Program}
 use Rattle.kan_model.specs.Stores.Store as facts
 use Rattle.kan_model.specs.Streams.Stream as model
@@ -46,5 +47,6 @@ abbrev pub is_placed : {St : Type 0} → List (Thunk PlainId St) → PlainId →
 is_placed ns id = id.at < length ns
 
 -- the tree that an id stands for under a program
-abbrev pub grown_tree : {St : Type 0} → (St → facts.Store) → Program → List (Thunk PlainId St) → PlainId → model.Thunk
+abbrev pub grown_tree : {St : Type 0} → (St → facts.Store) → Program → List (Thunk PlainId St) →
+    PlainId → model.Thunk
 grown_tree means program ns = tree_at (trees_after means (standing.goal_in program) [] ns)

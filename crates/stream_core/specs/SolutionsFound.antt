@@ -16,9 +16,11 @@ use Rattle.pull_bounds.specs.Finding.{IsSolvedFrom}
 -- solution that begins with this one, and it comes within the derivation's pulls.
 abbrev pub FindsSolutions : Program → Goal → List Tm → Store → Stream → Type 0
 FindsSolutions program g env st s =
-    (us : List Gd) (d : Derivation) → IsSolution st us → derives program g (map (value us) env) d ≡ true →
+    (us : List Gd) (d : Derivation) → IsSolution st us → derives program g (map (value us) env) d
+    ≡ true →
     (found : Store) × ComesWithin program (pulls_for program g d) s found × IsSolvedFrom us found
 
 -- within so many pulls there are no more answers than are counted for the goal
 abbrev pub GivesFew : Program → Goal → Stream → Type 0
-GivesFew program g s = (pulls : ℕ) → length (stores_within program pulls s) ≤ answers_within program g pulls
+GivesFew program g s =
+    (pulls : ℕ) → length (stores_within program pulls s) ≤ answers_within program g pulls

@@ -25,8 +25,10 @@ module _ {I St : Type 0} where
 
   abbrev pub thunk : (I → model.Thunk) → (St → facts.Store) → (ℕ → Goal) → Thunk I St → model.Thunk
   thunk tree means goal (Call rel args store) = model.Thunk.call rel (terms_of args) (means store)
-  thunk tree means goal (Pause g env store) = model.Thunk.pause (goal g) (terms_of env) (means store)
-  thunk tree means goal (Swap heads tail inner) = model.Thunk.swap (listed tree means heads tail) (tree inner)
+  thunk tree means goal (Pause g env store) =
+      model.Thunk.pause (goal g) (terms_of env) (means store)
+  thunk tree means goal (Swap heads tail inner) =
+      model.Thunk.swap (listed tree means heads tail) (tree inner)
   thunk tree means goal (Bind g env inner) = model.Thunk.bind (goal g) (terms_of env) (tree inner)
 
   -- the id inside a suspension, where there is one
@@ -51,9 +53,12 @@ abbrev pub goal_in : Program → ℕ → Goal
 goal_in program i = goal_at program.goals i
 
 -- what belonged belongs still, and stands for what it stood for
-abbrev pub Stays : {I : Type 0} → (I → Type 0) → (I → model.Thunk) → (I → Type 0) → (I → model.Thunk) → Type 0
+abbrev pub Stays : {I : Type 0} → (I → Type 0) → (I → model.Thunk) → (I → Type 0) →
+    (I → model.Thunk) → Type 0
 Stays {I} belonged was belongs is = (id : I) → belonged id → belongs id × (is id ≡ was id)
 
 -- a stream that is the force of a thunk, and whose ids belong
-abbrev pub ForceOf : {I St : Type 0} → (I → Type 0) → (I → model.Thunk) → (St → facts.Store) → Program → model.Thunk → Stream I St → Type 0
-ForceOf belongs tree means program t s = StreamBelongs belongs s × (stream tree means s ≡ force program t)
+abbrev pub ForceOf : {I St : Type 0} → (I → Type 0) → (I → model.Thunk) → (St → facts.Store) →
+    Program → model.Thunk → Stream I St → Type 0
+ForceOf belongs tree means program t s =
+    StreamBelongs belongs s × (stream tree means s ≡ force program t)

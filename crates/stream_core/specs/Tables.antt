@@ -6,7 +6,8 @@ use Rattle.kan_model.specs.Programs.Closed as programs
 use Rattle.kan_model.specs.Stores.Store as facts
 use Rattle.kan_model.specs.Streams.Stream as model
 use Rattle.kan_model.specs.declared.program.Program as code
-use Rattle.stream_core.specs.Suspensions.{goal_in, stream, thunk, StreamBelongs, ThunkBelongs, Stays, ForceOf}
+use Rattle.stream_core.specs.Suspensions.{goal_in, stream, thunk, StreamBelongs, ThunkBelongs}
+use Rattle.stream_core.specs.Suspensions.{Stays, ForceOf}
 use Rattle.stream_core.specs.declared.streams.Thunk.{Thunk}
 use Rattle.stream_core.specs.declared.streams.Stream.{Stream}
 
@@ -15,7 +16,8 @@ pub record Told (I : Type 0) : Type 0 where
   pub kept : I → Bool
   pub inner : I → Option I
 
--- the program, the ids that belong and the suspensions that they stand for; what is kept and how many suspensions there are, where that is told
+-- the program, the ids that belong and the suspensions that they stand for; what is kept and how
+-- many suspensions there are, where that is told
 pub record Table (I : Type 0) : Type 1 where
   pub program : Program
   pub belongs : I → Type 0
@@ -43,12 +45,14 @@ module _ {I : Type 0} where
   KeepsAll was is = (id : I) → was.kept id ≡ true → is.kept id ≡ true
 
   abbrev pub KeepsMore : I → Told I → Told I → Type 0
-  KeepsMore id was is = (is.kept id ≡ true) × ((other : I) → (other ≡ id) ⊎ (is.kept other ≡ was.kept other))
+  KeepsMore id was is =
+      (is.kept id ≡ true) × ((other : I) → (other ≡ id) ⊎ (is.kept other ≡ was.kept other))
 
   -- a stream is kept for this id, and for what is inside each id for which one is kept newly
   pub record KeepsWay (belonged : I → Type 0) (id : I) (was is : Told I) : Type 0 where
     pub here : is.kept id ≡ true
-    pub inside : (other inner : I) → belonged other → was.kept other ≡ false → is.kept other ≡ true → was.inner other ≡ Some inner → is.kept inner ≡ true
+    pub inside : (other inner : I) → belonged other → was.kept other ≡ false → is.kept other
+        ≡ true → was.inner other ≡ Some inner → is.kept inner ≡ true
 
   -- a table that grew: what it stood for stays, and what is kept changed so
   pub record GrowsBy (Keeps : Told I → Told I → Type 0) (was is : Table I) : Type 0 where

@@ -1,5 +1,7 @@
--- What is left to be done while goals are run: tasks on a stack, and the streams that earlier tasks left for them.
-use Rattle.std.specs.Prelude.{◌≡◌, ℕ, ◌+◌, ◌≤◌, ◌<◌, ◌^◌, true, List, [], ◌∷◌, ◌++◌, length, Contains}
+-- What is left to be done while goals are run: tasks on a stack, and the streams that earlier tasks
+-- left for them.
+use Rattle.std.specs.Prelude.{◌≡◌, ℕ, ◌+◌, ◌≤◌, ◌<◌, ◌^◌, true, List, [], ◌∷◌, ◌++◌, length}
+use Rattle.std.specs.Prelude.{Contains}
 use Rattle.std.specs.List.{list_all}
 use Rattle.kan_terms.specs.Tree.{Tm}
 use Rattle.kan_model.specs.Programs.Goals.{Goal, Program}
@@ -56,10 +58,12 @@ MayBind program g env s = IsOf program g env × Each (HasRoom g env) (heads s) �
 -- each task finds its streams, and may be done
 abbrev pub AreReady : Program → List Task → List Stream → Type 0
 AreReady program [] vs = Unit {0}
-AreReady program (Task.run_at g env st ∷ ts) vs = MayRun program g env st × AreReady program ts (run g env st ∷ vs)
+AreReady program (Task.run_at g env st ∷ ts) vs =
+    MayRun program g env st × AreReady program ts (run g env st ∷ vs)
 AreReady program (Task.append_two ∷ ts) (s ∷ t ∷ vs) = AreReady program ts (append s t ∷ vs)
 AreReady program (Task.append_two ∷ ts) vs = ⊥
-AreReady program (Task.bind_to g env ∷ ts) (s ∷ vs) = MayBind program g env s × AreReady program ts (bind_all (run g env) g env s ∷ vs)
+AreReady program (Task.bind_to g env ∷ ts) (s ∷ vs) =
+    MayBind program g env s × AreReady program ts (bind_all (run g env) g env s ∷ vs)
 AreReady program (Task.bind_to g env ∷ ts) [] = ⊥
 
 -- the sum of a number for each store
@@ -72,7 +76,8 @@ abbrev pub count : Goal → List Tm → Store → ℕ
 count (Goal.prim p) env st = 1
 count Goal.succeed env st = 1
 count Goal.fail env st = 1
-count (Goal.both g h) env st = count g env st + (for_each (count h env) (heads (run g env st)) + 1) + 1
+count (Goal.both g h) env st =
+    count g env st + (for_each (count h env) (heads (run g env st)) + 1) + 1
 count (Goal.either g h) env st = count h env st + (count g env st + 1) + 1
 count (Goal.fresh k g) env st = count g (env ++ variables st.counter k) (with_fresh st k) + 1
 count (Goal.later g) env st = 1
@@ -84,11 +89,14 @@ left [] vs = 0
 left (Task.run_at g env st ∷ ts) vs = count g env st + left ts (run g env st ∷ vs)
 left (Task.append_two ∷ ts) (s ∷ t ∷ vs) = left ts (append s t ∷ vs) + 1
 left (Task.append_two ∷ ts) vs = 0
-left (Task.bind_to g env ∷ ts) (s ∷ vs) = for_each (count g env) (heads s) + left ts (bind_all (run g env) g env s ∷ vs) + 1
+left (Task.bind_to g env ∷ ts) (s ∷ vs) =
+    for_each (count g env) (heads s) + left ts (bind_all (run g env) g env s ∷ vs) + 1
 left (Task.bind_to g env ∷ ts) [] = 0
 
--- tasks and streams that come from others by one task: the same is there in the end, all tasks are ready, and fewer are left
-pub record Becomes (program : Program) (ts : List Task) (vs : List Stream) (us : List Task) (ws : List Stream) : Type 0 where
+-- tasks and streams that come from others by one task: the same is there in the end, all tasks are
+-- ready, and fewer are left
+pub record Becomes (program : Program) (ts : List Task) (vs : List Stream) (us : List Task)
+    (ws : List Stream) : Type 0 where
   pub same : done us ws ≡ done ts vs
   pub ready : AreReady program ts vs → AreReady program us ws
   pub fewer : AreReady program ts vs → left us ws < left ts vs

@@ -163,7 +163,8 @@ to_program _ = record { relations = []; goals = [] }
 
 pub program-back : (p : Program) → to_program (of_program p) ≡ p
 program-back p =
-    ap₂ (λ rs gs. record { relations = rs; goals = gs }) (relations-back p.relations) (goals-back p.goals)
+    ap₂ (λ rs gs. record { relations = rs; goals = gs }) (relations-back p.relations)
+    (goals-back p.goals)
 
 abbrev pub of_store : Store → Word
 of_store st = node first (of_primitives st.prims) (number st.counter)
@@ -194,7 +195,8 @@ abbrev mutual
 
   pub of_thunk : Thunk → Word
   of_thunk (Thunk.call r args st) = node first (number r) (node first (of_terms args) (of_store st))
-  of_thunk (Thunk.pause g env st) = node fourth (of_goal g) (node first (of_terms env) (of_store st))
+  of_thunk (Thunk.pause g env st) =
+      node fourth (of_goal g) (node first (of_terms env) (of_store st))
   of_thunk (Thunk.swap t i) = node second (of_stream t) (of_thunk i)
   of_thunk (Thunk.bind g env i) = node third (node first (of_goal g) (of_terms env)) (of_thunk i)
 

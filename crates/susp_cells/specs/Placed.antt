@@ -1,4 +1,5 @@
--- Which suspensions are sound: the label is of the table and tells the thunk. That fits the program,
+-- Which suspensions are sound: the label is of the table and tells the thunk. That fits the
+-- program,
 -- and its ids are of the same table.
 use Rattle.std.specs.Prelude.{◌≡◌}
 use Rattle.kan_model.specs.Stores.Store as facts
@@ -13,7 +14,8 @@ place_of a = record { home = a.node.value.mark.home.numbers; token = a.node.valu
 
 pub record IsPlaced {St : Type 0} (means : St → facts.Store) (a : Inside St) : Type 0 where
   pub shown : IsOf a.node.value.mark.home.numbers a.node.value.mark.token
-  pub tree : label_tree (place_of a) ≡ stands_for (label_program (place_of a)) means a.node.value.thunk
+  pub tree : label_tree (place_of a)
+      ≡ stands_for (label_program (place_of a)) means a.node.value.thunk
   pub beside : ThunkBelongs (IsBeside (place_of a)) a.node.value.thunk
   pub fits : Fits (label_program (place_of a)) (label_tree (place_of a))
   pub top : a.node.value.top ≡ noted_top (label_tree (place_of a))

@@ -35,9 +35,11 @@ with_type types kind t = types
 -- the types with that of a term, and none exactly where the term can't have it
 abbrev pub GivesTypes : Types → Kind → Tm → Option Types → Type 0
 GivesTypes old kind t None = may_have old kind t ≡ false
-GivesTypes old kind t (Some new) = (may_have old kind t ≡ true) × ((v : ℕ) → new v ≡ with_type old kind t v)
+GivesTypes old kind t (Some new) =
+    (may_have old kind t ≡ true) × ((v : ℕ) → new v ≡ with_type old kind t v)
 
--- the types where a variable's type goes over to a term; a variable without a type leaves them as they are
+-- the types where a variable's type goes over to a term; a variable without a type leaves them as
+-- they are
 abbrev pub MovesTypes : Types → Option Kind → Tm → Option Types → Type 0
 MovesTypes old (Some kind) t new = GivesTypes old kind t new
 MovesTypes old None t None = ⊥

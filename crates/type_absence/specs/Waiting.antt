@@ -17,4 +17,6 @@ put_on more t old = old
 -- one of the tags stands in a term, or all variables of the term got them
 abbrev pub Tagged : TagsOf → List ℕ → Tm → Bool → TagsOf → Type 0
 Tagged old more t true new = has_any more t ≡ true
-Tagged old more t false new = (has_any more t ≡ false) × ((v : ℕ) → new v ≡ (if occurs v t then with_tags more (old v) else old v))
+Tagged old more t false new =
+    (has_any more t ≡ false)
+    × ((v : ℕ) → new v ≡ (if occurs v t then with_tags more (old v) else old v))

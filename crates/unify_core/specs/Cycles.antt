@@ -9,7 +9,8 @@ abbrev pub BoundOnce : Pairs → Type 0
 BoundOnce [] = Unit {0}
 BoundOnce (newest ∷ older) = (bound_to newest.0 older ≡ None) × BoundOnce older
 
--- following bound variables, also inside their terms, always ends: each variable of a term has a lower rank than the variable that is bound to the term
+-- following bound variables, also inside their terms, always ends: each variable of a term has a
+-- lower rank than the variable that is bound to the term
 pub record HasNoCycle (bound : Pairs) : Type 0 where
   pub once : BoundOnce bound
   pub rank : ℕ → ℕ

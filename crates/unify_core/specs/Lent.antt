@@ -1,5 +1,6 @@
 -- What the lent parts of a running unification stand for.
-use Rattle.std.specs.Prelude.{◌≡◌, ℕ, Bool, true, false, List, [], ◌∷◌, ◌++◌, ◌<◌, map, None, is_some, if◌then◌else◌}
+use Rattle.std.specs.Prelude.{◌≡◌, ℕ, Bool, true, false, List, [], ◌∷◌, ◌++◌, ◌<◌, map, None}
+use Rattle.std.specs.Prelude.{is_some, if◌then◌else◌}
 use Rattle.std.specs.Borrow.{Bor}
 use Rattle.kan_terms.specs.Tree.{Tree, Tm, occurs}
 use Rattle.kan_terms.specs.Bound.{bound_to}
@@ -56,7 +57,9 @@ waiting_equations (sides ∷ above) = waiting_equations above ++ equation_of sid
 
 -- a binding is lent, or its variable stands in its term
 abbrev pub Binds : Pairs → List Lent → Bool → List Lent → ℕ → Tm → Type 0
-Binds bound old true new x t = (occurs x (full (with_lent old bound) t) ≡ false) × ((one : Lent) × (lent_pair one ≡ (x, t)) × (new ≡ old ++ one ∷ []))
+Binds bound old true new x t =
+    (occurs x (full (with_lent old bound) t) ≡ false)
+    × ((one : Lent) × (lent_pair one ≡ (x, t)) × (new ≡ old ++ one ∷ []))
 Binds bound old false new x t = occurs x (full (with_lent old bound) t) ≡ true
 
 -- what two terms that were met leave of the equations, where they ask for no binding
@@ -67,8 +70,10 @@ Parts old goes_on new (Meeting.binding x t) = ⊥
 Parts old goes_on new Meeting.clash = goes_on ≡ false
 
 -- and what they leave of the lent bindings and the equations
-abbrev pub StepTo : Pairs → List Lent → List Equation → Bool → List Lent → List Equation → Meeting → Type 0
-StepTo bound lent old goes_on lent' new (Meeting.binding x t) = Binds bound lent goes_on lent' x t × (new ≡ old)
+abbrev pub StepTo : Pairs → List Lent → List Equation → Bool → List Lent → List Equation → Meeting →
+    Type 0
+StepTo bound lent old goes_on lent' new (Meeting.binding x t) =
+    Binds bound lent goes_on lent' x t × (new ≡ old)
 StepTo bound lent old goes_on lent' new met = (lent' ≡ lent) × Parts old goes_on new met
 
 -- each lent binding is of a variable that isn't bound by then

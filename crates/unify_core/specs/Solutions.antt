@@ -17,10 +17,13 @@ equation a b = record { left = a; right = b }
 -- bindings as equations, the oldest first
 abbrev pub bindings_solved : Pairs → List Equation
 bindings_solved [] = []
-bindings_solved (newest ∷ older) = bindings_solved older ++ equation (Tree.leaf newest.0) newest.1 ∷ []
+bindings_solved (newest ∷ older) =
+    bindings_solved older ++ equation (Tree.leaf newest.0) newest.1 ∷ []
 
--- bindings are older ones with pairs put in front one after the other, each of a variable that wasn't bound to a term that walked to itself at that moment
+-- bindings are older ones with pairs put in front one after the other, each of a variable that
+-- wasn't bound to a term that walked to itself at that moment
 abbrev pub AddedTo : Pairs → List (Tm × Tm) → Pairs → Type 0
 AddedTo older [] bound = bound ≡ older
 AddedTo older (added ∷ more) bound =
-    (x : ℕ) × (added.0 ≡ Tree.leaf x) × (bound_to x older ≡ None) × (walked older added.1 ≡ added.1) × AddedTo ((x, added.1) ∷ older) more bound
+    (x : ℕ) × (added.0 ≡ Tree.leaf x) × (bound_to x older ≡ None) × (walked older added.1 ≡ added.1)
+    × AddedTo ((x, added.1) ∷ older) more bound

@@ -1,5 +1,6 @@
 -- Unification over bindings, case by case, which says what is bound and in which order.
-use Rattle.std.specs.Prelude.{◌≡◌, ℕ, Bool, true, false, eqb, List, [], ◌∷◌, Option, Some, None, option_map, if◌then◌else◌}
+use Rattle.std.specs.Prelude.{◌≡◌, ℕ, Bool, true, false, eqb, List, [], ◌∷◌, Option, Some, None}
+use Rattle.std.specs.Prelude.{option_map, if◌then◌else◌}
 use Rattle.kan_terms.specs.Tree.{Tree, Tm, occurs, term_eq}
 use Rattle.kan_model.specs.Stores.Store.{Equation}
 use Rattle.unify_core.specs.Walking.{Pairs, walked, full}
@@ -24,7 +25,8 @@ taken_apart a b = if same_atoms a b then Meeting.nothing else Meeting.clash
 
 -- the left variable is bound, else the right one, else pairs are taken apart
 abbrev pub meeting : Tm → Tm → Meeting
-meeting (Tree.leaf x) (Tree.leaf y) = if eqb x y then Meeting.nothing else Meeting.binding x (Tree.leaf y)
+meeting (Tree.leaf x) (Tree.leaf y) =
+    if eqb x y then Meeting.nothing else Meeting.binding x (Tree.leaf y)
 meeting (Tree.leaf x) t = Meeting.binding x t
 meeting t (Tree.leaf y) = Meeting.binding y t
 meeting a b = taken_apart a b
@@ -33,17 +35,23 @@ meeting a b = taken_apart a b
 abbrev pub met : Pairs → Equation → Meeting
 met bound e = meeting (walked bound e.left) (walked bound e.right)
 
--- Under bindings these equations, the first one first, add these pairs in this order, or there is no unifier.
+-- Under bindings these equations, the first one first, add these pairs in this order, or there is
+-- no unifier.
 pub data Unifying : Pairs → List Equation → Option (List (Tm × Tm)) → Type 0 where
   no_equation : {bound : Pairs} → Unifying bound [] (Some [])
   same : {bound : Pairs} {e : Equation} {es : List Equation} {added : Option (List (Tm × Tm))} →
       met bound e ≡ Meeting.nothing → Unifying bound es added → Unifying bound (e ∷ es) added
-  parted : {bound : Pairs} {e first rest : Equation} {es : List Equation} {added : Option (List (Tm × Tm))} →
-      met bound e ≡ Meeting.parts first rest → Unifying bound (first ∷ rest ∷ es) added → Unifying bound (e ∷ es) added
-  bound_one : {bound : Pairs} {e : Equation} {x : ℕ} {t : Tm} {es : List Equation} {added : Option (List (Tm × Tm))} →
-      met bound e ≡ Meeting.binding x t → occurs x (full bound t) ≡ false → Unifying ((x, t) ∷ bound) es added →
+  parted : {bound : Pairs} {e first rest : Equation} {es : List Equation}
+      {added : Option (List (Tm × Tm))} →
+      met bound e ≡ Meeting.parts first rest → Unifying bound (first ∷ rest ∷ es) added →
+      Unifying bound (e ∷ es) added
+  bound_one : {bound : Pairs} {e : Equation} {x : ℕ} {t : Tm} {es : List Equation}
+      {added : Option (List (Tm × Tm))} →
+      met bound e ≡ Meeting.binding x t → occurs x (full bound t) ≡ false →
+      Unifying ((x, t) ∷ bound) es added →
       Unifying bound (e ∷ es) (option_map (λ more. (Tree.leaf x, t) ∷ more) added)
   inside : {bound : Pairs} {e : Equation} {x : ℕ} {t : Tm} {es : List Equation} →
-      met bound e ≡ Meeting.binding x t → occurs x (full bound t) ≡ true → Unifying bound (e ∷ es) None
+      met bound e ≡ Meeting.binding x t → occurs x (full bound t) ≡ true →
+      Unifying bound (e ∷ es) None
   apart : {bound : Pairs} {e : Equation} {es : List Equation} →
       met bound e ≡ Meeting.clash → Unifying bound (e ∷ es) None

@@ -12,12 +12,14 @@ abbrev pub go_on : ℕ → Tm → Tm → Tm
 go_on x t (Tree.leaf y) = if eqb x y then t else Tree.leaf y
 go_on x t reached = reached
 
--- what a term walks to, from variable to variable: where the older pairs lead to the newest variable, the way goes on with its term
+-- what a term walks to, from variable to variable: where the older pairs lead to the newest
+-- variable, the way goes on with its term
 abbrev pub walked : Pairs → Tm → Tm
 walked [] u = u
 walked (newest ∷ older) u = go_on newest.0 (walked older newest.1) (walked older u)
 
--- the full value of a variable: that under the older pairs, with the newest variable replaced by the full value of its term
+-- the full value of a variable: that under the older pairs, with the newest variable replaced by
+-- the full value of its term
 abbrev pub ends : Pairs → ℕ → Tm
 ends [] v = Tree.leaf v
 ends (newest ∷ older) v = replace newest.0 (fill (ends older) newest.1) (ends older v)

@@ -1,6 +1,7 @@
 //! Laws of the definitions. Each function has its law for its contract, and does nothing.
 
-ghost use Rattle.unify_core.specs.Laws.{AddsOne, AddsSolutions, BindingsReplace, FullValues, WalksToEnd};
+ghost use Rattle.unify_core.specs.Laws.{AddsOne, AddsSolutions, BindingsReplace, FullValues};
+ghost use Rattle.unify_core.specs.Laws.{WalksToEnd};
 
 /// Walking follows bound variables to the end.
 #[tactic(auto, using(crate::proofs::CentralLaw::walks_to_end))]

@@ -1,9 +1,12 @@
--- What is open at a place in a text: where the next datum will stand, or that only a close may come.
+-- What is open at a place in a text: where the next datum will stand, or that only a close may
+-- come.
 use Rattle.std.specs.Prelude.{ℕ, suc, ◌+◌, List, [], ◌∷◌, ◌++◌, length, Option, Some, None}
 use Rattle.kan_grammar.specs.Data.Words.{Atom, Shape, Prefix}
-use Rattle.kan_grammar.specs.Data.Written.{Written, Within, single, list, prefixed, close, dotted, element}
+use Rattle.kan_grammar.specs.Data.Written.{Written, Within, single, list, prefixed, close, dotted}
+use Rattle.kan_grammar.specs.Data.Written.{element}
 
--- what is made of the data of a text: of an atom, of a list by its elements, of one with a dot, and of a prefixed datum, each with its offsets
+-- what is made of the data of a text: of an atom, of a list by its elements, of one with a dot, and
+-- of a prefixed datum, each with its offsets
 pub record Build (D : Type 0) : Type 0 where
   pub of_atom : ℕ → Atom → D
   -- the offset of the opening, the shape, the elements, the offset of the close
@@ -12,7 +15,8 @@ pub record Build (D : Type 0) : Type 0 where
   pub of_dotted : ℕ → Shape → List D → ℕ → D → ℕ → D
   pub of_prefixed : ℕ → Prefix → D → D
 
--- where a datum may come: after the data at the top; in a list, after its elements; after the dot of a list, which has a first element; after a prefix
+-- where a datum may come: after the data at the top; in a list, after its elements; after the dot
+-- of a list, which has a first element; after a prefix
 pub data Place (D : Type 0) : Type 0 where
   top : List D → Place D
   in_list : Place D → ℕ → Shape → List D → Place D
@@ -52,4 +56,10 @@ row (d ∷ ds) inner = element d (row ds inner)
 
 -- the data as they are written
 abbrev pub as_written : Build Written
-as_written = record { of_atom = single; of_list = λ at s ds end. list at s (row ds (close end)); of_dotted = λ at s ds point d end. list at s (row ds (dotted point d end)); of_prefixed = prefixed }
+as_written =
+    record {
+      of_atom = single;
+      of_list = λ at s ds end. list at s (row ds (close end));
+      of_dotted = λ at s ds point d end. list at s (row ds (dotted point d end));
+      of_prefixed = prefixed;
+    }

@@ -1,11 +1,16 @@
--- The faults of a text: the questions at each token in their order, the two at the end, and the reading that asks them.
-use Rattle.std.specs.Prelude.{ℕ, Bool, true, false, nat_le, if◌then◌else◌, List, [], ◌∷◌, Option, Some, None}
+-- The faults of a text: the questions at each token in their order, the two at the end, and the
+-- reading that asks them.
+use Rattle.std.specs.Prelude.{ℕ, Bool, true, false, nat_le, if◌then◌else◌, List, [], ◌∷◌, Option}
+use Rattle.std.specs.Prelude.{Some, None}
 use Rattle.std.specs.Str.{is_utf8}
 use Rattle.std.specs.Str.Lossy.{utf8_valid_len}
 use Rattle.kan_grammar.specs.Data.Tokens.{Placed, placed, tokens}
-use Rattle.kan_grammar.specs.Data.Words.{out_of_range, reserved, Shape, round, square, Token, opening, closing, prefix, dot, atom, bad_string, bad}
+use Rattle.kan_grammar.specs.Data.Words.{out_of_range, reserved, Shape, round, square, Token}
+use Rattle.kan_grammar.specs.Data.Words.{opening, closing, prefix, dot, atom, bad_string, bad}
 use Rattle.kan_grammar.specs.Data.Written.{deepest}
-use Rattle.kan_grammar.specs.Data.Enclosing.{Build, top, in_list, after_dot, after_prefix, Enclosing, awaiting, ended, depth, innermost_shape, put}
+use Rattle.kan_grammar.specs.Data.Enclosing.{Build, top, in_list, after_dot, after_prefix}
+use Rattle.kan_grammar.specs.Data.Enclosing.{Enclosing, awaiting, ended, depth, innermost_shape}
+use Rattle.kan_grammar.specs.Data.Enclosing.{put}
 
 -- an offset and the number of a refusal
 pub data Fault : Type 0 where
@@ -67,7 +72,8 @@ is_second t (awaiting p) = None
 
 -- the token begins a datum that stands too deep
 abbrev pub is_too_deep : {D : Type 0} → ℕ → Token → Enclosing D → Option Fault
-is_too_deep at t (awaiting p) = if begins t then (if nat_le (depth p) deepest then None else Some (fault at 6)) else None
+is_too_deep at t (awaiting p) =
+    if begins t then (if nat_le (depth p) deepest then None else Some (fault at 6)) else None
 is_too_deep at t (ended outer start s e ds point d) = None
 
 -- the token is a number out of range
@@ -88,16 +94,21 @@ first_fault (None ∷ more) = first_fault more
 
 -- the questions at a token, in their order
 abbrev pub refusal : {D : Type 0} → Enclosing D → ℕ → Token → Option Fault
-refusal o at t = first_fault (is_bad at t ∷ is_bad_string at t ∷ closes_prefix t o ∷ is_stray at t o ∷ closes_dot t o ∷ is_misplaced at t o ∷ is_second t o ∷ is_too_deep at t o ∷ is_out_of_range at t ∷ is_reserved_name at t ∷ [])
+refusal o at t =
+    first_fault (is_bad at t ∷ is_bad_string at t ∷ closes_prefix t o ∷ is_stray at t o
+    ∷ closes_dot t o ∷ is_misplaced at t o ∷ is_second t o ∷ is_too_deep at t o
+    ∷ is_out_of_range at t ∷ is_reserved_name at t ∷ [])
 
 -- what is open after a token that no question refuses
 abbrev pub after : {D : Type 0} → Build D → Enclosing D → ℕ → Token → Enclosing D
 after b (awaiting p) at (opening s) = awaiting (in_list p at s [])
 after b (awaiting p) at (prefix q) = awaiting (after_prefix p at q)
 after b (awaiting p) at (atom a) = put b p (b.of_atom at a)
-after b (awaiting (in_list outer start s (e ∷ ds))) at dot = awaiting (after_dot outer start s e ds at)
+after b (awaiting (in_list outer start s (e ∷ ds))) at dot =
+    awaiting (after_dot outer start s e ds at)
 after b (awaiting (in_list outer start s ds)) at (closing r) = put b outer (b.of_list start s ds at)
-after b (ended outer start s e ds point d) at (closing r) = put b outer (b.of_dotted start s (e ∷ ds) point d at)
+after b (ended outer start s e ds point d) at (closing r) =
+    put b outer (b.of_dotted start s (e ∷ ds) point d at)
 after b o at t = o
 
 -- a reading goes on with what is open, or has stopped at a fault

@@ -3,8 +3,10 @@ use Rattle.std.specs.Prelude.{ℕ, List, []}
 use Rattle.kan_terms.specs.Tree.{Tree, leaf, num, truth, nil, pair}
 use Rattle.kan_model.specs.Answers.Text.{print, in_quotes}
 use Rattle.kan_terms.specs.Table.{no_names}
-use Rattle.kan_grammar.specs.Data.Words.{Atom, symbol, string, number, truth as truth_value, out_of_range, reserved, Prefix, quote, quasiquote, unquote}
-use Rattle.kan_grammar.specs.Data.Written.{Written, Within, single, list, prefixed, close, dotted, element}
+use Rattle.kan_grammar.specs.Data.Words.{Atom, symbol, string, number, truth as truth_value}
+use Rattle.kan_grammar.specs.Data.Words.{out_of_range, reserved, Prefix, quote, quasiquote, unquote}
+use Rattle.kan_grammar.specs.Data.Written.{Written, Within, single, list, prefixed, close, dotted}
+use Rattle.kan_grammar.specs.Data.Written.{element}
 use lib.Chars.{codes}
 
 -- a symbol by its name, or a string by the text that it means
@@ -31,7 +33,8 @@ prefix_name quote = codes "quote"
 prefix_name quasiquote = codes "quasiquote"
 prefix_name unquote = codes "unquote"
 
--- a datum read as pairs: a list is a pair for each element before the empty list, or before the datum after the dot, and a prefixed datum a list of two
+-- a datum read as pairs: a list is a pair for each element before the empty list, or before the
+-- datum after the dot, and a prefixed datum a list of two
 abbrev mutual
   pub pairs : Written → Named
   pairs (single at a) = atom_tree a

@@ -1,5 +1,6 @@
 -- The strings of a text: how far one goes, and the text that it means.
-use Rattle.std.specs.Prelude.{ℕ, suc, Bool, true, false, ◌||◌, ◌==◌, nat_lt, List, [], ◌∷◌, Option, None, Some, option_map, if◌then◌else◌}
+use Rattle.std.specs.Prelude.{ℕ, suc, Bool, true, false, ◌||◌, ◌==◌, nat_lt, List, [], ◌∷◌, Option}
+use Rattle.std.specs.Prelude.{None, Some, option_map, if◌then◌else◌}
 use Rattle.kan_grammar.specs.Data.Words.{is_one_of}
 use lib.Chars.{codes}
 
@@ -7,7 +8,8 @@ use lib.Chars.{codes}
 abbrev pub is_control : ℕ → Bool
 is_control b = nat_lt b 32 || b == 127
 
--- what may stand behind a backslash: a quotation mark, a backslash, and the letters of a line feed, a tab and a carriage return
+-- what may stand behind a backslash: a quotation mark, a backslash, and the letters of a line feed,
+-- a tab and a carriage return
 abbrev pub is_escape : ℕ → Bool
 is_escape b = is_one_of (codes "\"\\ntr") b
 
@@ -37,12 +39,15 @@ length_by Role.closes rest = Some 0
 length_by Role.never rest = None
 length_by Role.part rest = option_map (λ n. suc n) rest
 
--- how many bytes come before the mark that closes a string, directly behind a backslash or not; none where it isn't closed or holds what it may not
+-- how many bytes come before the mark that closes a string, directly behind a backslash or not;
+-- none where it isn't closed or holds what it may not
 abbrev pub string_length : Bool → List ℕ → Option ℕ
 string_length escape [] = None
-string_length escape (b ∷ bs) = length_by (role escape b) (string_length (begins_escape escape b) bs)
+string_length escape (b ∷ bs) =
+    length_by (role escape b) (string_length (begins_escape escape b) bs)
 
--- a byte's part in what a string means, before the rest: a backslash that isn't behind another has none
+-- a byte's part in what a string means, before the rest: a backslash that isn't behind another has
+-- none
 abbrev pub byte_meaning : Bool → ℕ → List ℕ → List ℕ
 byte_meaning true b rest = escape_meaning b ∷ rest
 byte_meaning false b rest = if b == 92 then rest else b ∷ rest

@@ -1,7 +1,10 @@
 -- The tokens of a text: its bytes cut by longest match, each token with its offset.
-use Rattle.std.specs.Prelude.{ℕ, zero, suc, true, false, not, if◌then◌else◌, ◌==◌, List, [], ◌∷◌, Option, None, Some, take, take_while}
+use Rattle.std.specs.Prelude.{ℕ, zero, suc, true, false, not, if◌then◌else◌, ◌==◌, List, [], ◌∷◌}
+use Rattle.std.specs.Prelude.{Option, None, Some, take, take_while}
 use Rattle.std.specs.List.{prefix_len}
-use Rattle.kan_grammar.specs.Data.Words.{round, square, quote, quasiquote, unquote, Token, opening, closing, prefix, atom, string, truth, bad_string, bad, is_one_of, is_word_byte, word_token}
+use Rattle.kan_grammar.specs.Data.Words.{round, square, quote, quasiquote, unquote, Token, opening}
+use Rattle.kan_grammar.specs.Data.Words.{closing, prefix, atom, string, truth, bad_string, bad}
+use Rattle.kan_grammar.specs.Data.Words.{is_one_of, is_word_byte, word_token}
 use Rattle.kan_grammar.specs.Data.Strings.{string_length, string_meaning}
 use lib.Chars.{codes}
 
@@ -15,7 +18,8 @@ comment_length bs = prefix_len (λ b. not (b == 10)) bs
 
 -- the token of a number sign and the word after it
 abbrev pub hash_token : List ℕ → Token
-hash_token (b ∷ []) = if b == 116 then atom (truth true) else (if b == 102 then atom (truth false) else bad)
+hash_token (b ∷ []) =
+    if b == 116 then atom (truth true) else (if b == 102 then atom (truth false) else bad)
 hash_token _ = bad
 
 -- what a byte can begin: nothing, a comment, a token of its own, or one that later bytes decide
@@ -48,7 +52,8 @@ abbrev pub comma_piece : List ℕ → Piece
 comma_piece [] = spelled (prefix unquote) 0
 comma_piece (b ∷ bs) = if b == 64 then spelled bad 1 else spelled (prefix unquote) 0
 
--- the piece of a quotation mark, where a string goes on for so many bytes behind it: one that begins no string is a token by itself
+-- the piece of a quotation mark, where a string goes on for so many bytes behind it: one that
+-- begins no string is a token by itself
 abbrev pub string_piece : Option ℕ → List ℕ → Piece
 string_piece None bs = spelled bad_string 0
 string_piece (Some n) bs = spelled (atom (string (string_meaning false (take n bs)))) (suc n)
@@ -61,7 +66,8 @@ piece_of (whole t) b bs = spelled t 0
 piece_of comma b bs = comma_piece bs
 piece_of hash b bs = spelled (hash_token (take_while is_word_byte bs)) (prefix_len is_word_byte bs)
 piece_of quotation b bs = string_piece (string_length false bs) bs
-piece_of in_word b bs = spelled (word_token (b ∷ take_while is_word_byte bs)) (prefix_len is_word_byte bs)
+piece_of in_word b bs =
+    spelled (word_token (b ∷ take_while is_word_byte bs)) (prefix_len is_word_byte bs)
 
 -- the piece that a byte begins, before the bytes that follow
 unfoldable pub piece : ℕ → List ℕ → Piece
@@ -81,7 +87,8 @@ placed_before at (spelled t n) rest = placed at t ∷ rest
 unfoldable pub tokens_from : ℕ → ℕ → List ℕ → List Placed
 tokens_from at skip [] = []
 tokens_from at (suc skip) (b ∷ bs) = tokens_from (suc at) skip bs
-tokens_from at zero (b ∷ bs) = placed_before at (piece b bs) (tokens_from (suc at) (more (piece b bs)) bs)
+tokens_from at zero (b ∷ bs) =
+    placed_before at (piece b bs) (tokens_from (suc at) (more (piece b bs)) bs)
 
 -- the tokens of a text
 unfoldable pub tokens : List ℕ → List Placed

@@ -1,5 +1,6 @@
 -- What tokens there are, and which of them a word is.
-use Rattle.std.specs.Prelude.{ℕ, ◌^◌, ℤ, pos, negsuc, Bool, true, false, ◌&&◌, ◌||◌, if◌then◌else◌, nat_lt, ◌==◌, List, [], ◌∷◌}
+use Rattle.std.specs.Prelude.{ℕ, ◌^◌, ℤ, pos, negsuc, Bool, true, false, ◌&&◌, ◌||◌, if◌then◌else◌}
+use Rattle.std.specs.Prelude.{nat_lt, ◌==◌, List, [], ◌∷◌}
 use Rattle.std.specs.Char.{is_ascii_digit, is_ascii_alphanumeric}
 use Rattle.std.specs.Str.Parse.{without_leading_sign, signed_digits_value}
 use lib.Chars.{codes}
@@ -45,9 +46,11 @@ abbrev pub is_one_of : List ℕ → ℕ → Bool
 is_one_of [] b = false
 is_one_of (c ∷ cs) b = b == c || is_one_of cs b
 
--- the bytes of words: ASCII letters and digits, some signs, and each byte of a character above U+007F
+-- the bytes of words: ASCII letters and digits, some signs, and each byte of a character above
+-- U+007F
 abbrev pub is_word_byte : ℕ → Bool
-is_word_byte b = is_ascii_alphanumeric b || (nat_lt 127 b || is_one_of (codes "!$%&*/:<=>?^_~+-.@") b)
+is_word_byte b =
+    is_ascii_alphanumeric b || (nat_lt 127 b || is_one_of (codes "!$%&*/:<=>?^_~+-.@") b)
 
 -- the first byte is a digit
 abbrev pub begins_with_digit : List ℕ → Bool
@@ -79,7 +82,9 @@ number_atom z = if is_in_range z then number z else out_of_range
 
 -- the token of a word that looks like a number: it is one where digits alone follow the sign
 abbrev pub number_token : List ℕ → Token
-number_token w = if all_digits (without_leading_sign w) then atom (number_atom (signed_digits_value 10 w)) else bad
+number_token w =
+    if all_digits (without_leading_sign w) then atom (number_atom (signed_digits_value 10 w))
+    else bad
 
 -- an underscore and one or more digits
 abbrev pub is_reserved : List ℕ → Bool
@@ -93,4 +98,7 @@ is_dot _ = false
 
 -- the token of a word
 unfoldable pub word_token : List ℕ → Token
-word_token w = if is_dot w then dot else (if looks_like_number w then number_token w else (if is_reserved w then atom reserved else atom (symbol w)))
+word_token w =
+    if is_dot w then dot
+    else (if looks_like_number w then number_token w
+    else (if is_reserved w then atom reserved else atom (symbol w)))

@@ -1,9 +1,13 @@
--- Data as they are written: trees with the offsets of their tokens, the tokens that spell them, and which of them are allowed.
+-- Data as they are written: trees with the offsets of their tokens, the tokens that spell them, and
+-- which of them are allowed.
 use Rattle.std.specs.Prelude.{ℕ, suc, ◌+◌, Bool, true, false, ◌&&◌, nat_lt, nat_le, List, [], ◌∷◌}
 use Rattle.kan_grammar.specs.Data.Tokens.{Placed, placed}
-use Rattle.kan_grammar.specs.Data.Words.{Atom, symbol, string, number, truth, out_of_range, reserved, Shape, Prefix, opening, closing, prefix, dot, atom}
+use Rattle.kan_grammar.specs.Data.Words.{Atom, symbol, string, number, truth, out_of_range}
+use Rattle.kan_grammar.specs.Data.Words.{reserved, Shape, Prefix, opening, closing, prefix, dot}
+use Rattle.kan_grammar.specs.Data.Words.{atom}
 
--- a datum begins at its offset; what stands in a list goes on to its close, the datum after a dot being the last
+-- a datum begins at its offset; what stands in a list goes on to its close, the datum after a dot
+-- being the last
 mutual
   pub data Written : Type 0 where
     single : ℕ → Atom → Written
@@ -45,17 +49,21 @@ is_allowed_atom (truth b) = true
 is_allowed_atom out_of_range = false
 is_allowed_atom reserved = false
 
--- a datum at a depth is allowed where none in it stands deeper than the limit; and what stands in a list at a depth, after so many elements
+-- a datum at a depth is allowed where none in it stands deeper than the limit; and what stands in a
+-- list at a depth, after so many elements
 abbrev mutual
   pub is_allowed : ℕ → ℕ → Written → Bool
   is_allowed limit depth (single at a) = nat_le depth limit && is_allowed_atom a
-  is_allowed limit depth (list at s inner) = nat_le depth limit && are_allowed_within limit depth 0 inner
+  is_allowed limit depth (list at s inner) =
+      nat_le depth limit && are_allowed_within limit depth 0 inner
   is_allowed limit depth (prefixed at p d) = nat_le depth limit && is_allowed limit (depth + 2) d
 
   pub are_allowed_within : ℕ → ℕ → ℕ → Within → Bool
   are_allowed_within limit depth count (close at) = true
-  are_allowed_within limit depth count (dotted at d end) = nat_lt 0 count && is_allowed limit (depth + count) d
-  are_allowed_within limit depth count (element d inner) = is_allowed limit (depth + suc count) d && are_allowed_within limit depth (suc count) inner
+  are_allowed_within limit depth count (dotted at d end) =
+      nat_lt 0 count && is_allowed limit (depth + count) d
+  are_allowed_within limit depth count (element d inner) =
+      is_allowed limit (depth + suc count) d && are_allowed_within limit depth (suc count) inner
 
 -- the data of a text stand at depth 0
 abbrev pub are_allowed : ℕ → List Written → Bool

@@ -1,5 +1,6 @@
 -- Binders and tags, with the faults of their shape.
-use Rattle.std.specs.Prelude.{ℕ, Bool, not, ◌&&◌, ◌==◌, List, [], ◌∷◌, ◌++◌, Option, Some, None, if◌then◌else◌}
+use Rattle.std.specs.Prelude.{ℕ, Bool, not, ◌&&◌, ◌==◌, List, [], ◌∷◌, ◌++◌, Option, Some, None}
+use Rattle.std.specs.Prelude.{if◌then◌else◌}
 use Rattle.std.specs.List.{list_any}
 use Rattle.kan_terms.specs.Table.{Table}
 use Rattle.kan_grammar.specs.Data.Faults.{Fault, fault}
@@ -36,16 +37,20 @@ bound_names d = []
 
 -- the faults of the names in a list, after some names
 abbrev pub names_faults : Table → List ℕ → Sited → List Fault
-names_faults t before (Sited.pair at a d) = binder_faults t before a ++ names_faults t (before ++ names_of a) d
+names_faults t before (Sited.pair at a d) =
+    binder_faults t before a ++ names_faults t (before ++ names_of a) d
 names_faults t before d = []
 
 -- the names of a binder, which is a proper list of them
 abbrev pub binder : Table → Sited → Checked (List ℕ)
-binder t d = if is_proper d then record { value = bound_names d; faults = names_faults t [] d } else record { value = []; faults = fault (site d) 10 ∷ [] }
+binder t d =
+    if is_proper d then record { value = bound_names d; faults = names_faults t [] d }
+    else record { value = []; faults = fault (site d) 10 ∷ [] }
 
 -- the tag of an absento is a quoted symbol
 abbrev pub quoted_symbol : Table → Sited → Option ℕ
-quoted_symbol t (Sited.pair _ q (Sited.pair _ (Sited.name _ s) (Sited.nil _))) = elim (head_word t q) [ Word.quote ↦ Some s | _ ↦ None ]
+quoted_symbol t (Sited.pair _ q (Sited.pair _ (Sited.name _ s) (Sited.nil _))) =
+    elim (head_word t q) [ Word.quote ↦ Some s | _ ↦ None ]
 quoted_symbol t d = None
 
 -- the tag, where it is one

@@ -85,25 +85,26 @@ term_two t parts = term_form t (first (rest parts))
 abbrev mutual
   pub goal_form : Table → Sited → GoalForm
   goal_form t (Sited.name at s) = atom_goal (word t s) at
-  goal_form t (Sited.pair at (Sited.name head s) parts) = elim (is_count (parts_of (word t s)) (count parts)) [
-    | false ↦ misshapen at
-    | true ↦ elim (word t s) [
-      | Word.same ↦ same (term_one t parts) (term_two t parts)
-      | Word.differ ↦ differ (term_one t parts) (term_two t parts)
-      | Word.symbolo ↦ symbol (term_one t parts)
-      | Word.numbero ↦ number (term_one t parts)
-      | Word.stringo ↦ text (term_one t parts)
-      | Word.absento ↦ absent (tag t (first parts)) (term_two t parts)
-      | Word.fresh ↦ fresh_form t at parts
-      | Word.conde ↦ clauses (clause_forms t parts)
-      | Word.conj ↦ all_of (goal_forms t parts)
-      | Word.disj ↦ one_of (goal_forms t parts)
-      | Word.conj_two ↦ all_of (goal_forms t parts)
-      | Word.disj_two ↦ one_of (goal_forms t parts)
-      | Word.other ↦ call head s (term_forms t parts)
-      | _ ↦ misshapen at
-    ]
-  ]
+  goal_form t (Sited.pair at (Sited.name head s) parts) =
+      elim (is_count (parts_of (word t s)) (count parts)) [
+        | false ↦ misshapen at
+        | true ↦ elim (word t s) [
+          | Word.same ↦ same (term_one t parts) (term_two t parts)
+          | Word.differ ↦ differ (term_one t parts) (term_two t parts)
+          | Word.symbolo ↦ symbol (term_one t parts)
+          | Word.numbero ↦ number (term_one t parts)
+          | Word.stringo ↦ text (term_one t parts)
+          | Word.absento ↦ absent (tag t (first parts)) (term_two t parts)
+          | Word.fresh ↦ fresh_form t at parts
+          | Word.conde ↦ clauses (clause_forms t parts)
+          | Word.conj ↦ all_of (goal_forms t parts)
+          | Word.disj ↦ one_of (goal_forms t parts)
+          | Word.conj_two ↦ all_of (goal_forms t parts)
+          | Word.disj_two ↦ one_of (goal_forms t parts)
+          | Word.other ↦ call head s (term_forms t parts)
+          | _ ↦ misshapen at
+        ]
+      ]
   goal_form t d = misshapen (site d)
 
   -- goals in a row
@@ -118,5 +119,7 @@ abbrev mutual
 
   -- clauses in a row, each a proper list of goals that hold together
   pub clause_forms : Table → Sited → GoalForms
-  clause_forms t (Sited.pair _ c parts) = more (elim (is_proper c) [ true ↦ all_of (goal_forms t c) | false ↦ misshapen (site c) ]) (clause_forms t parts)
+  clause_forms t (Sited.pair _ c parts) =
+      more (elim (is_proper c) [ true ↦ all_of (goal_forms t c) | false ↦ misshapen (site c) ])
+      (clause_forms t parts)
   clause_forms t d = none

@@ -1,5 +1,7 @@
--- What a text behind a library is answered with, as a function of their bytes, and what is written then.
-use Rattle.std.specs.Prelude.{◌≡◌, ℕ, Bool, true, false, List, [], ◌∷◌, ◌++◌, Option, Some, None, codes}
+-- What a text behind a library is answered with, as a function of their bytes, and what is written
+-- then.
+use Rattle.std.specs.Prelude.{◌≡◌, ℕ, Bool, true, false, List, [], ◌∷◌, ◌++◌, Option, Some, None}
+use Rattle.std.specs.Prelude.{codes}
 use Rattle.std.specs.List.{list_any}
 use Rattle.kan_terms.specs.Table.{Table}
 use Rattle.kan_refusals.specs.Refusals.{number_of, refusal_of, text_of}
@@ -26,10 +28,13 @@ abbrev pub unless_fault : Option Fault → Reply → Reply
 unless_fault (Some f) otherwise = Reply.refusal f
 unless_fault None otherwise = otherwise
 
--- the reply to data behind those of a library: their fault under a table of names, or else their program and runs
+-- the reply to data behind those of a library: their fault under a table of names, or else their
+-- program and runs
 abbrev pub reply_to_data : Dialect → Table → List Written → List Written → Reply
 reply_to_data dialect table library text =
-    unless_fault (fault_of_text table library text) (Reply.accepted table (program_of_text dialect table library text) (queries_of_text dialect table library text))
+    unless_fault (fault_of_text table library text)
+    (Reply.accepted table (program_of_text dialect table library text)
+    (queries_of_text dialect table library text))
 
 -- the reply to a reading: its fault, or else that to its data
 abbrev pub reply_to_reading : Dialect → Table → List Written → Reading Written → Reply
@@ -43,7 +48,9 @@ data_of (refused f) = []
 
 -- the reply to a text behind a library, by their bytes
 unfoldable pub reply : List ℕ → List ℕ → Dialect → Reply
-reply library text dialect = reply_to_reading dialect (text_table library text) (data_of (read_text as_written library)) (read_text as_written text)
+reply library text dialect =
+    reply_to_reading dialect (text_table library text) (data_of (read_text as_written library))
+    (read_text as_written text)
 
 -- data may serve as a library under a table of names: they have no fault and no run
 pub record IsLibrary (table : Table) (library : List Written) : Type 0 where
@@ -80,4 +87,5 @@ is_spent e = false
 
 abbrev pub spends_fuel : ℕ → Reply → Bool
 spends_fuel fuel (Reply.refusal f) = false
-spends_fuel fuel (Reply.accepted table program queries) = list_any (λ q. is_spent (take_query program fuel q).ending) queries
+spends_fuel fuel (Reply.accepted table program queries) =
+    list_any (λ q. is_spent (take_query program fuel q).ending) queries

@@ -1,5 +1,7 @@
--- What names stand for: the slots of variables, the numbers of relations, and the goals that goals as they are written stand for.
-use Rattle.std.specs.Prelude.{ℕ, suc, Bool, false, ◌==◌, List, [], ◌∷◌, ◌++◌, Option, Some, None, map, length, option_map, unwrap_or, if◌then◌else◌}
+-- What names stand for: the slots of variables, the numbers of relations, and the goals that goals
+-- as they are written stand for.
+use Rattle.std.specs.Prelude.{ℕ, suc, Bool, false, ◌==◌, List, [], ◌∷◌, ◌++◌, Option, Some, None}
+use Rattle.std.specs.Prelude.{map, length, option_map, unwrap_or, if◌then◌else◌}
 use Rattle.kan_terms.specs.Tree.{Tree, fill}
 use Rattle.kan_model.specs.Programs.Goals.{Template, Primitive, Goal}
 use Rattle.kan_grammar.specs.declared.dialect.Dialect.{Dialect}
@@ -25,7 +27,8 @@ or_else (Some i) other = Some i
 -- the slot of a name: the last that has it, since inner names hide outer ones
 abbrev pub slot_of : Names → ℕ → Option ℕ
 slot_of [] s = None
-slot_of (n ∷ ns) s = or_else (option_map (λ i. suc i) (slot_of ns s)) (if is_named n s then Some 0 else None)
+slot_of (n ∷ ns) s =
+    or_else (option_map (λ i. suc i) (slot_of ns s)) (if is_named n s then Some 0 else None)
 
 -- the leaf of a use
 abbrev pub leaf_in : Names → Use → Template
@@ -39,7 +42,8 @@ template_in ns u = fill (leaf_in ns) u
 -- the first relation of a name
 abbrev pub relation_number : List Defined → ℕ → Option ℕ
 relation_number [] s = None
-relation_number (d ∷ ds) s = if s == d.name then Some 0 else option_map (λ r. suc r) (relation_number ds s)
+relation_number (d ∷ ds) s =
+    if s == d.name then Some 0 else option_map (λ r. suc r) (relation_number ds s)
 
 -- how many arguments it takes
 abbrev pub arity : List Defined → ℕ → Option ℕ
@@ -67,22 +71,30 @@ abbrev pub suspended_in : Dialect → Goal → Goal
 suspended_in Book g = g
 suspended_in All g = Goal.later g
 
--- the goal where these relations and names are there: in the dialect in which they suspend, fresh and conde do
+-- the goal where these relations and names are there: in the dialect in which they suspend, fresh
+-- and conde do
 abbrev mutual
   pub goal_in : Dialect → List Defined → Names → GoalForm → Goal
   goal_in dialect ds ns GoalForm.succeed = Goal.succeed
   goal_in dialect ds ns GoalForm.fail = Goal.fail
-  goal_in dialect ds ns (GoalForm.same u v) = Goal.prim (Primitive.same (template_in ns u) (template_in ns v))
-  goal_in dialect ds ns (GoalForm.differ u v) = Goal.prim (Primitive.differ (template_in ns u) (template_in ns v))
+  goal_in dialect ds ns (GoalForm.same u v) =
+      Goal.prim (Primitive.same (template_in ns u) (template_in ns v))
+  goal_in dialect ds ns (GoalForm.differ u v) =
+      Goal.prim (Primitive.differ (template_in ns u) (template_in ns v))
   goal_in dialect ds ns (GoalForm.symbol u) = Goal.prim (Primitive.symbol (template_in ns u))
   goal_in dialect ds ns (GoalForm.number u) = Goal.prim (Primitive.number (template_in ns u))
   goal_in dialect ds ns (GoalForm.text u) = Goal.prim (Primitive.text (template_in ns u))
-  goal_in dialect ds ns (GoalForm.absent tag u) = Goal.prim (Primitive.absent tag.value (template_in ns u))
-  goal_in dialect ds ns (GoalForm.fresh b gs) = suspended_in dialect (Goal.fresh (length b.value) (conjunction (goals_in dialect ds (within ns b.value) gs)))
+  goal_in dialect ds ns (GoalForm.absent tag u) =
+      Goal.prim (Primitive.absent tag.value (template_in ns u))
+  goal_in dialect ds ns (GoalForm.fresh b gs) =
+      suspended_in dialect
+      (Goal.fresh (length b.value) (conjunction (goals_in dialect ds (within ns b.value) gs)))
   goal_in dialect ds ns (GoalForm.all_of gs) = conjunction (goals_in dialect ds ns gs)
   goal_in dialect ds ns (GoalForm.one_of gs) = disjunction (goals_in dialect ds ns gs)
-  goal_in dialect ds ns (GoalForm.clauses gs) = suspended_in dialect (disjunction (goals_in dialect ds ns gs))
-  goal_in dialect ds ns (GoalForm.call at s args) = Goal.call (unwrap_or (relation_number ds s) 0) (map (template_in ns) args)
+  goal_in dialect ds ns (GoalForm.clauses gs) =
+      suspended_in dialect (disjunction (goals_in dialect ds ns gs))
+  goal_in dialect ds ns (GoalForm.call at s args) =
+      Goal.call (unwrap_or (relation_number ds s) 0) (map (template_in ns) args)
   goal_in dialect ds ns (GoalForm.misshapen at) = Goal.fail
 
   pub goals_in : Dialect → List Defined → Names → GoalForms → List Goal

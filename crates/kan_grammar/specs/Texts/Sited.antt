@@ -1,9 +1,13 @@
--- Data as trees of pairs, where each part has its offset, and symbols and strings are numbers of a table of names.
-use Rattle.std.specs.Prelude.{ℕ, ℤ, Bool, List, [], ◌∷◌, Option, Some, None, is_some, length, unwrap_or, option_map}
+-- Data as trees of pairs, where each part has its offset, and symbols and strings are numbers of a
+-- table of names.
+use Rattle.std.specs.Prelude.{ℕ, ℤ, Bool, List, [], ◌∷◌, Option, Some, None, is_some, length}
+use Rattle.std.specs.Prelude.{unwrap_or, option_map}
 use Rattle.kan_terms.specs.Tree.{Tree}
 use Rattle.kan_terms.specs.Table.{Table, number_of}
-use Rattle.kan_grammar.specs.Data.Words.{Atom, symbol, string, number, truth, out_of_range, reserved}
-use Rattle.kan_grammar.specs.Data.Written.{Written, Within, single, list, prefixed, close, dotted, element}
+use Rattle.kan_grammar.specs.Data.Words.{Atom, symbol, string, number, truth, out_of_range}
+use Rattle.kan_grammar.specs.Data.Words.{reserved}
+use Rattle.kan_grammar.specs.Data.Written.{Written, Within, single, list, prefixed, close, dotted}
+use Rattle.kan_grammar.specs.Data.Written.{element}
 use Rattle.kan_grammar.specs.Data.Printed.{prefix_name}
 
 -- a datum read as pairs; each pair of a list, and its end, has the list's offset
@@ -40,17 +44,21 @@ atom_with_site table at (truth b) = Sited.bool at b
 atom_with_site table at out_of_range = Sited.nil at
 atom_with_site table at reserved = Sited.nil at
 
--- a datum as it is written; a prefixed one is a list of two, which begins at the prefix, as the symbol does that the prefix stands for
+-- a datum as it is written; a prefixed one is a list of two, which begins at the prefix, as the
+-- symbol does that the prefix stands for
 abbrev mutual
   pub with_sites : Table → Written → Sited
   with_sites table (single at a) = atom_with_site table at a
   with_sites table (list at s inner) = within_sites table at inner
-  with_sites table (prefixed at p d) = Sited.pair at (Sited.name at (symbol_number table (prefix_name p))) (Sited.pair at (with_sites table d) (Sited.nil at))
+  with_sites table (prefixed at p d) =
+      Sited.pair at (Sited.name at (symbol_number table (prefix_name p)))
+      (Sited.pair at (with_sites table d) (Sited.nil at))
 
   pub within_sites : Table → ℕ → Within → Sited
   within_sites table at (close end) = Sited.nil at
   within_sites table at (dotted point d end) = with_sites table d
-  within_sites table at (element d inner) = Sited.pair at (with_sites table d) (within_sites table at inner)
+  within_sites table at (element d inner) =
+      Sited.pair at (with_sites table d) (within_sites table at inner)
 
 -- the datum as a constant: all its symbols and strings stand for themselves
 abbrev pub constant : {V : Type 0} → Sited → Tree V

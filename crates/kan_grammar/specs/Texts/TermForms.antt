@@ -23,8 +23,10 @@ abbrev pub quote_form : ℕ → Sited → TermForm
 quote_form at (Sited.pair _ d (Sited.nil _)) = constant d
 quote_form at _ = bad_term at
 
--- a symbol is a variable, another atom is itself, and a list is what its head says of the parts after it.
--- A template is a constant but for the terms that are unquoted in it; no other pair of it begins with unquote, and none with quasiquote
+-- a symbol is a variable, another atom is itself, and a list is what its head says of the parts
+-- after it.
+-- A template is a constant but for the terms that are unquoted in it; no other pair of it begins
+-- with unquote, and none with quasiquote
 abbrev mutual
   pub term_form : Table → Sited → TermForm
   term_form t (Sited.name at s) = Tree.leaf (Use.variable at s)
@@ -42,7 +44,8 @@ abbrev mutual
 
   -- a pair of two terms
   pub cons_form : Table → ℕ → Sited → TermForm
-  cons_form t at (Sited.pair _ a (Sited.pair _ d (Sited.nil _))) = Tree.pair (term_form t a) (term_form t d)
+  cons_form t at (Sited.pair _ a (Sited.pair _ d (Sited.nil _))) =
+      Tree.pair (term_form t a) (term_form t d)
   cons_form t at _ = bad_term at
 
   -- a list of terms

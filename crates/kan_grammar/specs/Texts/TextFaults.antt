@@ -1,5 +1,6 @@
 -- The faults of a text, and the one that is answered.
-use Rattle.std.specs.Prelude.{◌≡◌, ℕ, Bool, true, false, ◌==◌, ◌&&◌, ◌||◌, nat_lt, nat_le, List, [], ◌∷◌, ◌++◌, Option, Some, None, map, length, is_some, if◌then◌else◌}
+use Rattle.std.specs.Prelude.{◌≡◌, ℕ, Bool, true, false, ◌==◌, ◌&&◌, ◌||◌, nat_lt, nat_le, List, []}
+use Rattle.std.specs.Prelude.{◌∷◌, ◌++◌, Option, Some, None, map, length, is_some, if◌then◌else◌}
 use Rattle.std.specs.List.{flat_map}
 use Rattle.kan_terms.specs.Tree.{leaves}
 use Rattle.kan_terms.specs.Table.{Table}
@@ -9,7 +10,9 @@ use Rattle.kan_grammar.specs.Texts.Sited.{Sited, with_sites}
 use Rattle.kan_grammar.specs.Texts.Language.{word, is_other}
 use Rattle.kan_grammar.specs.Texts.TermForms.{Use, variable, misshapen, TermForm}
 use Rattle.kan_grammar.specs.Texts.GoalForms.{GoalForm, GoalForms, none, more}
-use Rattle.kan_grammar.specs.Texts.TopForms.{NameAt, name_at, Form, relation, run_of_one, run_of_list, unknown, form, Defined, definitions_of, definitions}
+use Rattle.kan_grammar.specs.Texts.TopForms.{NameAt, name_at, Form, relation, run_of_one}
+use Rattle.kan_grammar.specs.Texts.TopForms.{run_of_list, unknown, form, Defined, definitions_of}
+use Rattle.kan_grammar.specs.Texts.TopForms.{definitions}
 use Rattle.kan_grammar.specs.Texts.Resolved.{Names, slot_of, arity, within}
 
 -- a fault unless something holds
@@ -46,7 +49,8 @@ abbrev mutual
   goal_faults ds ns (GoalForm.all_of gs) = goals_faults ds ns gs
   goal_faults ds ns (GoalForm.one_of gs) = goals_faults ds ns gs
   goal_faults ds ns (GoalForm.clauses gs) = goals_faults ds ns gs
-  goal_faults ds ns (GoalForm.call at s args) = call_faults (arity ds s) at (length args) ++ flat_map (term_faults ns) args
+  goal_faults ds ns (GoalForm.call at s args) =
+      call_faults (arity ds s) at (length args) ++ flat_map (term_faults ns) args
   goal_faults ds ns (GoalForm.misshapen at) = fault at 10 ∷ []
 
   pub goals_faults : List Defined → Names → GoalForms → List Fault
@@ -61,24 +65,30 @@ is_new (Some k) = false
 -- a relation's name is no name of the language, and was not defined before
 abbrev pub again_faults : Table → List Defined → Option NameAt → List Fault
 again_faults t before None = []
-again_faults t before (Some (name_at at s)) = unless (is_other (word t s) && is_new (arity before s)) (fault at 14)
+again_faults t before (Some (name_at at s)) =
+    unless (is_other (word t s) && is_new (arity before s)) (fault at 14)
 
 -- the faults of a top form, where all these relations are there, and those before it
 abbrev pub form_faults : Table → List Defined → List Defined → Form → List Fault
-form_faults t ds before (relation name params gs) = again_faults t before name ++ params.faults ++ goals_faults ds (within [] params.value) gs
-form_faults t ds before (run_of_one limit q gs) = limit.faults ++ q.faults ++ goals_faults ds (within [] q.value) gs
-form_faults t ds before (run_of_list limit xs gs) = limit.faults ++ xs.faults ++ goals_faults ds (within (None ∷ []) xs.value) gs
+form_faults t ds before (relation name params gs) =
+    again_faults t before name ++ params.faults ++ goals_faults ds (within [] params.value) gs
+form_faults t ds before (run_of_one limit q gs) =
+    limit.faults ++ q.faults ++ goals_faults ds (within [] q.value) gs
+form_faults t ds before (run_of_list limit xs gs) =
+    limit.faults ++ xs.faults ++ goals_faults ds (within (None ∷ []) xs.value) gs
 form_faults t ds before (Form.misshapen at) = fault at 10 ∷ []
 form_faults t ds before (unknown at) = fault at 9 ∷ []
 
 -- the faults of top forms in a row
 abbrev pub forms_faults : Table → List Defined → List Defined → List Sited → List Fault
 forms_faults t ds before [] = []
-forms_faults t ds before (d ∷ later) = form_faults t ds before (form t d) ++ forms_faults t ds (before ++ definitions_of t d) later
+forms_faults t ds before (d ∷ later) =
+    form_faults t ds before (form t d) ++ forms_faults t ds (before ++ definitions_of t d) later
 
 -- all faults of a text behind a library
 unfoldable pub faults_of : Table → List Sited → List Sited → List Fault
-faults_of t library text = forms_faults t (definitions t (library ++ text)) (definitions t library) text
+faults_of t library text =
+    forms_faults t (definitions t (library ++ text)) (definitions t library) text
 
 -- a fault comes before another: by its offset, and at one offset by its number
 abbrev pub is_before : Fault → Fault → Bool
@@ -96,7 +106,8 @@ least (f ∷ fs) = Some (first_of f (least fs))
 
 -- the fault of a text behind a library that is answered
 abbrev pub fault_of_text : Table → List Written → List Written → Option Fault
-fault_of_text t library text = least (faults_of t (map (with_sites t) library) (map (with_sites t) text))
+fault_of_text t library text =
+    least (faults_of t (map (with_sites t) library) (map (with_sites t) text))
 
 -- a text is accepted where it has no fault
 abbrev pub IsAccepted : Table → List Written → List Written → Type 0

@@ -1,7 +1,8 @@
 -- The table of names of a text: its symbols and strings are numbered as their tokens come.
 use Rattle.std.specs.Prelude.{◌≡◌, ℕ, ◌+◌, ◌≤◌, List, [], ◌∷◌, ◌++◌, length}
 use Rattle.kan_terms.specs.Table.{Table, no_names, with_symbol, with_string}
-use Rattle.kan_grammar.specs.Data.Words.{Token, atom, symbol, string, Prefix, quote, quasiquote, unquote}
+use Rattle.kan_grammar.specs.Data.Words.{Token, atom, symbol, string, Prefix, quote, quasiquote}
+use Rattle.kan_grammar.specs.Data.Words.{unquote}
 use Rattle.kan_grammar.specs.Data.Tokens.{Placed, placed, tokens}
 use Rattle.kan_grammar.specs.Data.Printed.{prefix_name}
 

@@ -1,5 +1,7 @@
--- The answer of a store: the query's term with its variables named, and what is left of the constraints.
-use Rattle.std.specs.Prelude.{ℕ, suc, ◌+◌, Bool, true, false, ◌&&◌, not, nat_lt, eqb, List, [], ◌∷◌, ◌++◌, length, map, filter, Option, Some, None, if◌then◌else◌}
+-- The answer of a store: the query's term with its variables named, and what is left of the
+-- constraints.
+use Rattle.std.specs.Prelude.{ℕ, suc, ◌+◌, Bool, true, false, ◌&&◌, not, nat_lt, eqb, List, [], ◌∷◌}
+use Rattle.std.specs.Prelude.{◌++◌, length, map, filter, Option, Some, None, if◌then◌else◌}
 use Rattle.std.specs.List.{list_all, list_any}
 use Rattle.kan_terms.specs.Tree.{Tree, Tm, fill, leaves, occurs, term_eq}
 use Rattle.kan_terms.specs.Table.{Table}
@@ -29,7 +31,8 @@ pub record Answer : Type 0 where
   pub strings : List ℕ
   pub absences : List Absence
 
--- the variables that have names, in the order of their names: that of their first occurrence in the term
+-- the variables that have names, in the order of their names: that of their first occurrence in the
+-- term
 abbrev pub named_variables : Tm → List ℕ
 named_variables t = each_once eqb (leaves t)
 
@@ -44,9 +47,11 @@ rank vs v = if stands_in vs v then place_of vs v else length vs + v
 abbrev pub ranks_lower : List ℕ → ℕ → ℕ → Bool
 ranks_lower vs x y = nat_lt (rank vs x) (rank vs y)
 
--- the solved form of a disequality: what would make its sides identical, of two variables the lower one replaced
+-- the solved form of a disequality: what would make its sides identical, of two variables the lower
+-- one replaced
 abbrev pub solved_form : List ℕ → Replacement → Tm → Tm → Option Replacement
-solved_form vs s a b = solve_by (ranks_lower vs) (record { left = apply s a; right = apply s b } ∷ [])
+solved_form vs s a b =
+    solve_by (ranks_lower vs) (record { left = apply s a; right = apply s b } ∷ [])
 
 -- a form in the order of the replaced variables
 abbrev pub in_rank : List ℕ → Replacement → Replacement
@@ -63,21 +68,30 @@ is_no_difference _ = true
 
 -- the two sides can be equal in the store, disequalities aside
 abbrev pub can_be_equal : Store → Tm → Tm → Bool
-can_be_equal st a b = is_kept (record { prims = filter is_no_difference st.prims ++ Primitive.same a b ∷ []; counter = st.counter })
+can_be_equal st a b =
+    is_kept (record {
+      prims = filter is_no_difference st.prims ++ Primitive.same a b ∷ [];
+      counter = st.counter;
+    })
 
--- a form that may be written: it is over names, and its equation isn't excluded by the rest of the store
+-- a form that may be written: it is over names, and its equation isn't excluded by the rest of the
+-- store
 abbrev pub if_written : Bool → Replacement → List Replacement → List Replacement
 if_written true form forms = form ∷ forms
 if_written false form forms = forms
 
-abbrev pub and_form : List ℕ → Store → Tm → Tm → Option Replacement → List Replacement → List Replacement
+abbrev pub and_form : List ℕ → Store → Tm → Tm → Option Replacement → List Replacement →
+    List Replacement
 and_form vs st a b None forms = forms
-and_form vs st a b (Some form) forms = if_written (all_named vs form && can_be_equal st a b) (in_rank vs form) forms
+and_form vs st a b (Some form) forms =
+    if_written (all_named vs form && can_be_equal st a b) (in_rank vs form) forms
 
--- the forms of a store's disequalities, without those that can't be false any more, that mention others than names, or that the rest excludes
+-- the forms of a store's disequalities, without those that can't be false any more, that mention
+-- others than names, or that the rest excludes
 abbrev pub forms_of : List ℕ → Store → Replacement → List (Primitive Tm) → List Replacement
 forms_of vs st s [] = []
-forms_of vs st s (Primitive.differ a b ∷ ps) = and_form vs st a b (solved_form vs s a b) (forms_of vs st s ps)
+forms_of vs st s (Primitive.differ a b ∷ ps) =
+    and_form vs st a b (solved_form vs s a b) (forms_of vs st s ps)
 forms_of vs st s (p ∷ ps) = forms_of vs st s ps
 
 -- the first disequality implies the second: where the second is false, the first one is
@@ -106,7 +120,8 @@ form_in_names vs = map (λ p. record { name = place_of vs p.var; by = in_names v
 -- the names of the variables that pass a test
 abbrev pub names_where : (ℕ → Bool) → ℕ → List ℕ → List ℕ
 names_where test n [] = []
-names_where test n (v ∷ vs) = if test v then n ∷ names_where test (suc n) vs else names_where test (suc n) vs
+names_where test n (v ∷ vs) =
+    if test v then n ∷ names_where test (suc n) vs else names_where test (suc n) vs
 
 -- a primitive keeps a tag out of a variable under the answer
 abbrev pub keeps_out : Replacement → ℕ → ℕ → Primitive Tm → Bool
@@ -127,7 +142,11 @@ may_have_tag s ps v = not (has_type Number s ps v) && not (has_type Text s ps v)
 
 -- a tag with the names in which it must not stand, but for those in which it can't
 abbrev pub absence_of : List ℕ → Replacement → List (Primitive Tm) → ℕ → Absence
-absence_of vs s ps tag = record { tag = tag; names = names_where (λ v. has_absence s ps tag v && may_have_tag s ps v) 0 vs }
+absence_of vs s ps tag =
+    record {
+      tag = tag;
+      names = names_where (λ v. has_absence s ps tag v && may_have_tag s ps v) 0 vs;
+    }
 
 abbrev pub has_names : Absence → Bool
 has_names a = nat_lt 0 (length a.names)
@@ -136,4 +155,6 @@ abbrev pub tag_le : Table → Absence → Absence → Bool
 tag_le table a b = bytes_le (symbol_text table a.tag) (symbol_text table b.tag)
 
 abbrev pub absences_of : Table → List ℕ → Replacement → List (Primitive Tm) → List Absence
-absences_of table vs s ps = in_order (tag_le table) (filter has_names (map (absence_of vs s ps) (each_once eqb (tags_of ps))))
+absences_of table vs s ps =
+    in_order (tag_le table)
+    (filter has_names (map (absence_of vs s ps) (each_once eqb (tags_of ps))))

@@ -20,10 +20,13 @@ absence_met us a = list_all (λ n. not (has_symbol a.tag (value_at us n))) a.nam
 -- ground terms for the names of an answer meet its constraints
 abbrev pub meets : List Gd → Answer → Bool
 meets us a =
-    list_all (difference_met us) a.disequalities && list_all (λ n. is_number (value_at us n)) a.numbers
-    && list_all (λ n. is_symbol (value_at us n)) a.symbols && list_all (λ n. is_string (value_at us n)) a.strings
+    list_all (difference_met us) a.disequalities
+    && list_all (λ n. is_number (value_at us n)) a.numbers
+    && list_all (λ n. is_symbol (value_at us n)) a.symbols
+    && list_all (λ n. is_string (value_at us n)) a.strings
     && list_all (absence_met us) a.absences
 
--- the answer covers a ground term: ground terms for its names make its term that one, and meet its constraints
+-- the answer covers a ground term: ground terms for its names make its term that one, and meet its
+-- constraints
 abbrev pub Covers : Answer → Gd → Type 0
 Covers a u = (us : List Gd) × (value us a.term ≡ u) × (meets us a ≡ true)

@@ -1,5 +1,6 @@
 -- Answers in form: those that are written in just one way.
-use Rattle.std.specs.Prelude.{◌≡◌, ℕ, suc, ◌<◌, ◌^◌, pos, negsuc, Bool, true, false, ◌&&◌, not, eqb, nat_lt, List, [], ◌∷◌, ◌++◌, length, map, Some}
+use Rattle.std.specs.Prelude.{◌≡◌, ℕ, suc, ◌<◌, ◌^◌, pos, negsuc, Bool, true, false, ◌&&◌, not, eqb}
+use Rattle.std.specs.Prelude.{nat_lt, List, [], ◌∷◌, ◌++◌, length, map, Some}
 use Rattle.std.specs.List.{list_all, list_any}
 use Rattle.kan_terms.specs.Tree.{Tree, Tm, occurs, term_eq}
 use Rattle.kan_model.specs.Stores.Store.{Store, Equation}
@@ -9,7 +10,8 @@ use Rattle.kan_model.specs.Answers.Order.{stands_in}
 use Rattle.kan_model.specs.Programs.Scope.{all_below}
 use Rattle.kan_terms.specs.Table.{Table}
 use Rattle.kan_model.specs.Answers.Text.{symbol_text}
-use Rattle.kan_model.specs.Answers.Answer.{NamedPair, Absence, Answer, named_variables, tag_le, tags_of}
+use Rattle.kan_model.specs.Answers.Answer.{NamedPair, Absence, Answer, named_variables, tag_le}
+use Rattle.kan_model.specs.Answers.Answer.{tags_of}
 use Rattle.kan_model.specs.Answers.AnswerText.{difference_le, answer_of}
 
 -- numbers that count up from n
@@ -49,7 +51,9 @@ is_filled (x ∷ xs) = true
 
 -- a disequality in form: a solved form over the first n names, with at least one pair
 abbrev pub difference_in_form : ℕ → List NamedPair → Bool
-difference_in_form n ps = is_filled ps && list_all (pair_in_form n) ps && list_all (is_replaced ps) ps && ascends name_before ps
+difference_in_form n ps =
+    is_filled ps && list_all (pair_in_form n) ps && list_all (is_replaced ps) ps
+    && ascends name_before ps
 
 abbrev pub equal_pairs : List NamedPair → List NamedPair → Bool
 equal_pairs [] [] = true
@@ -81,10 +85,13 @@ tag_before table a b = tag_le table a b && not (tag_le table b a)
 abbrev pub in_form : Table → Answer → Bool
 in_form table a =
     counts_up 0 (named_variables a.term)
-    && list_all (difference_in_form (name_count a)) a.disequalities && all_different a.disequalities && ascends (difference_le table) a.disequalities
-    && names_in_form (name_count a) a.numbers && names_in_form (name_count a) a.symbols && names_in_form (name_count a) a.strings
+    && list_all (difference_in_form (name_count a)) a.disequalities && all_different a.disequalities
+    && ascends (difference_le table) a.disequalities
+    && names_in_form (name_count a) a.numbers && names_in_form (name_count a) a.symbols
+    && names_in_form (name_count a) a.strings
     && apart a.numbers a.symbols && apart a.strings a.symbols && apart a.numbers a.strings
-    && list_all (absence_in_form (name_count a) (a.numbers ++ a.strings)) a.absences && ascends (tag_before table) a.absences
+    && list_all (absence_in_form (name_count a) (a.numbers ++ a.strings)) a.absences
+    && ascends (tag_before table) a.absences
 
 -- the numbers in a tree fit in 128 bits
 abbrev pub numbers_fit : {V : Type 0} → Tree V → Bool
@@ -95,7 +102,9 @@ numbers_fit _ = true
 
 -- an answer in form that a line can be read back as: all its numbers fit
 abbrev pub is_readable : Table → Answer → Bool
-is_readable table a = in_form table a && numbers_fit a.term && list_all (list_all (λ p. numbers_fit p.by)) a.disequalities
+is_readable table a =
+    in_form table a && numbers_fit a.term
+    && list_all (list_all (λ p. numbers_fit p.by)) a.disequalities
 
 -- the pairs of a disequality as equations, and as a replacement
 abbrev pub pair_equations : List NamedPair → List Equation
@@ -106,13 +115,19 @@ pair_replacement = map (λ p. record { var = p.name; by = p.by })
 
 -- a disequality in form is its own solved form
 abbrev pub FormIsSolved : Type 0
-FormIsSolved = (n : ℕ) (ps : List NamedPair) → difference_in_form n ps ≡ true → solve_by nat_lt (pair_equations ps) ≡ Some (pair_replacement ps)
+FormIsSolved =
+    (n : ℕ) (ps : List NamedPair) → difference_in_form n ps ≡ true →
+    solve_by nat_lt (pair_equations ps) ≡ Some (pair_replacement ps)
 
 -- no two symbols of a table have one text
 abbrev pub TextsDiffer : Table → Type 0
-TextsDiffer table = (r s : ℕ) → r < length table.symbols → s < length table.symbols → symbol_text table r ≡ symbol_text table s → r ≡ s
+TextsDiffer table =
+    (r s : ℕ) → r < length table.symbols → s < length table.symbols → symbol_text table r
+    ≡ symbol_text table s → r ≡ s
 
 -- the answer of a kept store whose tags have texts in the table is in form
 abbrev pub AnswerInForm : Type 0
-AnswerInForm = (table : Table) (st : Store) → TextsDiffer table → list_all (λ tag. nat_lt tag (length table.symbols)) (tags_of st.prims) ≡ true →
+AnswerInForm =
+    (table : Table) (st : Store) → TextsDiffer table →
+    list_all (λ tag. nat_lt tag (length table.symbols)) (tags_of st.prims) ≡ true →
     is_kept st ≡ true → in_form table (answer_of table st) ≡ true

@@ -1,4 +1,5 @@
--- What is written for a program and its runs: a line for each answer, and after each run its summary line.
+-- What is written for a program and its runs: a line for each answer, and after each run its
+-- summary line.
 use Rattle.std.specs.Prelude.{ℕ, List, [], ◌∷◌, ◌++◌, length, codes}
 use Rattle.std.specs.List.{flat_map}
 use Rattle.kan_model.specs.Programs.Goals.{Program, Query}
@@ -23,10 +24,12 @@ ending_text Ending.fuel = codes "fuel"
 -- how many answers a run gave, how many pulls that took, and how it ended
 abbrev pub summary_line : ℕ → ℕ → Ending → List ℕ
 summary_line answers pulls ending =
-    line (codes "; " ++ decimal_text answers ++ codes " answers, " ++ decimal_text pulls ++ codes " pulls, " ++ ending_text ending)
+    line (codes "; " ++ decimal_text answers ++ codes " answers, " ++ decimal_text pulls
+    ++ codes " pulls, " ++ ending_text ending)
 
 abbrev pub taken_text : Table → Taken → List ℕ
-taken_text table t = flat_map (answer_line table) t.stores ++ summary_line (length t.stores) t.pulls t.ending
+taken_text table t =
+    flat_map (answer_line table) t.stores ++ summary_line (length t.stores) t.pulls t.ending
 
 -- the output of runs at a fuel, run after run
 abbrev pub runs_output : Table → Program → ℕ → List Query → List ℕ

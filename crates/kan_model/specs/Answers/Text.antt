@@ -1,5 +1,6 @@
 -- The text of terms, where leaves have a text and a table has the texts of symbols and strings.
-use Rattle.std.specs.Prelude.{ℕ, Bool, true, false, eqb, List, [], ◌∷◌, ◌++◌, unwrap_or, codes, if◌then◌else◌}
+use Rattle.std.specs.Prelude.{ℕ, Bool, true, false, eqb, List, [], ◌∷◌, ◌++◌, unwrap_or, codes}
+use Rattle.std.specs.Prelude.{if◌then◌else◌}
 use Rattle.std.specs.List.{flat_map}
 use Rattle.kan_terms.specs.Tree.{Tree, Tm}
 use Rattle.kan_terms.specs.Table.{Table, name_of}
@@ -11,7 +12,8 @@ symbol_text table s = unwrap_or (name_of table.symbols s) []
 -- a byte inside a string: five have a spelling of two
 abbrev pub string_byte_text : ℕ → List ℕ
 string_byte_text b =
-    if eqb b 34 then codes "\\\"" else (if eqb b 92 then codes "\\\\" else (if eqb b 10 then codes "\\n"
+    if eqb b 34
+    then codes "\\\"" else (if eqb b 92 then codes "\\\\" else (if eqb b 10 then codes "\\n"
     else (if eqb b 9 then codes "\\t" else (if eqb b 13 then codes "\\r" else b ∷ []))))
 
 -- a text as a string is printed: between quotation marks
@@ -38,7 +40,8 @@ abbrev mutual
   print leaf_text table (Tree.num n) = number_text n
   print leaf_text table (Tree.truth b) = truth_text b
   print leaf_text table Tree.nil = codes "()"
-  print leaf_text table (Tree.pair a b) = 40 ∷ print leaf_text table a ++ print_rest leaf_text table b ++ 41 ∷ []
+  print leaf_text table (Tree.pair a b) =
+      40 ∷ print leaf_text table a ++ print_rest leaf_text table b ++ 41 ∷ []
 
   -- what follows an element: nothing, a space and the next element, or a dot and the last part
   pub print_rest : {V : Type 0} → (V → List ℕ) → Table → Tree V → List ℕ
@@ -48,7 +51,8 @@ abbrev mutual
   print_rest leaf_text table (Tree.num n) = codes " . " ++ number_text n
   print_rest leaf_text table (Tree.truth b) = codes " . " ++ truth_text b
   print_rest leaf_text table Tree.nil = []
-  print_rest leaf_text table (Tree.pair a b) = 32 ∷ print leaf_text table a ++ print_rest leaf_text table b
+  print_rest leaf_text table (Tree.pair a b) =
+      32 ∷ print leaf_text table a ++ print_rest leaf_text table b
 
 -- the text of a term over names
 abbrev pub term_text : Table → Tm → List ℕ

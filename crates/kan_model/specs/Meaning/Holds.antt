@@ -18,7 +18,8 @@ abbrev pub is_string : Gd → Bool
 is_string (Tree.str s) = true
 is_string _ = false
 
--- equality, its opposite, the types of symbols, numbers and strings, and a tag that stands nowhere in a term
+-- equality, its opposite, the types of symbols, numbers and strings, and a tag that stands nowhere
+-- in a term
 abbrev pub holds : Primitive Gd → Bool
 holds (Primitive.same a b) = ground_eq a b
 holds (Primitive.differ a b) = not (ground_eq a b)

@@ -46,5 +46,6 @@ HandsBack d queries (Memory back) = ⊥
 
 -- what closing a draft for the goals of queries gives: its tables, where they are complete
 abbrev pub Closes : Draft → List ℕ → Result Program CloseRefused → Type 0
-Closes d queries (Ok p) = (tables p ≡ drafts.tables d) × (are_closed (drafts.tables d) queries ≡ true)
+Closes d queries (Ok p) =
+    (tables p ≡ drafts.tables d) × (are_closed (drafts.tables d) queries ≡ true)
 Closes d queries (Err refused) = HandsBack d queries refused

@@ -24,7 +24,8 @@ on_sides f (Primitive.number a) = Primitive.number (f a)
 on_sides f (Primitive.text a) = Primitive.text (f a)
 on_sides f (Primitive.absent tag a) = Primitive.absent tag (f a)
 
--- a goal: the slots of its templates are the arguments, and behind them those that each enclosing fresh adds;
+-- a goal: the slots of its templates are the arguments, and behind them those that each enclosing
+-- fresh adds;
 -- later suspends the goal in it
 pub data Goal : Type 0 where
   prim : Primitive Template → Goal
@@ -41,12 +42,14 @@ pub record Relation : Type 0 where
   pub params : ℕ
   pub body : Goal
 
--- a program is a list of relations, beside all the goals that its table holds, whether a body uses them or not
+-- a program is a list of relations, beside all the goals that its table holds, whether a body uses
+-- them or not
 pub record Program : Type 0 where
   pub relations : List Relation
   pub goals : List Goal
 
--- a run asks for the values of slot 0 at which its goal holds, up to a limit of answers or without one
+-- a run asks for the values of slot 0 at which its goal holds, up to a limit of answers or without
+-- one
 pub record Query : Type 0 where
   pub goal : Goal
   pub limit : Option ℕ

@@ -1,4 +1,5 @@
--- How many slots must be in scope for a template and for a goal, and the heights and widths that tables note.
+-- How many slots must be in scope for a template and for a goal, and the heights and widths that
+-- tables note.
 use Rattle.std.specs.Prelude.{ℕ, ◌+◌, ◌-◌, ◌^◌, min, max, List, [], ◌∷◌}
 use Rattle.kan_terms.specs.Tree.{Tree}
 use Rattle.kan_model.specs.Programs.Goals.{Template, Primitive, Goal}
@@ -39,7 +40,8 @@ goal_slots (Goal.fresh k g) = goal_slots g - k
 goal_slots (Goal.later g) = goal_slots g
 goal_slots (Goal.call r args) = most_slots args
 
--- heights are noted as far as the first one that is too high, widths as far as the greatest number of 32 bits
+-- heights are noted as far as the first one that is too high, widths as far as the greatest number
+-- of 32 bits
 abbrev pub noted_height : Template → ℕ
 noted_height t = min (height t) 2049
 

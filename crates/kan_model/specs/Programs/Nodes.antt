@@ -2,9 +2,12 @@
 use Rattle.std.specs.Prelude.{ℕ, List, map}
 use Rattle.kan_model.specs.Programs.Tables.{TermEntry, GoalEntry, RelationEntry, Tables}
 use Rattle.kan_model.specs.declared.nodes.TermNode.{TermNode}
-use Rattle.kan_model.specs.declared.nodes.TermNode.TheVariants.{Slot, Sym, Str, Num, Truth, Nil, Pair}
+use Rattle.kan_model.specs.declared.nodes.TermNode.TheVariants.{Slot, Sym, Str, Num, Truth, Nil}
+use Rattle.kan_model.specs.declared.nodes.TermNode.TheVariants.{Pair}
 use Rattle.kan_model.specs.declared.nodes.GoalNode.{GoalNode}
-use Rattle.kan_model.specs.declared.nodes.GoalNode.TheVariants.{Succeed, Fail, Same, Differ, Symbol, Number, Text, Absent, Both, Either, Fresh, Later, Call}
+use Rattle.kan_model.specs.declared.nodes.GoalNode.TheVariants.{Succeed, Fail, Same, Differ, Symbol}
+use Rattle.kan_model.specs.declared.nodes.GoalNode.TheVariants.{Number, Text, Absent, Both, Either}
+use Rattle.kan_model.specs.declared.nodes.GoalNode.TheVariants.{Fresh, Later, Call}
 use Rattle.kan_model.specs.declared.nodes.Relation.{Relation}
 use Rattle.kan_model.specs.declared.nodes.Query.{Query}
 use Rattle.kan_model.specs.declared.nodes.TermRow.{TermRow}

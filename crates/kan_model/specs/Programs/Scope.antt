@@ -1,11 +1,13 @@
 -- Widths of goals, small programs, and which slots, variables and relations are there.
-use Rattle.std.specs.Prelude.{ℕ, suc, ◌+◌, ◌^◌, max, Bool, true, false, ◌&&◌, eqb, nat_lt, nat_le, List, length, Option, Some, None, slice_get}
+use Rattle.std.specs.Prelude.{ℕ, suc, ◌+◌, ◌^◌, max, Bool, true, false, ◌&&◌, eqb, nat_lt, nat_le}
+use Rattle.std.specs.Prelude.{List, length, Option, Some, None, slice_get}
 use Rattle.std.specs.List.{list_all}
 use Rattle.kan_terms.specs.Tree.{Tree}
 use Rattle.kan_model.specs.Programs.Goals.{Template, Primitive, Goal, Relation, Program}
 use Rattle.kan_model.specs.Stores.Store.{Store}
 
--- the width of a goal: how many variables it can take before its calls are forced, those that name a call's arguments among them
+-- the width of a goal: how many variables it can take before its calls are forced, those that name
+-- a call's arguments among them
 abbrev pub width : Goal → ℕ
 width (Goal.prim p) = 0
 width Goal.succeed = 0
@@ -90,7 +92,9 @@ is_low t = nat_le (height t) 2048
 abbrev pub body_in_scope : Relation → Bool
 body_in_scope r = in_scope r.params r.body
 
--- a program with these templates and goals of runs, which have slot 0, is complete: templates are low, calls are answered, and slots are in scope
+-- a program with these templates and goals of runs, which have slot 0, is complete: templates are
+-- low, calls are answered, and slots are in scope
 abbrev pub is_closed : List Template → Program → List Goal → Bool
 is_closed templates program goals =
-    list_all is_low templates && list_all (calls_there program.relations) program.goals && list_all body_in_scope program.relations && list_all (in_scope 1) goals
+    list_all is_low templates && list_all (calls_there program.relations) program.goals
+    && list_all body_in_scope program.relations && list_all (in_scope 1) goals

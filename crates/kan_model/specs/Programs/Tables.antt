@@ -1,6 +1,8 @@
--- Tables of templates and goals, whose entries name entries before them by number, and the trees that they stand for.
+-- Tables of templates and goals, whose entries name entries before them by number, and the trees
+-- that they stand for.
 use Rattle.std.specs.List.{list_all}
-use Rattle.std.specs.Prelude.{ℕ, suc, ◌+◌, ℤ, Bool, true, ◌&&◌, nat_lt, nat_le, List, [], ◌∷◌, ◌++◌, length, map, take, drop, slice_get, unwrap_or}
+use Rattle.std.specs.Prelude.{ℕ, suc, ◌+◌, ℤ, Bool, true, ◌&&◌, nat_lt, nat_le, List, [], ◌∷◌, ◌++◌}
+use Rattle.std.specs.Prelude.{length, map, take, drop, slice_get, unwrap_or}
 use Rattle.kan_terms.specs.Tree.{Tree}
 use Rattle.kan_model.specs.Programs.Goals.{Template, Primitive, Goal, Program}
 use Rattle.kan_model.specs.Programs.Scope.{is_closed}
@@ -15,7 +17,8 @@ pub data TermEntry : Type 0 where
   nil : TermEntry
   pair : ℕ → ℕ → TermEntry
 
--- an entry of the table of goals: templates and goals by number, a call by its relation and its place and count in the table of arguments
+-- an entry of the table of goals: templates and goals by number, a call by its relation and its
+-- place and count in the table of arguments
 pub data GoalEntry : Type 0 where
   succeed : GoalEntry
   fail : GoalEntry
@@ -90,8 +93,10 @@ arguments_at ts args at k = map (template_at ts) (take k (drop at args))
 abbrev pub goal_of : List Template → List ℕ → List Goal → GoalEntry → Goal
 goal_of ts args gs GoalEntry.succeed = Goal.succeed
 goal_of ts args gs GoalEntry.fail = Goal.fail
-goal_of ts args gs (GoalEntry.same a b) = Goal.prim (Primitive.same (template_at ts a) (template_at ts b))
-goal_of ts args gs (GoalEntry.differ a b) = Goal.prim (Primitive.differ (template_at ts a) (template_at ts b))
+goal_of ts args gs (GoalEntry.same a b) =
+    Goal.prim (Primitive.same (template_at ts a) (template_at ts b))
+goal_of ts args gs (GoalEntry.differ a b) =
+    Goal.prim (Primitive.differ (template_at ts a) (template_at ts b))
 goal_of ts args gs (GoalEntry.symbol a) = Goal.prim (Primitive.symbol (template_at ts a))
 goal_of ts args gs (GoalEntry.number a) = Goal.prim (Primitive.number (template_at ts a))
 goal_of ts args gs (GoalEntry.text a) = Goal.prim (Primitive.text (template_at ts a))
@@ -113,7 +118,9 @@ goals_of tables = goals_after (templates_of tables.terms) tables.arguments [] ta
 -- the program that tables stand for
 abbrev pub program_of : Tables → Program
 program_of tables = record {
-  relations = map (λ r. record { params = r.params; body = goal_at (goals_of tables) r.body }) tables.relations;
+  relations =
+      map (λ r. record { params = r.params; body = goal_at (goals_of tables) r.body })
+      tables.relations;
   goals = goals_of tables;
 }
 
@@ -130,8 +137,10 @@ terms_grown n (e ∷ es) = is_term_grown n e && terms_grown (suc n) es
 abbrev pub is_goal_grown : Tables → ℕ → GoalEntry → Bool
 is_goal_grown tables n GoalEntry.succeed = true
 is_goal_grown tables n GoalEntry.fail = true
-is_goal_grown tables n (GoalEntry.same a b) = nat_lt a (length tables.terms) && nat_lt b (length tables.terms)
-is_goal_grown tables n (GoalEntry.differ a b) = nat_lt a (length tables.terms) && nat_lt b (length tables.terms)
+is_goal_grown tables n (GoalEntry.same a b) =
+    nat_lt a (length tables.terms) && nat_lt b (length tables.terms)
+is_goal_grown tables n (GoalEntry.differ a b) =
+    nat_lt a (length tables.terms) && nat_lt b (length tables.terms)
 is_goal_grown tables n (GoalEntry.symbol a) = nat_lt a (length tables.terms)
 is_goal_grown tables n (GoalEntry.number a) = nat_lt a (length tables.terms)
 is_goal_grown tables n (GoalEntry.text a) = nat_lt a (length tables.terms)
@@ -149,11 +158,14 @@ goals_grown tables n (e ∷ es) = is_goal_grown tables n e && goals_grown tables
 -- all that tables name is there, and entries name smaller numbers
 abbrev pub is_grown : Tables → Bool
 is_grown tables =
-    terms_grown 0 tables.terms && list_all (λ t. nat_lt t (length tables.terms)) tables.arguments && goals_grown tables 0 tables.goals
+    terms_grown 0 tables.terms && list_all (λ t. nat_lt t (length tables.terms)) tables.arguments
+    && goals_grown tables 0 tables.goals
     && list_all (λ r. nat_lt r.body (length tables.goals)) tables.relations
 
--- tables are complete for these goals of runs, by number: they are in the table, and their trees and the tables' are closed
+-- tables are complete for these goals of runs, by number: they are in the table, and their trees
+-- and the tables' are closed
 abbrev pub are_closed : Tables → List ℕ → Bool
 are_closed tables goals =
     list_all (λ g. nat_lt g (length tables.goals)) goals
-    && is_closed (templates_of tables.terms) (program_of tables) (map (goal_at (goals_of tables)) goals)
+    && is_closed (templates_of tables.terms) (program_of tables)
+    (map (goal_at (goals_of tables)) goals)

@@ -1,5 +1,6 @@
 -- What the calls of a store answer.
-use Rattle.std.specs.Prelude.{◌≡◌, ℕ, Bool, true, false, List, [], ◌∷◌, Option, Some, None, ◌↔◌, Contains, unwrap_or, is_some, if◌then◌else◌}
+use Rattle.std.specs.Prelude.{◌≡◌, ℕ, Bool, true, false, List, [], ◌∷◌, Option, Some, None, ◌↔◌}
+use Rattle.std.specs.Prelude.{Contains, unwrap_or, is_some, if◌then◌else◌}
 use Rattle.std.specs.List.{list_all}
 use Rattle.kan_terms.specs.Tree.{Tree, Tm, Gd, ground_eq}
 use Rattle.kan_terms.specs.Valuations.{value}
@@ -67,15 +68,21 @@ can_unify s e = is_some (solve (record { left = apply s e.left; right = apply s 
 
 -- where the store's equations hold, the pairs are all equal exactly where the two sides are
 abbrev pub SaysTheSame : Store → Equation → List Equation → Type 0
-SaysTheSame st e pairs = (us : List Gd) → all_equal us (equations st.prims) ≡ true → all_equal us pairs ≡ ground_eq (value us e.left) (value us e.right)
+SaysTheSame st e pairs =
+    (us : List Gd) → all_equal us (equations st.prims) ≡ true → all_equal us pairs
+    ≡ ground_eq (value us e.left) (value us e.right)
 
--- lists of pairs for disequalities, in their order; one whose sides can't become equal may be left out
+-- lists of pairs for disequalities, in their order; one whose sides can't become equal may be left
+-- out
 pub data AreDifferences (st : Store) : List Equation → List (List Equation) → Type 0 where
   no_more : AreDifferences st [] []
-  listed : {e : Equation} {es : List Equation} {pairs : List Equation} {lists : List (List Equation)} →
-      SaysTheSame st e pairs → AreDifferences st es lists → AreDifferences st (e ∷ es) (pairs ∷ lists)
+  listed : {e : Equation} {es : List Equation} {pairs : List Equation}
+      {lists : List (List Equation)} →
+      SaysTheSame st e pairs → AreDifferences st es lists →
+      AreDifferences st (e ∷ es) (pairs ∷ lists)
   left_out : {e : Equation} {es : List Equation} {lists : List (List Equation)} →
-      can_unify (answer st) e ≡ false → AreDifferences st es lists → AreDifferences st (e ∷ es) lists
+      can_unify (answer st) e ≡ false → AreDifferences st es lists →
+      AreDifferences st (e ∷ es) lists
 
 -- the replacement is the answer
 abbrev pub is_answer : Replacement → Option Replacement → Bool

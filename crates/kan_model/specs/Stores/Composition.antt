@@ -1,4 +1,5 @@
--- How the solver goes on with further equations behind an answer; the equation of a new variable is always kept.
+-- How the solver goes on with further equations behind an answer; the equation of a new variable is
+-- always kept.
 use Rattle.std.specs.Prelude.{◌≡◌, ℕ, Bool, true, List, ◌++◌, map, Option, Some, None, option_map}
 use Rattle.kan_terms.specs.Tree.{Tree, Tm}
 use Rattle.kan_model.specs.Programs.Goals.{Primitive}
@@ -28,10 +29,13 @@ go_on left fs (Some s) = option_map (compose s) (solve_by left (map (apply_sides
 
 -- equations in two pieces: the first piece is solved, and then the second one under its answer
 abbrev pub SolverGoesOn : Type 0
-SolverGoesOn = (left : ℕ → ℕ → Bool) (es fs : List Equation) → solve_by left (es ++ fs) ≡ go_on left fs (solve_by left es)
+SolverGoesOn =
+    (left : ℕ → ℕ → Bool) (es fs : List Equation) → solve_by left (es ++ fs)
+    ≡ go_on left fs (solve_by left es)
 
 -- a kept store stays kept where its next variable is made equal to a term of those before it
 abbrev pub FreshIsKept : Type 0
 FreshIsKept =
-    (st : Store) (t : Tm) → is_kept st ≡ true → is_counted st ≡ true → all_below st.counter t ≡ true →
+    (st : Store) (t : Tm) → is_kept st ≡ true → is_counted st ≡ true → all_below st.counter t
+    ≡ true →
     is_kept (with_prim (with_fresh st 1) (Primitive.same (Tree.leaf st.counter) t)) ≡ true

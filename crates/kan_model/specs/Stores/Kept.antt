@@ -48,7 +48,8 @@ lacks_type kind s ps _ = true
 
 -- the primitive gives no variable a second type; each two of the three types are compared once
 abbrev pub gives_one_type : Replacement → List (Primitive Tm) → Primitive Tm → Bool
-gives_one_type s ps (Primitive.symbol a) = lacks_type Number s ps (apply s a) && lacks_type Text s ps (apply s a)
+gives_one_type s ps (Primitive.symbol a) =
+    lacks_type Number s ps (apply s a) && lacks_type Text s ps (apply s a)
 gives_one_type s ps (Primitive.text a) = lacks_type Number s ps (apply s a)
 gives_one_type s ps _ = true
 

@@ -5,7 +5,8 @@ use Rattle.kan_terms.specs.declared.terms.TermPair.{TermPair}
 use Rattle.kan_model.specs.Programs.Goals.{Primitive}
 use Rattle.kan_model.specs.Stores.Store.{Equation}
 use Rattle.kan_model.specs.declared.prims.Asserted.{Asserted}
-use Rattle.kan_model.specs.declared.prims.Asserted.TheVariants.{Same, Differ, Symbol, Number, Text, Absent}
+use Rattle.kan_model.specs.declared.prims.Asserted.TheVariants.{Same, Differ, Symbol, Number, Text}
+use Rattle.kan_model.specs.declared.prims.Asserted.TheVariants.{Absent}
 
 abbrev pub prim : Asserted → Primitive Tm
 prim (Same a b) = Primitive.same (tree a) (tree b)

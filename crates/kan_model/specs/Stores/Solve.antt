@@ -1,5 +1,6 @@
 -- Solving equations by replacing variables, and which stores are kept.
-use Rattle.std.specs.Prelude.{◌≡◌, ℕ, zero, suc, ◌+◌, max, Bool, true, eqb, List, [], ◌∷◌, map, Option, Some, None, option_map, if◌then◌else◌}
+use Rattle.std.specs.Prelude.{◌≡◌, ℕ, zero, suc, ◌+◌, max, Bool, true, eqb, List, [], ◌∷◌, map}
+use Rattle.std.specs.Prelude.{Option, Some, None, option_map, if◌then◌else◌}
 use Rattle.kan_terms.specs.Tree.{Tree, Tm, fill, occurs, term_eq, size}
 use Rattle.kan_model.specs.Stores.Store.{Store, Equation, equations}
 
@@ -40,13 +41,16 @@ unless_inside x t = if occurs x t then Work.clash else Work.substitute x t
 
 -- two different sides; left tells whether the left one of two variables is to be replaced
 abbrev pub work_apart : (ℕ → ℕ → Bool) → Tm → Tm → Work
-work_apart left (Tree.leaf x) (Tree.leaf y) = if left x y then Work.substitute x (Tree.leaf y) else Work.substitute y (Tree.leaf x)
+work_apart left (Tree.leaf x) (Tree.leaf y) =
+    if left x y then Work.substitute x (Tree.leaf y) else Work.substitute y (Tree.leaf x)
 work_apart left (Tree.leaf x) t = unless_inside x t
 work_apart left t (Tree.leaf x) = unless_inside x t
-work_apart left (Tree.pair a b) (Tree.pair c d) = Work.parts (record { left = a; right = c }) (record { left = b; right = d })
+work_apart left (Tree.pair a b) (Tree.pair c d) =
+    Work.parts (record { left = a; right = c }) (record { left = b; right = d })
 work_apart left _ _ = Work.clash
 
--- identical sides are dropped, pairs are taken apart, a variable is replaced, and all else has no answer
+-- identical sides are dropped, pairs are taken apart, a variable is replaced, and all else has no
+-- answer
 abbrev pub work : (ℕ → ℕ → Bool) → Equation → Work
 work left e = if term_eq e.left e.right then Work.identical else work_apart left e.left e.right
 
@@ -60,9 +64,11 @@ pub data Solves (left : ℕ → ℕ → Bool) : List Equation → Option Replace
   identical : {e : Equation} {es : List Equation} {r : Option Replacement} →
       work left e ≡ Work.identical → Solves left es r → Solves left (e ∷ es) r
   parted : {e first rest : Equation} {es : List Equation} {r : Option Replacement} →
-      work left e ≡ Work.parts first rest → Solves left (first ∷ rest ∷ es) r → Solves left (e ∷ es) r
+      work left e ≡ Work.parts first rest → Solves left (first ∷ rest ∷ es) r →
+      Solves left (e ∷ es) r
   replaced : {e : Equation} {x : ℕ} {t : Tm} {es : List Equation} {r : Option Replacement} →
-      work left e ≡ Work.substitute x t → Solves left (map (replace_sides x t) es) r → Solves left (e ∷ es) (option_map (put_first x t) r)
+      work left e ≡ Work.substitute x t → Solves left (map (replace_sides x t) es) r →
+      Solves left (e ∷ es) (option_map (put_first x t) r)
   no_answer : {e : Equation} {es : List Equation} →
       work left e ≡ Work.clash → Solves left (e ∷ es) None
 
@@ -85,7 +91,8 @@ above_all [] = 0
 above_all (e ∷ es) = max (max (above e.left) (above e.right)) (above_all es)
 
 -- the steps up to the next replacement, at most as many as are given, and then what follows it
-unfoldable pub steps : (ℕ → ℕ → Bool) → (List Equation → Option Replacement) → ℕ → List Equation → Option Replacement
+unfoldable pub steps : (ℕ → ℕ → Bool) → (List Equation → Option Replacement) → ℕ → List Equation →
+    Option Replacement
 steps left follow zero es = None
 steps left follow (suc n) [] = Some []
 steps left follow (suc n) (e ∷ es) = elim (work left e) [
@@ -100,7 +107,8 @@ unfoldable pub rounds : (ℕ → ℕ → Bool) → ℕ → List Equation → Opt
 rounds left zero es = None
 rounds left (suc n) es = steps left (rounds left n) (suc (sizes es)) es
 
--- the answer of a list of equations: none, or the replacement that makes the sides of each identical
+-- the answer of a list of equations: none, or the replacement that makes the sides of each
+-- identical
 unfoldable pub solve_by : (ℕ → ℕ → Bool) → List Equation → Option Replacement
 solve_by left es = rounds left (suc (above_all es)) es
 

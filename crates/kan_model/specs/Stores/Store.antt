@@ -1,4 +1,5 @@
--- Stores: the primitives that were added, in the order of assertion, and a counter above all their variables.
+-- Stores: the primitives that were added, in the order of assertion, and a counter above all their
+-- variables.
 use Rattle.std.specs.Prelude.{ℕ, ◌+◌, List, [], ◌∷◌, ◌++◌}
 use Rattle.kan_terms.specs.Tree.{Tm}
 use Rattle.kan_model.specs.Programs.Goals.{Primitive}

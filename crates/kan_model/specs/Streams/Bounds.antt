@@ -1,5 +1,7 @@
--- Bounds on the counters of stores: the top and the floor of a thunk, and which thunks fit a program.
-use Rattle.std.specs.Prelude.{◌≡◌, ℕ, ◌+◌, ◌^◌, min, max, true, List, [], ◌∷◌, length, slice_get, Contains}
+-- Bounds on the counters of stores: the top and the floor of a thunk, and which thunks fit a
+-- program.
+use Rattle.std.specs.Prelude.{◌≡◌, ℕ, ◌+◌, ◌^◌, min, max, true, List, [], ◌∷◌, length, slice_get}
+use Rattle.std.specs.Prelude.{Contains}
 use Rattle.std.specs.List.{list_all}
 use Rattle.kan_model.specs.Programs.Goals.{Program}
 use Rattle.kan_model.specs.Stores.Store.{Store}
@@ -42,15 +44,19 @@ abbrev mutual
   stream_floor (Stream.goes_on hs i) n = lowest hs (min (floor i) n)
 
 abbrev mutual
-  -- calls name relations with their number of arguments, and goals that wait are in the program and find their slots; all variables are there
+  -- calls name relations with their number of arguments, and goals that wait are in the program and
+  -- find their slots; all variables are there
   pub Fits : Program → Thunk → Type 0
   Fits program (Thunk.call r args st) =
-      (takes (slice_get program.relations r) (length args) ≡ true) × (list_all (all_below st.counter) args ≡ true)
+      (takes (slice_get program.relations r) (length args) ≡ true)
+      × (list_all (all_below st.counter) args ≡ true)
   Fits program (Thunk.pause g env st) =
-      Contains program.goals g × (in_scope (length env) g ≡ true) × (list_all (all_below st.counter) env ≡ true)
+      Contains program.goals g × (in_scope (length env) g ≡ true)
+      × (list_all (all_below st.counter) env ≡ true)
   Fits program (Thunk.swap t i) = StreamFits program t × Fits program i
   Fits program (Thunk.bind g env i) =
-      Contains program.goals g × (in_scope (length env) g ≡ true) × (list_all (all_below (floor i)) env ≡ true) × Fits program i
+      Contains program.goals g × (in_scope (length env) g ≡ true)
+      × (list_all (all_below (floor i)) env ≡ true) × Fits program i
 
   -- the tail of a stream fits
   pub StreamFits : Program → Stream → Type 0

@@ -1,5 +1,6 @@
 -- The stream of a goal, and of a suspension that is forced.
-use Rattle.std.specs.Prelude.{ℕ, zero, suc, true, false, List, [], ◌∷◌, ◌++◌, Option, Some, None, slice_get}
+use Rattle.std.specs.Prelude.{ℕ, zero, suc, true, false, List, [], ◌∷◌, ◌++◌, Option, Some, None}
+use Rattle.std.specs.Prelude.{slice_get}
 use Rattle.kan_terms.specs.Tree.{Tree, Tm, fill}
 use Rattle.kan_model.specs.Programs.Goals.{Primitive, Goal, Template, Relation, Program, on_sides}
 use Rattle.kan_model.specs.Stores.Store.{Store, bare, with_prim, with_fresh}
@@ -40,7 +41,8 @@ named_store st t = with_prim (with_fresh st 1) (Primitive.same (Tree.leaf st.cou
 -- each argument that is a pair is named by a fresh variable, from left to right
 abbrev pub name_pairs : Store → List Tm → Arguments
 name_pairs st [] = record { values = []; store = st }
-name_pairs st (Tree.pair a b ∷ ts) = and_value (Tree.leaf st.counter) (name_pairs (named_store st (Tree.pair a b)) ts)
+name_pairs st (Tree.pair a b ∷ ts) =
+    and_value (Tree.leaf st.counter) (name_pairs (named_store st (Tree.pair a b)) ts)
 name_pairs st (t ∷ ts) = and_value t (name_pairs st ts)
 
 abbrev pub instances : List Tm → List Template → List Tm

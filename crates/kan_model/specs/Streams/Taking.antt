@@ -32,18 +32,21 @@ less_one None = None
 less_one (Some zero) = Some zero
 less_one (Some (suc n)) = Some n
 
--- heads are given until the limit is reached; then comes what is taken with what is left of the limit
+-- heads are given until the limit is reached; then comes what is taken with what is left of the
+-- limit
 abbrev pub give : (Option ℕ → Taken) → List Store → Option ℕ → Taken
 give others hs (Some zero) = nothing_more Ending.limit
 give others [] l = others l
 give others (st ∷ sts) l = with_answer st (give others sts (less_one l))
 
--- the limit is looked at first, then the heads, then the end of the stream, then the fuel; else one pull is made
+-- the limit is looked at first, then the heads, then the end of the stream, then the fuel; else one
+-- pull is made
 abbrev pub take : Program → ℕ → Stream → Option ℕ → Taken
 take program zero (Stream.ends hs) l = give (λ rest. nothing_more Ending.end) hs l
 take program zero (Stream.goes_on hs i) l = give (λ rest. nothing_more Ending.fuel) hs l
 take program (suc f) (Stream.ends hs) l = give (λ rest. nothing_more Ending.end) hs l
-take program (suc f) (Stream.goes_on hs i) l = give (λ rest. with_pull (take program f (force program i) rest)) hs l
+take program (suc f) (Stream.goes_on hs i) l =
+    give (λ rest. with_pull (take program f (force program i) rest)) hs l
 
 -- what a run gives at a fuel
 abbrev pub take_query : Program → ℕ → Query → Taken

@@ -1,5 +1,6 @@
 -- Terms as lists of letters in preorder.
-use Rattle.std.specs.Prelude.{◌≡◌, ℕ, Bool, true, false, eqb, List, [], ◌∷◌, ◌++◌, Option, Some, None}
+use Rattle.std.specs.Prelude.{◌≡◌, ℕ, Bool, true, false, eqb, List, [], ◌∷◌, ◌++◌, Option, Some}
+use Rattle.std.specs.Prelude.{None}
 use Rattle.std.specs.Ordering.{int_eq}
 use Rattle.std.specs.Borrow.{Bor}
 use Rattle.kan_terms.specs.Tree.{Tree, Tm, bool_eq}
@@ -7,7 +8,8 @@ use Rattle.kan_terms.specs.Terms.{tree}
 use Rattle.kan_terms.specs.declared.terms.Term.{Term}
 use Rattle.kan_model.specs.Stores.Solve.{Replacement, image}
 use Rattle.kan_model.specs.declared.letters.Letter.{Letter}
-use Rattle.kan_model.specs.declared.letters.Letter.TheVariants.{Pair, Var, Sym, Str, Num, Truth, Nil}
+use Rattle.kan_model.specs.declared.letters.Letter.TheVariants.{Pair, Var, Sym, Str, Num, Truth}
+use Rattle.kan_model.specs.declared.letters.Letter.TheVariants.{Nil}
 
 -- the first letter of a term
 abbrev pub letter_of : Tm → Letter
