@@ -9,9 +9,12 @@ ghost use Rattle.kan_model.specs.Programs.Values.{values_of};
 use crate::letters::{Letter, build, first_letter};
 use crate::nodes::TermNode;
 use crate::program::Program;
-use crate::values::{Values, copied};
+use crate::values::Values;
 use kan_terms::{Memory, Term};
 use std::alloc::Global;
+
+// How high a template's pairs stand at most that are made without a stack.
+const SHALLOW: u32 = 32;
 
 /// A list of terms without pairs, one for each slot.
 #[derive(Drop)]
@@ -58,12 +61,14 @@ impl Env {
         Ok(Env { values })
     }
 
-    /// The environment with slots more, which stand for the variables from a number on.
-    pub fn extend(&self, alloc: Global, first: u64, count: u32) -> Result<Env, Memory>
+    /// The environment with slots more, which stand for the variables from a number on. Its terms
+    /// are copied only where another environment shares them.
+    pub fn extend(self, alloc: Global, first: u64, count: u32) -> Result<Env, Memory>
         requires { first + count ≤ 2 ^ 63 }
-        ensures { IfOk result (λ made. terms_of made ≡ terms_of self.now ++ variables first count) }
+        ensures { IfOk result (λ made. terms_of made ≡ terms_of self ++ variables first count) }
     {
-        let mut values = copied(alloc, self.values.lent())?;
+        let Env { values } = self;
+        let mut values = values.owned(alloc)?;
         for offset in 0..count {
             values.push(Term::Var(first + u64::from(offset)))?;
         }
@@ -189,23 +194,28 @@ impl Env {
         build(alloc, letters)
     }
 
-    // The term of a template that is a pair of two that are none.
-    fn small_pair(
+    // The term of a template that is at most so many pairs high. The rest of a pair comes first, so
+    // that a long list is given up at once.
+    fn shallow_value(
         &self,
         alloc: Global,
         program: &Program,
         term: u32,
+        height: u32,
     ) -> Result<Option<Term>, Memory>
         ensures { IfOk result (λ found. IfSome found (λ made. tree made
             ≡ instance (terms_of self.now) (programs.template program.now term))) }
     {
         let TermNode::Pair(first, rest) = program.template_node(term) else {
+            return self.leaf(program, term);
+        };
+        if height == 0 {
+            return Ok(None);
+        }
+        let Some(rest) = self.shallow_value(alloc, program, rest, height - 1)? else {
             return Ok(None);
         };
-        let Some(first) = self.leaf(program, first)? else {
-            return Ok(None);
-        };
-        let Some(rest) = self.leaf(program, rest)? else {
+        let Some(first) = self.shallow_value(alloc, program, first, height - 1)? else {
             return Ok(None);
         };
         let made = Term::pair(alloc, first, rest)?;
@@ -217,11 +227,8 @@ impl Env {
         ensures { IfOk result (λ made. tree made
             ≡ instance (terms_of self.now) (programs.template program.now term)) }
     {
-        // Most templates are no pairs, or pairs of such: they need no stack.
-        if let Some(made) = self.leaf(program, term)? {
-            return Ok(made);
-        }
-        if let Some(made) = self.small_pair(alloc, program, term)? {
+        // Few templates are high: these need no stack.
+        if let Some(made) = self.shallow_value(alloc, program, term, SHALLOW)? {
             return Ok(made);
         }
         self.spelled_value(alloc, program, term)

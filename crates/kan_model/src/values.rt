@@ -46,6 +46,19 @@ impl Values {
         }
     }
 
+    /// The terms, to be changed. They are copied only where others have them too.
+    pub(crate) fn owned(self, alloc: Global) -> Result<Vec<Term>, Memory>
+        ensures { IfOk result (λ made. map tree made.items ≡ map tree (values_of self)) }
+    {
+        match self {
+            Values::Own(own) => Ok(own),
+            Values::Shared(all) => match Arc::try_unwrap(all) {
+                Ok(own) => Ok(own),
+                Err(shared) => copied(alloc, shared.as_slice()),
+            },
+        }
+    }
+
     /// The terms once more. What is shared is not copied.
     pub(crate) fn again(&self, alloc: Global) -> Result<Values, Memory>
         ensures { IfOk result (λ copy. map tree (values_of copy) ≡ map tree (values_of self.now)) }

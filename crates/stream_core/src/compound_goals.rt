@@ -76,14 +76,14 @@ pub(crate) fn split_fresh<St: Store>(
     alloc: Global,
     count: u32,
     body: u32,
-    env: &Env,
+    env: Env,
     store: St,
     tasks: &mut Vec<Task<St>>,
 ) -> Result<(), Memory>
     requires { (St.meaning store).counter + count ≤ 2 ^ 63 }
     ensures { OnOk result ((goal : ℕ → Goal) → stack (task St.meaning goal) tasks.new.items
         ≡ pending.Task.run_at (goal body)
-        (terms_of env.now ++ variables (St.meaning store).counter count)
+        (terms_of env ++ variables (St.meaning store).counter count)
         (with_fresh (St.meaning store) count) ∷ stack (task St.meaning goal) tasks.old.items) }
 {
     let env = env.extend(alloc, store.counter(), count)?;

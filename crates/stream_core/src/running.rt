@@ -71,7 +71,7 @@ fn run_node<N: Nodes<St>, St: Store>(
     match node {
         GoalNode::Both(first, second) => split_both(alloc, first, second, env, store, tasks),
         GoalNode::Either(left, right) => split_either(alloc, left, right, env, store, tasks),
-        GoalNode::Fresh(count, body) => split_fresh(alloc, count, body, &env, store, tasks),
+        GoalNode::Fresh(count, body) => split_fresh(alloc, count, body, env, store, tasks),
         _ => {
             let stream = atomic_stream(alloc, program, node, env, store, nodes)?;
             values.push(stream)?;

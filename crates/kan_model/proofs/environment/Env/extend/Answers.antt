@@ -9,11 +9,11 @@ use Rattle.kan_model.proofs.environment.Env.extend.Goals as goal
 
 pub loop-offset-preserved : goal.loop-offset-preserved
 loop-offset-preserved c =
-    extended-step (terms_of c.args.self.now) c.args.first c.loop-offset.offset c.loop-offset.values.items _ c.loop-offset.invariant
+    extended-step (terms_of c.args.self) c.args.first c.loop-offset.offset c.loop-offset.values.items _ c.loop-offset.invariant
     (c.in_ok-push.ensures.items ∙ ap (λ n. c.loop-offset.values.items ++ Var (c.args.first + n) ∷ []) c.from.ensures)
 
 pub invariant_of-result : goal.invariant_of-result
 invariant_of-result c = record {
   flat = ap (λ vs. list_all is_flat (map tree vs)) c.in_ok-values-2.ensures
-      ∙ extended-flat (terms_of c.args.self.now) c.args.first c.loop-offset.offset c.loop-offset.values.items c.loop-offset.invariant c.args.self.now.flat;
+      ∙ extended-flat (terms_of c.args.self) c.args.first c.loop-offset.offset c.loop-offset.values.items c.loop-offset.invariant c.args.self.flat;
 }

@@ -5,4 +5,4 @@ use Rattle.kan_model.specs.Programs.Environments.{terms_of}
 use Rattle.kan_model.proofs.environment.Env.extend.Given as goal
 
 abbrev pub invariant-loop-offset : goal.invariant-loop-offset
-invariant-loop-offset l = map tree l.values.items ≡ terms_of l.self ++ variables l.first l.offset
+invariant-loop-offset l = map tree l.values.items ≡ terms_of l.fn.self ++ variables l.first l.offset
