@@ -19,11 +19,11 @@ use Rattle.reify.specs.Shapes.{spelling}
 use Rattle.reify.proofs.AnswerLaws.{form_over}
 use Rattle.reify.proofs.ShapeLaws.{one_spelled}
 use Rattle.answer_reading.specs.Finding.{names_reach, rises}
-use Rattle.answer_reading.specs.Words.{is_fine}
+use Rattle.term_reading.specs.Words.{is_fine}
 use Rattle.answer_reading.specs.Listing.{is_fine_absence, is_fine_answer, is_fine_pair, is_short, shaped_pair}
 use Rattle.answer_reading.specs.Answering.{is_over, is_term_over}
 use Rattle.answer_reading.proofs.OrderLaws.{names_spelled, own_below, reach_names, term_reach, term_rises}
-use Rattle.answer_reading.proofs.KnownLaws.{all_further}
+use Rattle.term_reading.proofs.KnownTerms.{all_further}
 
 -- there are no more names than leaves, and no more leaves than bytes
 few_names : (k : ℕ) (ns : List ℕ) → names_reach k ns ≤ k + length ns

@@ -21,31 +21,12 @@ use Rattle.reify.specs.declared.shaping.Shape.TheVariants.{Pair, Name, Sym, Str,
 use Rattle.reify.specs.OverNames.{absence}
 use Rattle.reify.specs.Shapes.{all_whole, named_pair, spelling, spells, tree_of}
 use Rattle.reify.proofs.ShapeLaws.{spelled_whole}
+use Rattle.term_reading.proofs.KnownTerms.{all_further, further, known_further}
 use Rattle.answer_reading.specs.declared.constraints.Parts.{Parts}
-use Rattle.answer_reading.specs.Words.{is_known}
+use Rattle.term_reading.specs.Words.{is_known}
 use Rattle.answer_reading.specs.Listing.{are_constraints_known, are_parts_known, is_absence_known, is_pair_known, meaning}
 use Rattle.answer_reading.specs.Forming.{are_whole}
 use Rattle.answer_reading.specs.Answering.{is_over, is_term_over}
-
--- what stands in a table stands in one that goes on from it
-further : (texts more longer : List (List ℕ)) (s : ℕ) → longer ≡ texts ++ more → nat_lt s (length texts) ≡ true → nat_lt s (length longer) ≡ true
-further texts more longer s is low =
-    let many : length longer ≡ length texts + length more = ap length is ∙ length-append texts more in
-    let below : s < length longer = let l : s < length texts = grind (arith, nat_tests) in omega (arith, many, l) in
-    grind (arith, nat_tests)
-
-pub known_further : (old new : Table) → GoesOn old new → (x : Shape) → is_known old x ≡ true → is_known new x ≡ true
-known_further old new goes (Sym s) h = further old.symbols goes.symbols.0 new.symbols s goes.symbols.1 h
-known_further old new goes (Str s) h = further old.strings goes.strings.0 new.strings s goes.strings.1 h
-known_further old new goes Pair h = refl
-known_further old new goes (Name n) h = refl
-known_further old new goes (Num z) h = h
-known_further old new goes (Truth b) h = refl
-known_further old new goes Nil h = refl
-
-pub all_further : {X : Type 0} (p q : X → Bool) → ((x : X) → p x ≡ true → q x ≡ true) → (xs : List X) → list_all p xs ≡ true → list_all q xs ≡ true
-all_further p q so [] h = refl
-all_further p q so (x ∷ xs) h = let parts = and_parts (p x) (list_all p xs) h in ap₂ (λ a b. a && b) (so x parts.0) (all_further p q so xs parts.1)
 
 pub pair_further : (old new : Table) → GoesOn old new → (p : NamePair) → is_pair_known old p ≡ true → is_pair_known new p ≡ true
 pair_further old new goes p h = all_further (is_known old) (is_known new) (known_further old new goes) p.term h
@@ -58,13 +39,6 @@ differences_further old new goes ds h = all_further (list_all (is_pair_known old
 
 pub absences_further : (old new : Table) → GoesOn old new → (as_ : List Absence) → list_all (is_absence_known old) as_ ≡ true → list_all (is_absence_known new) as_ ≡ true
 absences_further old new goes as_ h = all_further (is_absence_known old) (is_absence_known new) (λ a. known_further old new goes (Sym a.tag)) as_ h
-
-pub terms_further : (old new : Table) → GoesOn old new → (xs : List Shape) → list_all (is_known old) xs ≡ true → list_all (is_known new) xs ≡ true
-terms_further old new goes xs h = all_further (is_known old) (is_known new) (known_further old new goes) xs h
-
--- one more
-pub one_known : {X : Type 0} (p : X → Bool) (made grown : List X) (x : X) → grown ≡ made ++ x ∷ [] → list_all p made ≡ true → p x ≡ true → list_all p grown ≡ true
-one_known p made grown x is all one = ap (list_all p) is ∙ list_all-append p made (x ∷ []) ∙ ap₂ (λ a b. a && b) all (ap (λ b. b && true) one)
 
 -- the terms of parts are over a table
 term_over : (table : Table) (t : Tm) → list_all (is_known table) (spelling t) ≡ true → is_term_over table t ≡ true

@@ -3,10 +3,6 @@ pub mod FindLaws
 pub mod MeetLaws
 pub mod OrderLaws
 pub mod CoverLaws
-pub mod WordLaws
-pub mod StringLaws
-pub mod ShapeLaws
-pub mod TermLaws
 pub mod ListLaws
 pub mod PartLaws
 pub mod FormLaws

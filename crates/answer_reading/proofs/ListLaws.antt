@@ -20,11 +20,11 @@ use Rattle.reify.specs.OverNames.{absence}
 use Rattle.reify.specs.Printing.{atom_text}
 use Rattle.reify.specs.Shapes.{spells}
 use Rattle.answer_reading.specs.declared.constraints.Kinds.{Kinds}
-use Rattle.answer_reading.specs.Words.{Continues, ends, is_fine, is_worded}
-use Rattle.answer_reading.specs.Reading.{GetsTerm, text_from}
+use Rattle.term_reading.specs.Words.{Continues, ends, is_fine, is_worded}
+use Rattle.term_reading.specs.Reading.{GetsTerm, text_from}
 use Rattle.answer_reading.specs.Listing.{GetsAbsence, GetsAbsences, GetsDifferences, GetsKind, GetsKinds, GetsNames, GetsPair, GetsPairs, begins, difference_text, has_fourth, is_fine_absence, is_fine_pair, is_short, pair_text, past_space}
-use Rattle.answer_reading.proofs.TermLaws.{continues_back}
-use Rattle.answer_reading.proofs.KnownLaws.{one_known}
+use Rattle.term_reading.proofs.TermLaws.{continues_back}
+use Rattle.term_reading.proofs.KnownTerms.{one_known}
 
 -- what follows the first of some texts with spaces between them
 abbrev pub tail_text : List (List ℕ) → List ℕ → List ℕ

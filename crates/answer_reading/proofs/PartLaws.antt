@@ -20,12 +20,12 @@ use Rattle.reify.proofs.ShapeLaws.{one_spelled, tree_of-spelling}
 use Rattle.reify.proofs.TextLaws.{where_spaced}
 use Rattle.answer_reading.specs.declared.constraints.Kinds.{Kinds}
 use Rattle.answer_reading.specs.declared.constraints.Parts.{Parts}
-use Rattle.answer_reading.specs.Words.{ends, is_fine, is_known}
-use Rattle.answer_reading.specs.Reading.{GetsTerm, text_from}
+use Rattle.term_reading.specs.Words.{ends, is_fine, is_known}
+use Rattle.term_reading.specs.Reading.{GetsTerm, text_from}
 use Rattle.answer_reading.specs.Listing.{GetsAbsences, GetsConstraints, GetsDifferences, GetsKinds, GetsParts, are_constraints_known, are_fine_constraints, are_parts_known, constraints_text, difference_text, has_fourth, is_fine_absence, is_fine_pair, is_short, kinds_text, meaning, pair_text, shaped_pair}
-use Rattle.answer_reading.proofs.TermLaws.{continues_back, term_printed}
+use Rattle.term_reading.proofs.TermLaws.{continues_back, term_printed}
 use Rattle.answer_reading.proofs.ListLaws.{kind_fourth}
-use Rattle.answer_reading.proofs.KnownLaws.{terms_further}
+use Rattle.term_reading.proofs.KnownTerms.{terms_further}
 
 absences_fourth : (b : ℕ) (table : Table) (as_ : List model.Absence) → (98 == b) ≡ false → has_fourth b (flat_map spaced (map (absence_text table) as_)) ≡ false
 absences_fourth b table [] other = refl

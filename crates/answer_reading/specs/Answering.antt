@@ -12,7 +12,7 @@ use Rattle.reify.specs.declared.answers.Answer.{Answer}
 use Rattle.answer_reading.specs.declared.reading.AnswerFault.{AnswerFault}
 use Rattle.answer_reading.specs.declared.reading.AnswerFault.TheVariants.{NotAnAnswer, Memory}
 use Rattle.answer_reading.specs.declared.constraints.Parts.{Parts}
-use Rattle.answer_reading.specs.Words.{Continues}
+use Rattle.term_reading.specs.Words.{Continues}
 use Rattle.answer_reading.specs.Forming.{are_whole}
 use Rattle.answer_reading.specs.Listing as listing
 

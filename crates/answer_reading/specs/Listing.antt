@@ -15,8 +15,8 @@ use Rattle.reify.specs.Shapes.{named_pair, spelling, spells, tree_of}
 use Rattle.answer_reading.specs.declared.constraints.Kinds.{Kinds}
 use Rattle.answer_reading.specs.declared.constraints.Parts.{Parts}
 use Rattle.answer_reading.specs.Forming.{are_whole}
-use Rattle.answer_reading.specs.Reading.{text_from}
-use Rattle.answer_reading.specs.Words.{Continues, is_fine, is_known}
+use Rattle.term_reading.specs.Reading.{text_from}
+use Rattle.term_reading.specs.Words.{Continues, is_fine, is_known}
 
 -- the first byte is this one, and the fourth
 abbrev pub begins : ℕ → List ℕ → Bool

@@ -14,15 +14,12 @@ ghost use Rattle.answer_reading.specs.Listing.{GetsConstraints, GetsParts};
 ghost use Rattle.answer_reading.specs.Listing.{are_constraints_known, are_parts_known};
 ghost use Rattle.answer_reading.specs.Listing.{begins, has_fourth, is_absence_known};
 ghost use Rattle.answer_reading.specs.Listing.{is_pair_known, past_space};
-ghost use Rattle.answer_reading.specs.Words.{HasRoom, Moves, ends, is_known};
+ghost use Rattle.term_reading.specs.Words.{HasRoom, Moves, ends, is_known};
 
-use crate::shapes::{front_length, read_word};
-use crate::strings::behind;
-use crate::terms::read_term;
-use crate::words::name_number;
 use kan_terms::{ListOf, Memory, Names};
 use reify::{Absence, NamePair, NamePairs, Shape, Shapes};
 use std::alloc::Global;
+use term_reading::{behind, front_length, name_number, read_term, read_word};
 
 /// The names that have a type, by type.
 #[derive(Drop)]

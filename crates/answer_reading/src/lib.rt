@@ -8,11 +8,7 @@ mod marks;
 mod meeting;
 mod ordering;
 mod reading;
-mod shapes;
-mod strings;
-mod terms;
 mod values;
-mod words;
 
 pub use instances::is_instance;
 pub use reading::{AnswerFault, read_answer};

@@ -10,7 +10,7 @@ ghost use Rattle.answer_reading.specs.Answering.{Checks, FindsAnswer, GivesAnswe
 ghost use Rattle.answer_reading.specs.Answering.{IsSmall, IsTextOf};
 ghost use Rattle.answer_reading.specs.Forming.{are_whole};
 ghost use Rattle.answer_reading.specs.Listing as listing;
-ghost use Rattle.answer_reading.specs.Words.{AreSymbols, HasRoom, Moves};
+ghost use Rattle.term_reading.specs.Words.{AreSymbols, HasRoom, Moves};
 
 use crate::constraints::{Parts, read_parts};
 use crate::forming::are_whole;

@@ -46,7 +46,7 @@ pub(crate) fn begun_by(byte: u8) -> Start
 }
 
 /// Whether a byte belongs to words.
-pub(crate) fn is_word_byte(byte: u8) -> bool
+pub fn is_word_byte(byte: u8) -> bool
     ensures { result ≡ is_word_byte byte }
 {
     byte.is_ascii_alphanumeric()
@@ -73,9 +73,9 @@ pub(crate) fn is_word_byte(byte: u8) -> bool
         )
 }
 
-#[tactic(auto, using(crate::proofs::PieceLaws::run_within))]
 /// How many bytes of a word stand at the front.
-pub(crate) fn word_length(bytes: &[u8]) -> usize
+#[tactic(auto, using(crate::proofs::PieceLaws::run_within))]
+pub fn word_length(bytes: &[u8]) -> usize
     ensures count { result ≡ prefix_len is_word_byte bytes.now }
     ensures within { result ≤ length bytes.now }
 {
@@ -92,7 +92,7 @@ pub(crate) fn comment_length(bytes: &[u8]) -> usize
 }
 
 /// Whether all bytes are digits.
-pub(crate) fn all_digits(bytes: &[u8]) -> bool
+pub fn all_digits(bytes: &[u8]) -> bool
     ensures { result ≡ all_digits bytes.now }
 {
     bytes.iter().all(|byte| byte.is_ascii_digit())

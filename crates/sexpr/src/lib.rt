@@ -13,7 +13,9 @@ mod strings;
 mod token;
 mod word;
 
+pub use bytes::{all_digits, is_word_byte, word_length};
 pub use data::{Data, Datum, DatumKind, Prefix, ReadError};
 pub use printer::print;
 pub use reader::read;
 pub use strings::print_string;
+pub use word::{is_dot, is_reserved, looks_like_number};

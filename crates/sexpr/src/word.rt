@@ -42,21 +42,21 @@ fn number_token(word: &str) -> Token<'_>
 }
 
 /// Whether a word is a single point.
-fn is_dot(word: &[u8]) -> bool
+pub fn is_dot(word: &[u8]) -> bool
     ensures { result ≡ is_dot word.now }
 {
     word.len() == 1 && word[0] == b'.'
 }
 
 /// Whether a digit follows an optional sign and an optional point.
-fn looks_like_number(word: &[u8]) -> bool
+pub fn looks_like_number(word: &[u8]) -> bool
     ensures { result ≡ looks_like_number word.now }
 {
     begins_with_digit(without_point(without_sign(word)))
 }
 
 /// Whether a word is an underscore and digits.
-fn is_reserved(word: &[u8]) -> bool
+pub fn is_reserved(word: &[u8]) -> bool
     ensures { result ≡ is_reserved word.now }
 {
     match word.first() {

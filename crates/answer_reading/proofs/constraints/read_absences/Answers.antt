@@ -4,7 +4,7 @@ use Rattle.reify.specs.Meaning.{absence}
 use Rattle.answer_reading.specs.Listing.{has_fourth, is_absence_known}
 use Rattle.answer_reading.proofs.KnownLaws.{absences_further}
 use Rattle.answer_reading.proofs.ListLaws.{absences_end, absences_go_on, some_known}
-use Rattle.answer_reading.proofs.TermLaws.{moves_on}
+use Rattle.term_reading.proofs.TermLaws.{moves_on}
 use Rattle.answer_reading.proofs.constraints.read_absences.Goals as goal
 
 pub loop-rest-preserved : goal.loop-rest-preserved

@@ -2,7 +2,7 @@
 use Rattle.std.proofs.Common.{◌≡◌, length, map, true}
 use Rattle.std.specs.List.{list_all}
 use Rattle.reify.specs.Meaning.{absence}
-use Rattle.answer_reading.specs.Words.{Moves}
+use Rattle.term_reading.specs.Words.{Moves}
 use Rattle.answer_reading.specs.Listing.{is_absence_known}
 use Rattle.answer_reading.proofs.ListLaws.{LeftAbsences}
 use Rattle.answer_reading.proofs.constraints.read_absences.Given as goal

@@ -2,9 +2,10 @@
 use Rattle.std.proofs.Common.{◌≡◌, true, false, length}
 use Rattle.std.specs.List.{list_all}
 use Rattle.answer_reading.specs.Listing.{has_fourth, is_pair_known}
-use Rattle.answer_reading.proofs.KnownLaws.{differences_further, one_known}
+use Rattle.answer_reading.proofs.KnownLaws.{differences_further}
+use Rattle.term_reading.proofs.KnownTerms.{one_known}
 use Rattle.answer_reading.proofs.ListLaws.{differences_end, differences_go_on}
-use Rattle.answer_reading.proofs.TermLaws.{moves_past}
+use Rattle.term_reading.proofs.TermLaws.{moves_past}
 use Rattle.answer_reading.proofs.constraints.read_differences.Goals as goal
 
 pub loop-alloc-preserved : goal.loop-alloc-preserved

@@ -1,7 +1,7 @@
 -- What was read is the front of the disequalities.
 use Rattle.std.proofs.Common.{◌≡◌, length, true}
 use Rattle.std.specs.List.{list_all}
-use Rattle.answer_reading.specs.Words.{Moves}
+use Rattle.term_reading.specs.Words.{Moves}
 use Rattle.answer_reading.specs.Listing.{is_pair_known}
 use Rattle.answer_reading.proofs.ListLaws.{LeftDifferences}
 use Rattle.answer_reading.proofs.constraints.read_differences.Given as goal

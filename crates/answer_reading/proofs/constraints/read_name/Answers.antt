@@ -1,6 +1,6 @@
 -- The word at the front is the name.
 use Rattle.std.proofs.Common.{◌∙◌}
-use Rattle.answer_reading.proofs.ShapeLaws.{cut_all, name_got}
+use Rattle.term_reading.proofs.ShapeLaws.{cut_all, name_got}
 use Rattle.answer_reading.proofs.constraints.read_name.Goals as goal
 
 pub returns-clause-reads : goal.returns-clause-reads

@@ -1,9 +1,10 @@
 -- Each pair that is read stands before those that are left.
 use Rattle.std.proofs.Common.{◌≡◌, ◌≤◌, true, false, length}
 use Rattle.answer_reading.specs.Listing.{begins, is_pair_known}
-use Rattle.answer_reading.proofs.KnownLaws.{one_known, pairs_further}
+use Rattle.answer_reading.proofs.KnownLaws.{pairs_further}
+use Rattle.term_reading.proofs.KnownTerms.{one_known}
 use Rattle.answer_reading.proofs.ListLaws.{pairs_end, pairs_go_on, past_shorter}
-use Rattle.answer_reading.proofs.TermLaws.{moves_less, moves_on}
+use Rattle.term_reading.proofs.TermLaws.{moves_less, moves_on}
 use Rattle.answer_reading.proofs.constraints.read_pairs.Goals as goal
 
 pub loop-alloc-preserved : goal.loop-alloc-preserved

@@ -1,7 +1,7 @@
 -- What was read is the front of the pairs.
 use Rattle.std.proofs.Common.{◌≡◌, length, true}
 use Rattle.std.specs.List.{list_all}
-use Rattle.answer_reading.specs.Words.{Moves}
+use Rattle.term_reading.specs.Words.{Moves}
 use Rattle.answer_reading.specs.Listing.{is_pair_known}
 use Rattle.answer_reading.proofs.ListLaws.{LeftPairs}
 use Rattle.answer_reading.proofs.constraints.read_pairs.Given as goal

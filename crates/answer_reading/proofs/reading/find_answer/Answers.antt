@@ -1,6 +1,6 @@
 -- The parts of the line are checked.
 use Rattle.answer_reading.proofs.FoundLaws.{finds, is_found}
-use Rattle.answer_reading.proofs.WordLaws.{if_ok}
+use Rattle.term_reading.proofs.WordLaws.{if_ok}
 use Rattle.answer_reading.proofs.reading.find_answer.Goals as goal
 
 pub returns-clause-found : goal.returns-clause-found

@@ -1,0 +1,5 @@
+pub mod WordLaws
+pub mod StringLaws
+pub mod ShapeLaws
+pub mod TermLaws
+pub mod KnownTerms
