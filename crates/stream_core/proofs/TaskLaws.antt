@@ -1,6 +1,7 @@
 -- One task after the other gives what the definition gives.
-use Rattle.std.proofs.Common.{◌≡◌, ℕ, ◌+◌, ◌≤◌, ◌<◌, ◌^◌, true, List, [], ◌∷◌, ◌++◌, length, map, refl, sym, ◌∙◌, ap, arith}
-use Rattle.std.specs.Prelude.{Contains}
+use Rattle.std.proofs.Common.{◌≡◌, ℕ, ◌+◌, ◌≤◌, ◌<◌, ◌^◌, true, List, [], ◌∷◌, ◌++◌, length, map, refl, sym, subst, ◌∙◌, ap, arith}
+use Rattle.std.specs.Prelude.{Contains, Option}
+use Rattle.std.specs.Option.{option_to_list}
 use Rattle.std.specs.List.{list_all}
 use Rattle.std.proofs.lemmas.Bool.{and_from, and_parts}
 use Rattle.std.proofs.lemmas.List.Folds.{list_all-append}
@@ -135,3 +136,22 @@ module _ (program : Program) where
         ((there, slots), Each-like (λ st. (list_all (all_below st.counter) env ≡ true) × (st.counter ≤ 2 ^ 62)) (HasRoom g env) (λ st (fit, most). (fit, omega (arith, low, most))) hs room, below),
         tt,
       )
+
+  -- one task after another
+  becomes-after : (ts us ws : List Task) (vs xs ys : List Stream) → Becomes program ts vs us xs → Becomes program us xs ws ys → Becomes program ts vs ws ys
+  becomes-after ts us ws vs xs ys first second = record {
+    same = second.same ∙ first.same;
+    ready = λ ready. second.ready (first.ready ready);
+    fewer = λ ready. let less = first.fewer ready in let least = second.fewer (first.ready ready) in omega (arith, less, least);
+  }
+
+  -- both goals, where the first one's stream ends with a store at most: the second is run at it
+  pub becomes-both-once : ProgramIsClosed program → (g h : Goal) (env : List Tm) (st : Store) (o : Option Store) (ts : List Task) (vs : List Stream) →
+      0 < count g env st → Stream.ends (option_to_list o) ≡ run g env st →
+      Becomes program (Task.run_at (Goal.both g h) env st ∷ ts) vs (run_each h env (option_to_list o) ts) (empty ∷ vs)
+  becomes-both-once closed g h env st o ts vs some is =
+      let split = becomes-both closed g h env st ts vs in
+      let ran = becomes-stream g env st (Task.bind_to h env ∷ ts) vs some in
+      let bound = becomes-bound h env (run g env st) ts vs in
+      let all = becomes-after _ _ _ _ _ _ split (becomes-after _ _ _ _ _ _ ran bound) in
+      subst (λ s. Becomes program (Task.run_at (Goal.both g h) env st ∷ ts) vs (run_each h env (heads s) ts) (bound_last h env s ∷ vs)) (sym is) all

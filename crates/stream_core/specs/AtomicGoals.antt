@@ -1,7 +1,10 @@
 -- Which goals run no others, and which of them have all their stores at once.
-use Rattle.std.specs.Prelude.{Bool, true, false}
+use Rattle.std.specs.Prelude.{Bool, true, false, Option}
+use Rattle.std.specs.Option.{option_to_list}
 use Rattle.kan_model.specs.Programs.Goals.{Primitive}
 use Rattle.kan_model.specs.Programs.Tables.{GoalEntry}
+use Rattle.kan_model.specs.Stores.Store.{Store}
+use Rattle.kan_model.specs.Streams.Stream as model
 use Rattle.kan_model.specs.declared.prims.Kind.{Kind}
 use Rattle.kan_model.specs.declared.prims.Kind.TheVariants.{Symbol, Number, Text}
 
@@ -23,3 +26,7 @@ abbrev pub of_kind : {X : Type 0} → Kind → X → Primitive X
 of_kind Symbol a = Primitive.symbol a
 of_kind Number a = Primitive.number a
 of_kind Text a = Primitive.text a
+
+-- the stream that ends with a store, or without one
+abbrev pub ends_with : Option Store → model.Stream
+ends_with store = model.Stream.ends (option_to_list store)

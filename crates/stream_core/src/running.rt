@@ -6,7 +6,7 @@ ghost use Rattle.std.specs.List.{list_all};
 ghost use Rattle.kan_model.specs.Programs.Goals as goals;
 ghost use Rattle.kan_model.specs.Streams.Stream as model;
 ghost use Rattle.kan_model.specs.Streams.Running.{run};
-ghost use Rattle.kan_model.specs.Programs.Scope.{width, all_below, in_scope};
+ghost use Rattle.kan_model.specs.Programs.Scope.{width, all_below, in_scope, is_small};
 ghost use Rattle.kan_model.specs.Programs.Nodes.{goal_entry};
 ghost use Rattle.kan_model.specs.Programs.Environments.{terms_of};
 ghost use Rattle.kan_model.specs.Programs.Closed as programs;
@@ -21,8 +21,9 @@ ghost use Rattle.stream_core.specs.Tasks.{AreReady, bound_last, done};
 ghost use Rattle.stream_core.specs.CodeTasks.{task, tasks_of, streams_of};
 
 use crate::appending::append;
+use crate::asserting::{ends_at_once, store_at_once};
 use crate::atomic_goals::atomic_stream;
-use crate::compound_goals::{run_at_each, split_both, split_either, split_fresh};
+use crate::compound_goals::{run_at_each, run_second, split_both, split_either, split_fresh};
 use crate::nodes::Nodes;
 use crate::streams::{Stream, Thunk};
 use crate::tasks::Task;
@@ -39,6 +40,46 @@ fn node_at(program: &Program, goal: u32) -> GoalNode
     match program.goal(goal) {
         Some(node) => *node,
         None => GoalNode::Fail,
+    }
+}
+
+// Runs two goals. Where the first one has its stores at once, there is one at most, and the second
+// goal is run at it: no stream is made for the first one.
+fn run_both<N: Nodes<St>, St: Store>(
+    alloc: Global,
+    program: &Program,
+    first: u32,
+    second: u32,
+    env: Env,
+    store: St,
+    table: &N,
+    tasks: &mut Vec<Task<St>>,
+    values: &mut Vec<Stream<N::Id, St>>,
+) -> Result<(), Memory>
+    requires small { is_small (programs.meaning program.now) ≡ true }
+    requires may { MayRun (programs.meaning program.now)
+        (goals.Goal.both (programs.goal program.now first) (programs.goal program.now second))
+        (terms_of env) (St.meaning store) }
+    requires belong { Each (HasStream (N.table table.now)) values.old.items }
+    ensures becomes { OnOk result (Becomes (programs.meaning program.now)
+        (pending.Task.run_at (goals.Goal.both (programs.goal program.now first)
+        (programs.goal program.now second)) (terms_of env) (St.meaning store) ∷
+        tasks_of program.now St.meaning tasks.old.items)
+        (streams_of (N.table table.now) St.meaning values.old.items)
+        (tasks_of program.now St.meaning tasks.new.items)
+        (streams_of (N.table table.now) St.meaning values.new.items)) }
+    ensures belong { OnOk result (Each (HasStream (N.table table.now)) values.new.items) }
+{
+    let node = node_at(program, first);
+    if ends_at_once(node) {
+        let longer = store_at_once(alloc, program, node, &env, store)?;
+        values.push(Stream {
+            heads: ListOf::new(alloc),
+            tail: None,
+        })?;
+        run_second(second, env, longer, tasks)
+    } else {
+        split_both(alloc, first, second, env, store, tasks)
     }
 }
 
@@ -69,7 +110,11 @@ fn run_node<N: Nodes<St>, St: Store>(
 {
     let node = node_at(program, goal);
     match node {
-        GoalNode::Both(first, second) => split_both(alloc, first, second, env, store, tasks),
+        GoalNode::Both(first, second) => {
+            run_both(
+                alloc, program, first, second, env, store, nodes, tasks, values,
+            )
+        }
         GoalNode::Either(left, right) => split_either(alloc, left, right, env, store, tasks),
         GoalNode::Fresh(count, body) => split_fresh(alloc, count, body, env, store, tasks),
         _ => {

@@ -11,4 +11,4 @@ returns g c goals =
     let f = task g.St.Store.meaning goals in
     pushed-one f _ _ _ _ _ c.in_ok-push.ensures.items
     (ap₂ (λ env st. pending.Task.run_at (goals c.args.body) env st)
-    (c.in_ok-env.ensures ∙ ap (λ n. terms_of c.args.env.now ++ variables n c.args.count) c.counter.ensures) c.in_ok-store.ensures) refl
+    (c.in_ok-env.ensures ∙ ap (λ n. terms_of c.args.env ++ variables n c.args.count) c.counter.ensures) c.in_ok-store.ensures) refl

@@ -4,19 +4,23 @@ use Rattle.kan_model.specs.Streams.Running.{run}
 use Rattle.kan_model.specs.Programs.Environments.{terms_of}
 use Rattle.kan_model.specs.Programs.Closed as programs
 use Rattle.kan_model.specs.Programs.Scope.{width}
-use Rattle.stream_core.specs.Tasks.{IsOf}
+use Rattle.stream_core.specs.Tasks.{IsOf, MayRun}
 use Rattle.stream_core.specs.Suspensions as standing
-use Rattle.stream_core.proofs.TaskLaws.{becomes-both, becomes-either, becomes-fresh}
+use Rattle.stream_core.proofs.TaskLaws.{becomes-either, becomes-fresh}
 use Rattle.stream_core.proofs.ClosedLaws.{program-closed, is-atomic}
 use Rattle.stream_core.proofs.StreamLaws.{on-ok, becomes-goal, becomes-given, stack-stays, all-belong, Each-last}
 use Rattle.stream_core.proofs.StackLaws.{stack-pop}
 use Rattle.stream_core.proofs.running.run_node.Goals as goal
 
+pub run_both-requires-clause-may : goal.run_both-requires-clause-may
+run_both-requires-clause-may g c =
+    let p = c.args.program.now in
+    subst (λ h. MayRun (programs.meaning p) h (terms_of c.args.env) (g.St.Store.meaning c.args.store)) (c.node_at-node.ensures.is ∙ ap (λ n. programs.entry_goal p (goal_entry n)) c.in-Both.is) c.requires.may
+
 pub returns-in-Both-clause-becomes : goal.returns-in-Both-clause-becomes
 returns-in-Both-clause-becomes g c =
     let p = c.args.program.now in
-    on-ok _ _ _ (λ stacks. becomes-goal (programs.meaning p) _ _ _ _ _ _ _ _ _ _ (c.node_at-node.ensures.is ∙ ap (λ n. programs.entry_goal p (goal_entry n)) c.in-Both.is)
-    (becomes-both (programs.meaning p) (program-closed p c.requires.table.small) (programs.goal p c.in-Both.first) (programs.goal p c.in-Both.second) (terms_of c.args.env) (g.St.Store.meaning c.args.store) _ _) (stacks (programs.goal p)) refl) c.split_both.ensures
+    on-ok _ _ _ (λ step. becomes-goal (programs.meaning p) _ _ _ _ _ _ _ _ _ _ (c.node_at-node.ensures.is ∙ ap (λ n. programs.entry_goal p (goal_entry n)) c.in-Both.is) step refl refl) c.run_both.ensures.becomes
 
 pub returns-in-Either-clause-becomes : goal.returns-in-Either-clause-becomes
 returns-in-Either-clause-becomes g c =

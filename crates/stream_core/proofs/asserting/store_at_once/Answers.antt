@@ -1,5 +1,5 @@
 use Rattle.stream_core.proofs.ClosedLaws.{not-at-once}
-use Rattle.stream_core.proofs.asserting.stores_at_once.Goals as goal
+use Rattle.stream_core.proofs.asserting.store_at_once.Goals as goal
 
 pub unreachable-requires : goal.unreachable-requires
 unreachable-requires g c =
