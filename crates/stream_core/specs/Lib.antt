@@ -10,4 +10,6 @@ pub mod WaysDown
 pub mod PlainTrees
 pub mod PlainRows
 pub mod PlainTables
+pub mod LinkedThunks
+pub mod LinkedTables
 pub mod SolutionsFound

@@ -9,6 +9,7 @@ mod call_goals;
 mod compound_goals;
 mod copies;
 mod forcing;
+mod linked_nodes;
 mod nodes;
 mod plain_nodes;
 mod running;
@@ -17,6 +18,7 @@ mod tasks;
 
 pub use appending::{append, put_last, reversed};
 pub use forcing::force;
+pub use linked_nodes::{LinkedId, LinkedNodes};
 pub use nodes::Nodes;
 pub use plain_nodes::{PlainId, PlainNodes};
 pub use running::{bind_all, run_goal};
