@@ -7,6 +7,8 @@ pub mod CallArguments
 pub mod CounterBounds
 pub mod InnerSuspensions
 pub mod WaysDown
+pub mod Surroundings
+pub mod CodeSurroundings
 pub mod PlainTrees
 pub mod PlainRows
 pub mod PlainTables
