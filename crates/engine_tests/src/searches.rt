@@ -16,7 +16,7 @@ use std::alloc::Global;
 use std::process::Abort;
 use std::sync::Wait;
 use std::test::Fail;
-use stream_core::{Nodes, PlainNodes};
+use stream_core::{LinkedNodes, Nodes};
 use susp_cells::{OpenGate, SharedNodes, Table};
 
 // How many answers a batch has, how many pulls there were with it, and whether the run ended.
@@ -62,7 +62,7 @@ fn expect_alone(
     requires fuel { 1 ≤ run.now.fuel × (run.now.fuel ≤ 1000000) }
     requires round { 1 ≤ run.now.round × (run.now.round ≤ 65536) }
 {
-    let mut search: Search<'_, PlainStore, PlainNodes<'_, PlainStore>> = Search::open_alone(
+    let mut search: Search<'_, PlainStore, LinkedNodes<'_>> = Search::open_alone(
         rt.alloc(),
         program,
         &run.query,

@@ -1,17 +1,18 @@
 //! The streams of a run: the one that it begins with, and the one that a pull gives.
 
 ghost use Rattle.std.specs.Prelude.{◌≡◌, ◌+◌, ◌≤◌, ◌^◌, [], ◌∷◌, reverse, true, IfOk, IfSome};
-ghost use Rattle.kan_model.specs.Streams.Bounds.{top};
+ghost use Rattle.kan_model.specs.Streams.Bounds.{top, floor};
 ghost use Rattle.kan_model.specs.Streams.Running as running;
 ghost use Rattle.kan_model.specs.Programs.Tables.{are_closed};
 ghost use Rattle.kan_model.specs.Programs.Closed as programs;
-ghost use Rattle.stream_core.specs.Tables.{IsTableOf, Grows};
+ghost use Rattle.stream_core.specs.CounterBounds.{TailFits};
+ghost use Rattle.stream_core.specs.Tables.{IsTableOf, Grows, IsForce, stream_in};
 ghost use Rattle.kan_search.specs.Suspensions.{LeavesRoom, pulled_stream};
 
 use kan_model::{Env, Program, Store};
 use kan_terms::Memory;
 use std::alloc::Global;
-use stream_core::{Nodes, Stream, force, reversed, run_goal};
+use stream_core::{Nodes, Stream, force, force_once, reversed, run_goal};
 
 // Stores of a stream, the next one last, and how it goes on behind them.
 #[derive(Drop)]
@@ -54,25 +55,50 @@ pub(crate) fn start<N: Nodes<St>, St: Store>(
     Ok(pulled)
 }
 
+// The force of a suspension. Where streams are kept it is looked for, and it is kept.
+fn force_next<N: Nodes<St>, St: Store>(
+    alloc: Global,
+    program: &Program,
+    id: N::Id,
+    nodes: &mut N,
+) -> Result<Stream<N::Id, St>, Memory>
+    requires table { IsTableOf program.now (N.table nodes.old) }
+    requires belongs { (N.table nodes.old).belongs id }
+    requires room { top ((N.table nodes.old).tree id) ≤ 2 ^ 62 }
+    ensures force { IfOk result (IsForce (N.table nodes.new) St.meaning
+        ((N.table nodes.old).tree id)) }
+    ensures fits { IfOk result (λ made. TailFits (programs.meaning program.now)
+        (floor ((N.table nodes.old).tree id)) (top ((N.table nodes.old).tree id))
+        (stream_in (N.table nodes.new) St.meaning made)) }
+    ensures grows { Grows (N.table nodes.old) (N.table nodes.new) }
+{
+    if nodes.keeps() {
+        let found = force(alloc, program, &id, nodes)?;
+        return Ok(found);
+    }
+    let made = force_once(alloc, program, id, nodes)?;
+    Ok(made)
+}
+
 // The stream that a pull gives.
 pub(crate) fn pull<N: Nodes<St>, St: Store>(
     alloc: Global,
     program: &Program,
-    id: &N::Id,
+    id: N::Id,
     nodes: &mut N,
 ) -> Result<Pulled<N::Id, St>, Memory>
     requires table { IsTableOf program.now (N.table nodes.old) }
-    requires belongs { (N.table nodes.old).belongs id.now }
-    requires room { top ((N.table nodes.old).tree id.now) ≤ 2 ^ 62 }
+    requires belongs { (N.table nodes.old).belongs id }
+    requires room { top ((N.table nodes.old).tree id) ≤ 2 ^ 62 }
     ensures made { IfOk result (λ made. pulled_stream (N.table nodes.new).tree St.meaning
         made.heads.items made.tail
-        ≡ running.force (programs.meaning program.now) ((N.table nodes.old).tree id.now)) }
+        ≡ running.force (programs.meaning program.now) ((N.table nodes.old).tree id)) }
     ensures belong { IfOk result (λ made. IfSome made.tail (N.table nodes.new).belongs) }
     ensures room { IfOk result (λ made. IfSome made.tail (λ next. top ((N.table nodes.new).tree next)
-        ≤ top ((N.table nodes.old).tree id.now) + 2 ^ 21)) }
+        ≤ top ((N.table nodes.old).tree id) + 2 ^ 21)) }
     ensures grows { Grows (N.table nodes.old) (N.table nodes.new) }
 {
-    let stream = force(alloc, program, id, nodes)?;
+    let stream = force_next(alloc, program, id, nodes)?;
     let pulled = turned(alloc, stream)?;
     Ok(pulled)
 }

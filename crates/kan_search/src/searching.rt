@@ -7,7 +7,7 @@ use kan_model::{Program, Query, Store};
 use kan_terms::{ListOf, Memory};
 use std::alloc::Global;
 use std::marker::Model;
-use stream_core::{Nodes, PlainNodes, Stores, put_last};
+use stream_core::{LinkedNodes, Nodes, Stores, put_last};
 
 // How many answers a batch has at most.
 const GREATEST_BATCH: usize = 1024;
@@ -172,7 +172,7 @@ impl<'a, St: Store, N: Nodes<St> + Drop> Search<'a, St, N> {
         ensures spent { is_spent self.new ≡ is_spent self.old }
     {
         match self.tail.take() {
-            Some(id) => match pull(alloc, self.program, &id, &mut self.nodes) {
+            Some(id) => match pull(alloc, self.program, id, &mut self.nodes) {
                 Ok(pulled) => {
                     let Pulled { heads, tail } = pulled;
                     self.heads = heads;
@@ -254,7 +254,7 @@ impl<'a, St: Store, N: Nodes<St> + Drop> Search<'a, St, N> {
     }
 }
 
-impl<'a, St: Store> Search<'a, St, PlainNodes<'a, St>> {
+impl<'a, St: Store> Search<'a, St, LinkedNodes<'a>> {
     ghost use Rattle.std.specs.Prelude.{◌≡◌, ◌≤◌, true, false, [], ◌∷◌, IfOk};
     ghost use Rattle.kan_model.specs.Programs.Tables.{are_closed};
     ghost use Rattle.kan_model.specs.Programs.Scope.{is_small};
@@ -270,7 +270,7 @@ impl<'a, St: Store> Search<'a, St, PlainNodes<'a, St>> {
         query: &Query,
         fuel: u64,
         round: u32,
-    ) -> Result<Search<'a, St, PlainNodes<'a, St>>, Memory>
+    ) -> Result<Search<'a, St, LinkedNodes<'a>>, Memory>
         requires closed { are_closed (programs.tables program.now) (query.now.goal ∷ []) ≡ true }
         requires small { is_small (programs.meaning program.now) ≡ true }
         requires fuel { 1 ≤ fuel × (fuel ≤ 1000000) }
@@ -283,7 +283,7 @@ impl<'a, St: Store> Search<'a, St, PlainNodes<'a, St>> {
         ensures misses_none { IfOk result (λ search. MissesNone (programs.meaning program.now)
             (programs.query_of program.now query.now) fuel (left search)) }
     {
-        let nodes = PlainNodes::new(alloc, program);
+        let nodes = LinkedNodes::new(alloc, program);
         let search = Search::open(alloc, program, nodes, query, fuel, round)?;
         Ok(search)
     }

@@ -21,7 +21,7 @@ use kan_model::{Program, Query, Store};
 use kan_search::{Batch, Ended, Search};
 use kan_terms::{Memory, Names};
 use std::alloc::Global;
-use stream_core::{Nodes, PlainNodes};
+use stream_core::{LinkedNodes, Nodes};
 
 /// Why a run wasn't written whole.
 #[derive(Clone, Copy, Debug, PartialEq, Eq)]
@@ -178,7 +178,7 @@ fn write_query<K: Sink, St: Store>(
         ≡ (take_query (programs.meaning program.now) settings.fuel
         (query_of program.now query.now)).ending) }
 {
-    let mut search: Search<'_, St, PlainNodes<'_, St>> = Search::open_alone(
+    let mut search: Search<'_, St, LinkedNodes<'_>> = Search::open_alone(
         alloc,
         program,
         query,

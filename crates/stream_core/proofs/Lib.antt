@@ -8,6 +8,7 @@ pub mod PlainTreeLaws
 pub mod CounterLaws
 pub mod ForceLaws
 pub mod WayLaws
+pub mod AroundLaws
 pub mod ClosedLaws
 pub mod FitLaws
 pub mod TaskLaws

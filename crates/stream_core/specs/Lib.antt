@@ -7,7 +7,11 @@ pub mod CallArguments
 pub mod CounterBounds
 pub mod InnerSuspensions
 pub mod WaysDown
+pub mod Surroundings
+pub mod CodeSurroundings
 pub mod PlainTrees
 pub mod PlainRows
 pub mod PlainTables
+pub mod LinkedThunks
+pub mod LinkedTables
 pub mod SolutionsFound

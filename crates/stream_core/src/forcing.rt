@@ -55,7 +55,7 @@ fn enter_call<N: Nodes<St>, St: Store>(
 }
 
 // The force of a suspension that has none inside.
-fn expand<N: Nodes<St>, St: Store>(
+pub(crate) fn expand<N: Nodes<St>, St: Store>(
     alloc: Global,
     program: &Program,
     thunk: Thunk<N::Id, St>,

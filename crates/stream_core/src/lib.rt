@@ -3,12 +3,15 @@
 #![tactic(auto)]
 
 mod appending;
+mod around;
 mod asserting;
 mod atomic_goals;
 mod call_goals;
 mod compound_goals;
 mod copies;
 mod forcing;
+mod forcing_once;
+mod linked_nodes;
 mod nodes;
 mod plain_nodes;
 mod running;
@@ -17,6 +20,8 @@ mod tasks;
 
 pub use appending::{append, put_last, reversed};
 pub use forcing::force;
+pub use forcing_once::force_once;
+pub use linked_nodes::{LinkedId, LinkedNodes};
 pub use nodes::Nodes;
 pub use plain_nodes::{PlainId, PlainNodes};
 pub use running::{bind_all, run_goal};

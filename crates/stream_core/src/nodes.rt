@@ -1,7 +1,7 @@
 //! Tables of suspensions.
 
 ghost use Rattle.std.specs.Prelude.{◌≡◌, true, false, suc, None, Some, option_map, is_some, IfOk};
-ghost use Rattle.std.specs.Prelude.{OnOk, OnErr, IfSome};
+ghost use Rattle.std.specs.Prelude.{OnOk, OnErr, IfErr, IfSome};
 ghost use Rattle.kan_model.specs.Streams.Bounds.{Fits};
 ghost use Rattle.stream_core.specs.Suspensions.{inner_id};
 ghost use Rattle.stream_core.specs.Tables.{Table, GrowsBy, KeepsMore, OnlyAdds, StandsFor, IsKept};
@@ -43,6 +43,18 @@ pub trait Nodes<St: Store> {
         ensures stands { thunk_in (table self.now) St.meaning result.now ≡ (table self.now).tree
             id.now }
         ensures inner { IsInner (table self.now) (inner_id result.now) id.now };
+
+    /// The suspension of an id that is given up, where nobody else has one of it; the id itself
+    /// where others may have one.
+    fn opened(&self, id: Self::Id) -> Result<Thunk<Self::Id, St>, Self::Id>
+        requires { (table self.now).belongs id }
+        ensures belong { IfOk result (HasThunk (table self.now)) }
+        ensures stands { IfOk result (λ thunk. thunk_in (table self.now) St.meaning thunk ≡
+            (table self.now).tree id) }
+        ensures same { IfErr result (λ same. same ≡ id) };
+
+    /// Whether streams are kept, so that it is worth while to look for one.
+    fn keeps(&self) -> bool;
 
     /// An id of the same suspension; the same id, where the table tells what is kept.
     fn again(&self, id: &Self::Id) -> Result<Self::Id, Memory>

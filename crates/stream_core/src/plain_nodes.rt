@@ -115,6 +115,14 @@ impl<'a, St: Store> Nodes<St> for PlainNodes<'a, St> {
         &self.rows[id.at].thunk
     }
 
+    fn opened(&self, id: PlainId) -> Result<Thunk<PlainId, St>, PlainId> {
+        Err(id)
+    }
+
+    fn keeps(&self) -> bool {
+        true
+    }
+
     fn again(&self, id: &PlainId) -> Result<PlainId, Memory> {
         Ok(*id)
     }

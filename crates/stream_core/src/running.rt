@@ -7,6 +7,7 @@ ghost use Rattle.kan_model.specs.Programs.Goals as goals;
 ghost use Rattle.kan_model.specs.Streams.Stream as model;
 ghost use Rattle.kan_model.specs.Streams.Running.{run};
 ghost use Rattle.kan_model.specs.Programs.Scope.{width, all_below, in_scope, is_small};
+ghost use Rattle.kan_model.specs.Streams.Bounds.{floor};
 ghost use Rattle.kan_model.specs.Programs.Nodes.{goal_entry};
 ghost use Rattle.kan_model.specs.Programs.Environments.{terms_of};
 ghost use Rattle.kan_model.specs.Programs.Closed as programs;
@@ -151,6 +152,34 @@ fn append_top<N: Nodes<St>, St: Store>(
     Ok(())
 }
 
+// The stream of a goal that waits for the stores of a suspension.
+fn waiting<N: Nodes<St>, St: Store>(
+    alloc: Global,
+    program: &Program,
+    goal: u32,
+    env: Env,
+    inner: N::Id,
+    nodes: &mut N,
+) -> Result<Stream<N::Id, St>, Memory>
+    requires table { IsTableOf program.now (N.table nodes.old) }
+    requires is { IsOf (programs.meaning program.now) (programs.goal program.now goal)
+        (terms_of env) }
+    requires below { list_all (all_below (floor ((N.table nodes.old).tree inner))) (terms_of env)
+        ≡ true }
+    requires belongs { (N.table nodes.old).belongs inner }
+    ensures made { IfOk result (λ made. stream_in (N.table nodes.new) St.meaning made
+        ≡ model.Stream.goes_on [] (model.Thunk.bind (programs.goal program.now goal) (terms_of env)
+        ((N.table nodes.old).tree inner))) }
+    ensures belong { IfOk result (HasStream (N.table nodes.new)) }
+    ensures adds { OnlyAdds (N.table nodes.old) (N.table nodes.new) }
+{
+    let id = nodes.suspend(Thunk::Bind { goal, env, inner })?;
+    Ok(Stream {
+        heads: ListOf::new(alloc),
+        tail: Some(id),
+    })
+}
+
 // What waits behind the stores of a stream that a goal is bound to.
 fn bound_tail<N: Nodes<St>, St: Store>(
     alloc: Global,
@@ -179,11 +208,8 @@ fn bound_tail<N: Nodes<St>, St: Store>(
         }),
         Some(inner) => {
             let env = env.again(alloc)?;
-            let id = nodes.suspend(Thunk::Bind { goal, env, inner })?;
-            Ok(Stream {
-                heads: ListOf::new(alloc),
-                tail: Some(id),
-            })
+            let made = waiting(alloc, program, goal, env, inner, nodes)?;
+            Ok(made)
         }
     }
 }
@@ -403,9 +429,14 @@ pub(crate) fn bind_later<N: Nodes<St>, St: Store>(
     if !stream.heads.is_empty() {
         return bind_with(alloc, program, goal, env, stream, nodes);
     }
-    let Stream { heads: _, tail } = stream;
-    let made = bound_tail(alloc, program, goal, &env, tail, nodes)?;
-    Ok(made)
+    let Stream { heads, tail } = stream;
+    match tail {
+        None => Ok(Stream { heads, tail: None }),
+        Some(inner) => {
+            let made = waiting(alloc, program, goal, env, inner, nodes)?;
+            Ok(made)
+        }
+    }
 }
 
 /// The streams of a goal at each store of a stream, appended; the goal waits for the stores that

@@ -112,6 +112,14 @@ impl<'a, St: Store, G: Gate, R: Wait> Nodes<St> for SharedNodes<'a, St, G, R> {
         self.table.thunk(id)
     }
 
+    fn opened(&self, id: Susp<St>) -> Result<Thunk<Susp<St>, St>, Susp<St>> {
+        Err(id)
+    }
+
+    fn keeps(&self) -> bool {
+        true
+    }
+
     fn again(&self, id: &Susp<St>) -> Result<Susp<St>, Memory> {
         id.again()
     }

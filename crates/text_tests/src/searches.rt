@@ -18,7 +18,7 @@ use std::alloc::Global;
 use std::process::Abort;
 use std::sync::Wait;
 use std::test::Fail;
-use stream_core::{Nodes, PlainNodes};
+use stream_core::{LinkedNodes, Nodes};
 use susp_cells::{OpenGate, SharedNodes, Table};
 
 // How many answers the first batch of a search has, and how many pulls there were with it.
@@ -35,7 +35,7 @@ fn searched_alone(alloc: Global, program: &Program, query: &Query) -> Result<(us
     requires closed { are_closed (programs.tables program.now) (query.now.goal ∷ []) ≡ true }
     requires small { is_small (programs.meaning program.now) ≡ true }
 {
-    let mut search: Search<'_, PlainStore, PlainNodes<'_, PlainStore>> = Search::open_alone(
+    let mut search: Search<'_, PlainStore, LinkedNodes<'_>> = Search::open_alone(
         alloc, program, query, 1000, 100,
     )?;
     advanced(alloc, &mut search)

@@ -23,7 +23,7 @@ use std::sync::Wait;
 use std::sync::atomic::AtomicU64;
 use std::test::Fail;
 use std::thread::Threads;
-use stream_core::PlainNodes;
+use stream_core::LinkedNodes;
 use susp_cells::{Susp, Table};
 use task_deques::{Holder, gather};
 
@@ -131,7 +131,7 @@ fn agreed<St: Store>(
     requires goal { query.now.goal ≡ 1 }
     requires inside { IsIn table.now susp }
 {
-    let mut search: Search<'_, St, PlainNodes<'_, St>> = Search::open_alone(
+    let mut search: Search<'_, St, LinkedNodes<'_>> = Search::open_alone(
         alloc, program, query, 1000, 1,
     )?;
     compared(alloc, table, susp, &mut search, 100)
