@@ -16,7 +16,7 @@ use std::alloc::Global;
 use std::process::Abort;
 use std::sync::Wait;
 use std::test::Fail;
-use stream_core::{LinkedNodes, Nodes};
+use stream_core::{LinkedNodes, Nodes, PlainNodes};
 use susp_cells::{OpenGate, SharedNodes, Table};
 
 // How many answers a batch has, how many pulls there were with it, and whether the run ended.
@@ -72,6 +72,23 @@ fn expect_alone(
     expect_steps(rt, &mut search, steps)
 }
 
+// Demands the batches of a run over the table that keeps each force.
+fn expect_keeping(
+    rt: &(impl Abort + Alloc<A = Global>),
+    program: &Program,
+    run: &Run,
+    steps: &[Step],
+) -> Result<(), Fail>
+    requires closed { are_closed (programs.tables program.now) (run.now.query.goal ∷ []) ≡ true }
+    requires small { is_small (programs.meaning program.now) ≡ true }
+    requires fuel { 1 ≤ run.now.fuel × (run.now.fuel ≤ 1000000) }
+    requires round { 1 ≤ run.now.round × (run.now.round ≤ 65536) }
+{
+    let nodes: PlainNodes<'_, PlainStore> = PlainNodes::new(rt.alloc(), program);
+    let mut search = Search::open(rt.alloc(), program, nodes, &run.query, run.fuel, run.round)?;
+    expect_steps(rt, &mut search, steps)
+}
+
 // Demands the batches of a run over a shared table, which is used with one number.
 fn expect_shared(
     rt: &(impl Abort + Wait + Alloc<A = Global>),
@@ -91,8 +108,8 @@ fn expect_shared(
     expect_steps(rt, &mut search, steps)
 }
 
-// Demands the batches of a run of the endless program over both tables.
-fn expect_both(
+// Demands the batches of a run of the endless program over each table.
+fn expect_over_each(
     rt: &(impl Abort + Wait + Alloc<A = Global>),
     program: &Program,
     run: &Run,
@@ -104,6 +121,7 @@ fn expect_both(
     requires round { 1 ≤ run.now.round × (run.now.round ≤ 65536) }
 {
     expect_alone(rt, program, run, steps)?;
+    expect_keeping(rt, program, run, steps)?;
     let table: Table<'_, PlainStore> = Table::new(rt.alloc(), program)?;
     expect_shared(rt, program, run, steps, &table)
 }
@@ -136,7 +154,7 @@ fn batch_of(answers: usize, pulls: u64, ended: Option<Ended>) -> Step {
 fn a_run_ends_with_its_stream(rt: HostRuntime) -> Result<(), Fail> {
     let program = endless_program(rt.alloc())?;
     let run = run_of(0, None, 1000, 100);
-    expect_both(
+    expect_over_each(
         &rt,
         &program,
         &run,
@@ -146,7 +164,7 @@ fn a_run_ends_with_its_stream(rt: HostRuntime) -> Result<(), Fail> {
         ],
     )?;
     let run = run_of(3, None, 1000, 100);
-    expect_both(
+    expect_over_each(
         &rt,
         &program,
         &run,
@@ -161,7 +179,7 @@ fn a_run_ends_with_its_stream(rt: HostRuntime) -> Result<(), Fail> {
 fn a_run_ends_at_its_limit(rt: HostRuntime) -> Result<(), Fail> {
     let program = endless_program(rt.alloc())?;
     let run = run_of(1, Some(3), 1000, 100);
-    expect_both(
+    expect_over_each(
         &rt,
         &program,
         &run,
@@ -171,14 +189,14 @@ fn a_run_ends_at_its_limit(rt: HostRuntime) -> Result<(), Fail> {
         ],
     )?;
     let run = run_of(2, Some(0), 1000, 100);
-    expect_both(&rt, &program, &run, &[batch_of(0, 0, Some(Ended::Limit))])
+    expect_over_each(&rt, &program, &run, &[batch_of(0, 0, Some(Ended::Limit))])
 }
 
 #[test]
 fn a_run_ends_by_its_fuel(rt: HostRuntime) -> Result<(), Fail> {
     let program = endless_program(rt.alloc())?;
     let run = run_of(1, None, 3, 2);
-    expect_both(
+    expect_over_each(
         &rt,
         &program,
         &run,
@@ -189,14 +207,14 @@ fn a_run_ends_by_its_fuel(rt: HostRuntime) -> Result<(), Fail> {
         ],
     )?;
     let run = run_of(2, None, 5, 100);
-    expect_both(&rt, &program, &run, &[batch_of(6, 5, Some(Ended::Fuel))])
+    expect_over_each(&rt, &program, &run, &[batch_of(6, 5, Some(Ended::Fuel))])
 }
 
 #[test]
 fn batches_are_full(rt: HostRuntime) -> Result<(), Fail> {
     let program = endless_program(rt.alloc())?;
     let run = run_of(1, None, 1100, 65536);
-    expect_both(
+    expect_over_each(
         &rt,
         &program,
         &run,
