@@ -3,6 +3,8 @@
 #![tactic(auto)]
 
 mod again;
+mod front;
+mod heights;
 mod nodes;
 mod slots;
 mod var_tree;

@@ -83,18 +83,6 @@ fn again<T: Again>(alloc: Global, node: &Node<T>) -> Result<Node<T>, Memory>
     }
 }
 
-// Copies the node behind a pointer, unless the pointer is its only owner.
-fn own<T: Again>(alloc: Global, node: &mut Arc<Node<T>>) -> Result<(), Memory>
-    ensures { (level : ℕ) (k : ℕ) → look T.meaning level k (arc_value node.new) ≡
-        look T.meaning level k (arc_value node.old) }
-{
-    if Arc::strong_count(node) != 1 {
-        let copy = again(alloc, &**node)?;
-        *node = Arc::new(alloc, copy)?;
-    }
-    Ok(())
-}
-
 /// Puts a value at a key into a node behind a pointer, in place where nobody else holds the nodes
 /// on the way.
 #[cycle(put)]
@@ -112,11 +100,13 @@ pub fn put_arc<T: Again>(
     ensures err { OnErr result ((k : ℕ) → look T.meaning level k (arc_value node.new) ≡
         look T.meaning level k (arc_value node.old)) }
 {
-    own(alloc, node)?;
-    match Arc::get_mut(node) {
-        Some(inner) => put_node(alloc, inner, level, key, value),
-        None => Err(Memory),
+    if let Some(inner) = Arc::get_mut(node) {
+        return put_node(alloc, inner, level, key, value);
     }
+    let mut copy = again(alloc, &**node)?;
+    put_node(alloc, &mut copy, level, key, value)?;
+    *node = Arc::new(alloc, copy)?;
+    Ok(())
 }
 
 // Puts a value at a key into the nodes below a node.

@@ -1,83 +1,77 @@
 //! A tree from variables to values.
 
-ghost use Rattle.std.specs.Prelude.{◌≡◌, ◌<◌, ℕ, suc, Some, None, eqb, ltb, ◌%◌, if◌then◌else◌};
-ghost use Rattle.std.specs.Prelude.{OnOk, OnErr, IfOk, IsTrue, true, ◌^◌};
+ghost use Rattle.std.specs.Prelude.{◌≡◌, ◌<◌, ◌%◌, ℕ, Some, None, eqb, if◌then◌else◌};
+ghost use Rattle.std.specs.Prelude.{OnOk, OnErr, IfOk};
 ghost use Rattle.std.specs.Option.{option_map};
-ghost use Rattle.std.specs.Arc.{arc_value};
-ghost use Rattle.kan_tree.specs.Nodes.{look, agree};
-ghost use Rattle.kan_tree.specs.Seen.{seen, bound};
-ghost use Rattle.kan_tree.specs.Found.{found};
+ghost use Rattle.kan_tree.specs.Seen.{bound};
+ghost use Rattle.kan_tree.specs.Found.{found, within};
 
 use crate::again::Again;
-use crate::nodes::{Node, find, fresh, put_arc};
-use crate::slots::Slots;
+use crate::front::{Front, Link, find_within};
+use crate::heights::{fits, level_of, raise};
+use crate::nodes::{fresh, put_arc};
 use kan_terms::Memory;
 use std::alloc::Global;
 use std::sync::Arc;
 
-// A key has no digit above a level.
-fn fits(key: u64, level: u32) -> bool
-    requires { level < 16 }
-    ensures { result ≡ ltb key (bound level) }
-{
-    level >= 15 || key >> ((level + 1) * 4) == 0
-}
-
-// A node one level higher.
-fn above<T: Again>(alloc: Global, root: Arc<Node<T>>) -> Result<Arc<Node<T>>, Memory>
-    ensures { IfOk result (λ up. (level : ℕ) (k : ℕ) →
-        seen T.meaning (suc level) (arc_value up) k ≡ seen T.meaning level (arc_value root) k) }
-{
-    let mut slots = Slots::empty(alloc);
-    slots.put(0, root)?;
-    Ok(Arc::new(alloc, Node::Inner(slots))?)
-}
-
-// A node under levels enough for a key.
-#[derive(Drop)]
-struct Raised<T: Drop> {
-    root: Arc<Node<T>>,
-    level: u32,
-}
-
-// Levels above a node until a key fits.
-fn raise<T: Again>(
-    alloc: Global,
-    root: Arc<Node<T>>,
-    level: u32,
-    key: u64,
-) -> Result<Raised<T>, Memory>
-    requires { level < 16 }
-    ensures low { IfOk result (λ r. r.level < 16) }
-    ensures fits { IfOk result (λ r. key < bound r.level) }
-    ensures same { IfOk result (λ r. (k : ℕ) → seen T.meaning r.level (arc_value r.root) k ≡
-        seen T.meaning level (arc_value root) k) }
-{
-    if level >= 15 || fits(key, level) {
-        return Ok(Raised { root, level });
-    }
-    raise(alloc, above(alloc, root)?, level + 1, key)
-}
-
-// The lowest level at which a key fits.
-fn level_of(key: u64, level: u32) -> u32
-    requires { level < 16 }
-    ensures low { result < 16 }
-    ensures fits { key < bound result }
-{
-    if level >= 15 || fits(key, level) {
-        return level;
-    }
-    level_of(key, level + 1)
-}
+// So many values wait in front of the nodes, at most. Looking through them costs time, and so does
+// putting each branch's few values into its own copy of the nodes.
+const MOST_WAITING: u32 = 12;
 
 /// A tree from variables to values. Trees share what they have in common, and contracts see each as
 /// a finite map.
+///
+/// Where others hold the nodes too, values wait in links in front of them, which trees share as
+/// well: so the nodes on the way to a key are copied once for several values.
 #[derive(Drop)]
 pub struct VarTree<T: Drop> {
-    root: Option<Arc<Node<T>>>,
+    front: Front<T>,
+    // How many links stand there.
+    waiting: u32,
     height: u32,
     alloc: Global,
+}
+
+// A tree where no value waits.
+fn settled_tree<T: Again>(alloc: Global, front: Front<T>, height: u32) -> VarTree<T>
+    ensures same { (k : ℕ) → found T.meaning result k ≡
+        within T.meaning 0 (height % 16) front k }
+    ensures settled { result.waiting ≡ 0 }
+{
+    VarTree {
+        front,
+        waiting: 0,
+        height,
+        alloc,
+    }
+}
+
+// A tree with the values of so many links in its nodes.
+fn settled<T: Again>(
+    alloc: Global,
+    front: &Front<T>,
+    waiting: u32,
+    height: u32,
+) -> Result<VarTree<T>, Memory>
+    ensures same { IfOk result (λ made. (k : ℕ) → found T.meaning made k ≡
+        within T.meaning waiting (height % 16) front.now k) }
+    ensures settled { IfOk result (λ made. made.waiting ≡ 0) }
+{
+    match front {
+        Front::Link(link) => {
+            if waiting == 0 {
+                return Ok(settled_tree(alloc, Front::Empty, height));
+            }
+            let mut made = settled(alloc, &link.older, waiting - 1, height)?;
+            made.put_in_nodes(link.key, link.value.again()?)?;
+            Ok(made)
+        }
+        Front::Nodes(root) => {
+            let nodes = Front::Nodes(Arc::try_clone(root)?);
+            Ok(settled_tree(alloc, nodes, height))
+        }
+        Front::Empty => Ok(settled_tree(alloc, Front::Empty, height)),
+    }
 }
 
 impl<T: Again> VarTree<T> {
@@ -86,7 +80,8 @@ impl<T: Again> VarTree<T> {
         ensures { (k : ℕ) → found T.meaning result k ≡ None }
     {
         VarTree {
-            root: None,
+            front: Front::Empty,
+            waiting: 0,
             height: 0,
             alloc,
         }
@@ -97,12 +92,9 @@ impl<T: Again> VarTree<T> {
         ensures { IfOk result (λ copy. (k : ℕ) → found T.meaning copy k ≡
             found T.meaning self.now k) }
     {
-        let root = match &self.root {
-            Some(root) => Some(Arc::try_clone(root)?),
-            None => None,
-        };
         Ok(VarTree {
-            root,
+            front: self.front.again()?,
+            waiting: self.waiting,
             height: self.height,
             alloc: self.alloc,
         })
@@ -112,35 +104,84 @@ impl<T: Again> VarTree<T> {
     pub fn get(&self, key: u64) -> Option<&T>
         ensures { option_map (λ value. T.meaning value.now) result ≡ found T.meaning self.now key }
     {
-        let level = self.height % 16;
-        match &self.root {
-            Some(root) => {
-                if !fits(key, level) {
-                    return None;
-                }
-                find(&**root, level, key)
-            }
-            None => None,
-        }
+        find_within(&self.front, self.waiting, self.height % 16, key)
     }
 
     // A higher root, so that a key fits.
     fn grow(&mut self, key: u64) -> Result<(), Memory>
+        requires { self.old.waiting ≡ 0 }
         ensures fits { OnOk result (key < bound (self.new.height % 16)) }
         ensures same { (k : ℕ) → found T.meaning self.new k ≡ found T.meaning self.old k }
+        ensures settled { self.new.waiting ≡ 0 }
     {
         let level = self.height % 16;
         if fits(key, level) {
             return Ok(());
         }
-        match &self.root {
-            Some(root) => {
+        match &self.front {
+            Front::Nodes(root) => {
                 let raised = raise(self.alloc, Arc::try_clone(root)?, level, key)?;
                 self.height = raised.level;
-                self.root = Some(raised.root);
+                self.front = Front::Nodes(raised.root);
             }
-            None => self.height = level_of(key, level),
+            Front::Link(_) => self.height = level_of(key, level),
+            Front::Empty => self.height = level_of(key, level),
         }
+        Ok(())
+    }
+
+    // The first nodes, with a value at a key.
+    fn begin(&mut self, key: u64, value: T) -> Result<(), Memory>
+        requires settled { self.old.waiting ≡ 0 }
+        requires fits { key < bound (self.old.height % 16) }
+        ensures ok { OnOk result ((k : ℕ) → found T.meaning self.new k ≡
+            (if eqb k key then Some (T.meaning value) else None)) }
+        ensures err { OnErr result ((k : ℕ) → found T.meaning self.new k ≡
+            found T.meaning self.old k) }
+        ensures settled { self.new.waiting ≡ 0 }
+    {
+        let node = fresh(self.alloc, self.height % 16, key, value)?;
+        self.front = Front::Nodes(Arc::new(self.alloc, node)?);
+        Ok(())
+    }
+
+    // Puts a value at a key into the nodes, where no value waits.
+    fn put_in_nodes(&mut self, key: u64, value: T) -> Result<(), Memory>
+        requires { self.old.waiting ≡ 0 }
+        ensures ok { OnOk result ((k : ℕ) → found T.meaning self.new k ≡
+            (if eqb k key then Some (T.meaning value) else found T.meaning self.old k)) }
+        ensures err { OnErr result ((k : ℕ) → found T.meaning self.new k ≡
+            found T.meaning self.old k) }
+        ensures settled { self.new.waiting ≡ 0 }
+    {
+        self.grow(key)?;
+        match &mut self.front {
+            Front::Nodes(root) => put_arc(self.alloc, root, self.height % 16, key, value),
+            Front::Link(_) => self.begin(key, value),
+            Front::Empty => self.begin(key, value),
+        }
+    }
+
+    // Puts a value at a key in front.
+    fn put_in_front(&mut self, key: u64, value: T) -> Result<(), Memory>
+        requires { self.old.waiting < 100 }
+        ensures ok { OnOk result ((k : ℕ) → found T.meaning self.new k ≡
+            (if eqb k key then Some (T.meaning value) else found T.meaning self.old k)) }
+        ensures err { OnErr result ((k : ℕ) → found T.meaning self.new k ≡
+            found T.meaning self.old k) }
+    {
+        let older = self.front.again()?;
+        self.front = Front::Link(Arc::new(self.alloc, Link { key, value, older })?);
+        self.waiting += 1;
+        Ok(())
+    }
+
+    // Puts all values that wait into the nodes.
+    fn settle(&mut self) -> Result<(), Memory>
+        ensures same { (k : ℕ) → found T.meaning self.new k ≡ found T.meaning self.old k }
+        ensures settled { OnOk result (self.new.waiting ≡ 0) }
+    {
+        *self = settled(self.alloc, &self.front, self.waiting, self.height)?;
         Ok(())
     }
 
@@ -152,16 +193,14 @@ impl<T: Again> VarTree<T> {
         ensures err { OnErr result ((k : ℕ) → found T.meaning self.new k ≡
             found T.meaning self.old k) }
     {
-        self.grow(key)?;
-        match &mut self.root {
-            Some(root) => put_arc(self.alloc, root, self.height % 16, key, value),
-            None => {
-                let height = self.height % 16;
-                let root = Arc::new(self.alloc, fresh(self.alloc, height, key, value)?)?;
-                self.root = Some(root);
-                Ok(())
-            }
+        if self.waiting >= MOST_WAITING {
+            self.settle()?;
+            return self.put_in_nodes(key, value);
         }
+        if self.waiting == 0 && !self.front.is_shared() {
+            return self.put_in_nodes(key, value);
+        }
+        self.put_in_front(key, value)
     }
 
     /// A tree with a value at a key beside this one, which stays as it was.

@@ -1,5 +1,5 @@
 use Rattle.kan_tree.proofs.Digits.{fits_at}
-use Rattle.kan_tree.proofs.var_tree.fits.Goals as goal
+use Rattle.kan_tree.proofs.heights.fits.Goals as goal
 
 pub returns-else-level-ge15 : goal.returns-else-level-ge15
 returns-else-level-ge15 c = fits_at c.args.key c.args.level

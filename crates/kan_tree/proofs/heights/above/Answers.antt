@@ -3,7 +3,7 @@ use Rattle.std.specs.Arc.{arc_value}
 use Rattle.kan_tree.specs.Nodes.{look}
 use Rattle.kan_tree.proofs.Digits.{seen_above}
 use Rattle.kan_tree.proofs.Looks.{look_up}
-use Rattle.kan_tree.proofs.var_tree.above.Goals as goal
+use Rattle.kan_tree.proofs.heights.above.Goals as goal
 
 pub returns : goal.returns
 returns g c level k =
