@@ -1,7 +1,7 @@
 //! Disequalities, solved and watched.
 
 ghost use Rattle.std.specs.Prelude.{◌≡◌, ◌↔◌, ◌<◌, ◌++◌, ◌∷◌, [], map, length, slice_get};
-ghost use Rattle.std.specs.Prelude.{IfOk, IfSome, IsSome, None, true};
+ghost use Rattle.std.specs.Prelude.{IfOk, IfSome, IsSome, IsTrue, None, true};
 ghost use Rattle.std.specs.Option.{option_map};
 ghost use Rattle.std.specs.List.{list_any};
 ghost use Rattle.kan_model.specs.Stores.Prims.{equation as pair_equation};
@@ -86,6 +86,13 @@ impl Diseqs {
         ensures { result ≡ length self.now }
     {
         self.table.count()
+    }
+
+    /// Whether no disequality was ever added. It takes no memory.
+    pub fn is_untouched(&self) -> bool
+        ensures { IsTrue result → self.now ≡ [] }
+    {
+        self.table.next == 0
     }
 
     /// The pairs of a disequality, by its place in the order of assertion. It takes no memory.

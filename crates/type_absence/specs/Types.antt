@@ -54,3 +54,8 @@ is_of Text = is_string
 -- what f puts for variables is of their types
 abbrev pub Typed : (ℕ → Gd) → Types → Type 0
 Typed f types = (v : ℕ) (kind : Kind) → types v ≡ Some kind → is_of kind (f v) ≡ true
+
+-- what was made, if it was made
+abbrev pub made_if : {A : Type 0} → Bool → A → Option A
+made_if true made = Some made
+made_if false made = None

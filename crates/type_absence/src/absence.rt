@@ -6,6 +6,7 @@ ghost use Rattle.kan_terms.specs.Terms.{tree};
 ghost use Rattle.kan_terms.specs.Tree.{Tm, occurs};
 ghost use Rattle.type_absence.specs.Absent.{GivesTag, GivesTags};
 ghost use Rattle.type_absence.specs.Seen.{tags};
+ghost use Rattle.type_absence.specs.Types.{made_if};
 ghost use Rattle.type_absence.specs.Tags.{has_any, with_tags};
 ghost use Rattle.type_absence.specs.Waiting.{names_one, put_on, Tagged};
 ghost use Rattle.unify_core.specs.Cycles.{HasNoCycle};
@@ -164,6 +165,22 @@ impl Absences {
         Ok(false)
     }
 
+    /// Puts a tag on all variables of a term; false where the tag stands in it.
+    pub fn put_on_all<B: Bindings>(
+        &mut self,
+        alloc: Global,
+        tag: u32,
+        term: &Term,
+        bindings: &B,
+    ) -> Result<bool, Memory>
+        requires { HasNoCycle (B.pairs bindings.now) }
+        ensures { IfOk result (λ fits. GivesTag (tags self.old) tag
+            (full (B.pairs bindings.now) (tree term.now)) (made_if fits (tags self.new))) }
+    {
+        let found = self.put_inside(alloc, &[tag], term, bindings)?;
+        Ok(!found)
+    }
+
     /// What `add` gives, made of these absences themselves: in place where nobody else holds them.
     pub fn add_owned<B: Bindings>(
         self,
@@ -199,6 +216,27 @@ impl Absences {
         self.again()?.add_owned(alloc, tag, term, bindings)
     }
 
+    /// Puts the tags of a variable, which was just bound, on its term; false where one of them
+    /// stands in it.
+    pub fn move_over<B: Bindings>(
+        &mut self,
+        alloc: Global,
+        var: u64,
+        term: &Term,
+        bindings: &B,
+    ) -> Result<bool, Memory>
+        requires { HasNoCycle (B.pairs bindings.now) }
+        ensures { IfOk result (λ fits. GivesTags (tags self.old) (tags self.old var)
+            (full (B.pairs bindings.now) (tree term.now)) (made_if fits (tags self.new))) }
+    {
+        let more = self.of(alloc, var)?;
+        if more.is_empty() {
+            return Ok(true);
+        }
+        let found = self.put_inside(alloc, more.items(), term, bindings)?;
+        Ok(!found)
+    }
+
     /// What `moved` gives, made of these absences themselves: in place where nobody else holds
     /// them.
     pub fn moved_owned<B: Bindings>(
@@ -212,12 +250,8 @@ impl Absences {
         ensures { IfOk result (λ made. GivesTags (tags self) (tags self var)
             (full (B.pairs bindings.now) (tree term.now)) (option_map tags made)) }
     {
-        let more = self.of(alloc, var)?;
-        if more.is_empty() {
-            return Ok(Some(self));
-        }
         let mut made = self;
-        if made.put_inside(alloc, more.items(), term, bindings)? {
+        if !made.move_over(alloc, var, term, bindings)? {
             return Ok(None);
         }
         Ok(Some(made))

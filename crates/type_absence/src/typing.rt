@@ -1,11 +1,11 @@
 //! Types of variables.
 
-ghost use Rattle.std.specs.Prelude.{◌≡◌, ℕ, Some, None, eqb, IfOk, option_map};
+ghost use Rattle.std.specs.Prelude.{◌≡◌, ℕ, Some, None, eqb, IfOk, OnOk, option_map};
 ghost use Rattle.kan_model.specs.declared.prims.Kind.{Kind};
 ghost use Rattle.kan_model.specs.Stores.Kept.{may_be};
 ghost use Rattle.kan_terms.specs.Terms.{tree};
 ghost use Rattle.type_absence.specs.Seen.{types};
-ghost use Rattle.type_absence.specs.Types.{GivesTypes, MovesTypes, may_have, no_other};
+ghost use Rattle.type_absence.specs.Types.{GivesTypes, MovesTypes, made_if, may_have, no_other};
 ghost use Rattle.type_absence.specs.Types.{same_kind, with_type};
 ghost use Rattle.unify_core.specs.Cycles.{HasNoCycle};
 ghost use Rattle.unify_core.specs.Walking.{walked};
@@ -105,19 +105,34 @@ impl Kinds {
         }
     }
 
-    // The types with that of a term that was walked to.
-    fn put(self, kind: Kind, reached: &Term) -> Result<Kinds, Memory>
-        ensures { IfOk result (λ made. (v : ℕ) → types made v ≡
-            with_type (types self) kind (tree reached.now) v) }
+    // Puts a type on a term that was walked to, if it is a variable.
+    fn put(&mut self, kind: Kind, reached: &Term) -> Result<(), Memory>
+        ensures { OnOk result ((v : ℕ) → types self.new v ≡
+            with_type (types self.old) kind (tree reached.now) v) }
     {
         match reached {
-            Term::Var(var) => {
-                let mut stored = self.stored;
-                stored.put(*var, Stored { kind })?;
-                Ok(Kinds { stored })
-            }
-            _ => Ok(self),
+            Term::Var(var) => self.stored.put(*var, Stored { kind }),
+            _ => Ok(()),
         }
+    }
+
+    /// Puts a type on what a term walks to; false where that can't have it.
+    pub fn put_on<B: Bindings>(
+        &mut self,
+        kind: Kind,
+        term: &Term,
+        bindings: &B,
+    ) -> Result<bool, Memory>
+        requires { HasNoCycle (B.pairs bindings.now) }
+        ensures { IfOk result (λ fits. GivesTypes (types self.old) kind
+            (walked (B.pairs bindings.now) (tree term.now)) (made_if fits (types self.new))) }
+    {
+        let reached = walk(term, bindings);
+        if !self.allow(kind, reached) {
+            return Ok(false);
+        }
+        self.put(kind, reached)?;
+        Ok(true)
     }
 
     /// What `add` gives, made of these types themselves: in place where nobody else holds them.
@@ -131,11 +146,11 @@ impl Kinds {
         ensures { IfOk result (λ made. GivesTypes (types self) kind
             (walked (B.pairs bindings.now) (tree term.now)) (option_map types made)) }
     {
-        let reached = walk(term, bindings);
-        if !self.allow(kind, reached) {
+        let mut made = self;
+        if !made.put_on(kind, term, bindings)? {
             return Ok(None);
         }
-        Ok(Some(self.put(kind, reached)?))
+        Ok(Some(made))
     }
 
     /// The types with that of a term, and None exactly where what the term walks to can't have it.
@@ -152,6 +167,24 @@ impl Kinds {
         self.again()?.add_owned(kind, term, bindings)
     }
 
+    /// Puts the type of a variable, which was just bound, on its term; false where that can't have
+    /// it.
+    pub fn move_over<B: Bindings>(
+        &mut self,
+        var: u64,
+        term: &Term,
+        bindings: &B,
+    ) -> Result<bool, Memory>
+        requires { HasNoCycle (B.pairs bindings.now) }
+        ensures { IfOk result (λ fits. MovesTypes (types self.old) (types self.old var)
+            (walked (B.pairs bindings.now) (tree term.now)) (made_if fits (types self.new))) }
+    {
+        match self.of(var) {
+            Some(kind) => self.put_on(kind, term, bindings),
+            None => Ok(true),
+        }
+    }
+
     /// What `moved` gives, made of these types themselves: in place where nobody else holds them.
     pub fn moved_owned<B: Bindings>(
         self,
@@ -163,10 +196,11 @@ impl Kinds {
         ensures { IfOk result (λ made. MovesTypes (types self) (types self var)
             (walked (B.pairs bindings.now) (tree term.now)) (option_map types made)) }
     {
-        match self.of(var) {
-            Some(kind) => self.add_owned(kind, term, bindings),
-            None => Ok(Some(self)),
+        let mut made = self;
+        if !made.move_over(var, term, bindings)? {
+            return Ok(None);
         }
+        Ok(Some(made))
     }
 
     /// The types where that of a variable, which was just bound, goes over to its term.

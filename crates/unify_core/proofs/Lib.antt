@@ -11,6 +11,7 @@ pub mod MeetingLaws
 pub mod NewLaws
 pub mod OccursSteps
 pub mod OneAnswer
+pub mod OneEquation
 pub mod SolutionLaws
 pub mod UnifyClauses
 pub mod UnifySteps

@@ -55,3 +55,16 @@ pub data Unifying : Pairs → List Equation → Option (List (Tm × Tm)) → Typ
       Unifying bound (e ∷ es) None
   apart : {bound : Pairs} {e : Equation} {es : List Equation} →
       met bound e ≡ Meeting.clash → Unifying bound (e ∷ es) None
+
+-- what one binding adds, or none where its variable stands in its term
+abbrev pub AddsBinding : Pairs → ℕ → Tm → Option (List (Tm × Tm)) → Type 0
+AddsBinding bound x t None = occurs x (full bound t) ≡ true
+AddsBinding bound x t (Some added) =
+    (occurs x (full bound t) ≡ false) × (added ≡ (Tree.leaf x, t) ∷ [])
+
+-- what one equation adds, by what its sides ask for
+abbrev pub Adds : Pairs → Meeting → Option (List (Tm × Tm)) → Type 0
+Adds bound Meeting.nothing added = Unifying bound [] added
+Adds bound (Meeting.binding x t) added = AddsBinding bound x t added
+Adds bound (Meeting.parts first rest) added = Unifying bound (first ∷ rest ∷ []) added
+Adds bound Meeting.clash added = added ≡ None

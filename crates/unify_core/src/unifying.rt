@@ -10,11 +10,12 @@ ghost use Rattle.unify_core.specs.Cycles.{HasNoCycle};
 ghost use Rattle.unify_core.specs.Lent.{Binds, Parts, StepTo, equation_of, lent_sides};
 ghost use Rattle.unify_core.specs.Lent.{waiting_equations, with_lent};
 ghost use Rattle.unify_core.specs.Solutions.{AddedTo, IsSolution, bindings_solved, equation};
-ghost use Rattle.unify_core.specs.Unifying.{Unifying, met, same_atoms, taken_apart};
+ghost use Rattle.unify_core.specs.Unifying.{Adds, AddsBinding, Unifying, meeting, met};
+ghost use Rattle.unify_core.specs.Unifying.{same_atoms, taken_apart};
 ghost use Rattle.unify_core.specs.Walking.{Pairs};
 
 use crate::occurring::{is_inside, is_variable};
-use crate::walking::{Lent, walk_on};
+use crate::walking::{Lent, walk, walk_on};
 use kan_terms::{Bindings, Memory, Term, TermPair, TermPairs};
 use std::alloc::Global;
 
@@ -204,6 +205,78 @@ pub fn would_add<B: Bindings>(
     }
 }
 
+// What a binding adds, unless its variable stands in the term.
+fn added_binding<B: Bindings>(
+    alloc: Global,
+    var: u64,
+    term: &Term,
+    bindings: &B,
+) -> Result<Option<TermPairs>, Memory>
+    requires { HasNoCycle (B.pairs bindings.now) }
+    ensures { IfOk result
+        (λ found. AddsBinding (B.pairs bindings.now) var (tree term.now)
+        (option_map (λ made. map sides made) found)) }
+{
+    if is_inside(alloc, var, term, bindings, &[])? {
+        return Ok(None);
+    }
+    let pair = TermPair {
+        first: Term::Var(var),
+        rest: term.again()?,
+    };
+    let mut made = TermPairs::new(alloc);
+    match made.push(pair) {
+        Ok(()) => Ok(Some(made)),
+        Err(_) => Err(Memory),
+    }
+}
+
+// What two terms add that were walked to and are no variables.
+fn added_apart<B: Bindings>(
+    alloc: Global,
+    left: &Term,
+    right: &Term,
+    bindings: &B,
+) -> Result<Option<TermPairs>, Memory>
+    requires { HasNoCycle (B.pairs bindings.now) }
+    ensures { IfOk result
+        (λ found. Adds (B.pairs bindings.now) (taken_apart (tree left.now) (tree right.now))
+        (option_map (λ made. map sides made) found)) }
+{
+    let mut waiting = Vec::new(alloc);
+    if !take_apart(left, right, &mut waiting)? {
+        return Ok(None);
+    }
+    match lend_bindings(alloc, &mut waiting, bindings)? {
+        None => Ok(None),
+        Some(lent) => Ok(Some(owned(alloc, &lent)?)),
+    }
+}
+
+// What two terms add that were walked to. Only pairs need a stack.
+fn added_by_ends<B: Bindings>(
+    alloc: Global,
+    left: &Term,
+    right: &Term,
+    bindings: &B,
+) -> Result<Option<TermPairs>, Memory>
+    requires { HasNoCycle (B.pairs bindings.now) }
+    ensures { IfOk result
+        (λ found. Adds (B.pairs bindings.now) (meeting (tree left.now) (tree right.now))
+        (option_map (λ made. map sides made) found)) }
+{
+    if let Term::Var(var) = left {
+        if is_variable(right, *var) {
+            return Ok(Some(TermPairs::new(alloc)));
+        }
+        return added_binding(alloc, *var, right, bindings);
+    }
+    if let Term::Var(var) = right {
+        return added_binding(alloc, *var, left, bindings);
+    }
+    added_apart(alloc, left, right, bindings)
+}
+
 // What unification of two terms would add to bindings.
 fn added_by<B: Bindings>(
     alloc: Global,
@@ -216,12 +289,9 @@ fn added_by<B: Bindings>(
         (λ found. Unifying (B.pairs bindings.now) (equation (tree left.now) (tree right.now) ∷ [])
         (option_map (λ made. map sides made) found)) }
 {
-    let mut waiting = Vec::new(alloc);
-    waiting.push(Sides { left, right })?;
-    match lend_bindings(alloc, &mut waiting, bindings)? {
-        None => Ok(None),
-        Some(lent) => Ok(Some(owned(alloc, &lent)?)),
-    }
+    let left_end = walk(left, bindings);
+    let right_end = walk(right, bindings);
+    added_by_ends(alloc, left_end, right_end, bindings)
 }
 
 // Binds what unification added, one after the other.

@@ -1,0 +1,12 @@
+use Rattle.std.proofs.Common.{map, option_map}
+use Rattle.std.proofs.lemmas.Result.{IfOk-weaker}
+use Rattle.kan_terms.specs.Terms.{sides, tree}
+use Rattle.unify_core.specs.Solutions.{equation}
+use Rattle.unify_core.proofs.OneEquation.{adds_alone}
+use Rattle.unify_core.proofs.unifying.added_by.Goals as goal
+
+pub returns : goal.returns
+returns g c =
+    IfOk-weaker c.added_by_ends.result _ _
+    (λ found adds. adds_alone (g.B.Bindings.pairs c.args.bindings.now) (equation (tree c.args.left.now) (tree c.args.right.now)) (option_map (λ made. map sides made) found)
+    (rw (← c.walk-left_end.ensures, ← c.walk-right_end.ensures) adds)) c.added_by_ends.ensures
