@@ -78,7 +78,7 @@ no_items : (ds : List Datum) → length ds ≡ 0 → ds ≡ []
 no_items [] h = refl
 no_items (d ∷ ds) h = absurd (omega arith)
 
-within_last : (names : Table) (items : Bor (List Datum)) (d : Bor Datum) (last : Option (Bor Datum)) → length items.now ≡ 0 → last ≡ Some d → within names items last ≡ dotted 0 (written names d.now) 0
+pub within_last : (names : Table) (items : Bor (List Datum)) (d : Bor Datum) (last : Option (Bor Datum)) → length items.now ≡ 0 → last ≡ Some d → within names items last ≡ dotted 0 (written names d.now) 0
 within_last names items d last h e =
     ap (λ ds. inner_of (map (written names) ds) (option_map (written names) (option_copied last))) (no_items items.now h) ∙ ap (λ (l : Option (Bor Datum)). inner_of [] (option_map (written names) (option_copied l))) e
 

@@ -8,5 +8,6 @@ pub mod FlatteningLaws
 pub mod FlatHeightLaws
 pub mod DataPlaces
 pub mod HeightLaws
+pub mod SizeLaws
 pub mod DefinedLaws
 pub mod PrefixLaws

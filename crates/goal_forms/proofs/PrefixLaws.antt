@@ -1,7 +1,7 @@
 -- The numbers of the symbols that prefixes stand for.
-use Rattle.std.proofs.Common.{◌≡◌, ◌≤◌, ℕ, List, length, sym, ◌∙◌, ap, arith, Some}
+use Rattle.std.proofs.Common.{◌≡◌, ℕ, List, length, ◌∙◌, ap, arith, Some}
 use Rattle.std.specs.Prelude.{unwrap_or}
-use Rattle.kan_terms.specs.Table.{Table, number_of, interned, with_symbol}
+use Rattle.kan_terms.specs.Table.{Table, number_of, with_symbol}
 use Rattle.kan_terms.proofs.TableLaws.{number_of-interned}
 use Rattle.kan_grammar.specs.Data.Printed.{prefix_name}
 use Rattle.kan_grammar.specs.Data.Words.{quote, quasiquote, unquote}

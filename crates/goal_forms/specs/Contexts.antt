@@ -1,12 +1,11 @@
 -- What stands in the context of a text.
 use Rattle.std.specs.Prelude.{ℕ, List, map}
-use Rattle.kan_terms.specs.Table.{Table}
 use Rattle.kan_grammar.specs.Texts.Sited.{Sited}
 use Rattle.kan_grammar.specs.Texts.TermForms.{TermForm, term_form}
-use Rattle.kan_grammar.specs.Texts.GoalForms.{GoalForms, goal_form, goal_forms, GoalForm}
+use Rattle.kan_grammar.specs.Texts.GoalForms.{GoalForms, goal_forms}
 use Rattle.kan_grammar.specs.Texts.GoalForms.{term_forms}
 use Rattle.kan_grammar.specs.Texts.Binders.{Checked, binder}
-use Rattle.kan_grammar.specs.Texts.TopForms.{Defined, Form, form, head}
+use Rattle.kan_grammar.specs.Texts.TopForms.{Defined, Form, head}
 use Rattle.goal_forms.specs.Parts.{sites, site_at}
 use Rattle.goal_forms.specs.RelationTables.{relations}
 use Rattle.goal_forms.specs.FormSteps.{step_top}

@@ -11,4 +11,5 @@ pub mod Places
 pub mod Flattening
 pub mod FlatHeights
 pub mod Heights
+pub mod Sizes
 pub mod Contexts

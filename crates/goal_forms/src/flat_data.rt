@@ -65,17 +65,16 @@ impl FlatData {
         }
     }
 
-    /// Adds a part, and gives its place. A full table has no memory left.
+    /// Adds a part, and gives its place.
     pub fn push(&mut self, node: FlatPart) -> Result<u32, Memory>
-        requires { IsTrue (is_grown (length (sites self.old)) node) }
+        requires there { IsTrue (is_grown (length (sites self.old)) node) }
+        requires room { length (sites self.old) < 2 ^ 32 }
         ensures added { OnOk result
             (sites self.new ≡ sites self.old ++ node_site (sites self.old) node ∷ []) }
         ensures place { IfOk result (λ place. place ≡ length (sites self.old)) }
         ensures unchanged { OnErr result (sites self.new ≡ sites self.old) }
     {
-        let Ok(place) = u32::try_from(self.rows.len()) else {
-            return Err(Memory);
-        };
+        let place = self.rows.len() as u32;
         self.rows.push(node)?;
         Ok(place)
     }

@@ -1,6 +1,7 @@
 //! Data turned into a table of their parts.
 
-ghost use Rattle.std.specs.Prelude.{◌≡◌, ◌+◌, ◌<◌, ◌++◌, ◌∷◌, [], length, reverse, List, ℕ, true};
+ghost use Rattle.std.specs.Prelude.{◌≡◌, ◌+◌, ◌<◌, ◌≤◌, ◌^◌, ◌++◌, ◌∷◌, [], length, reverse, List};
+ghost use Rattle.std.specs.Prelude.{ℕ, true};
 ghost use Rattle.std.specs.Prelude.{IfOk, OnOk, map};
 ghost use Rattle.kan_grammar.specs.Data.Printed.{prefix_name};
 ghost use Rattle.kan_grammar.specs.Texts.Sited.{Sited, with_sites, atom_with_site, symbol_number};
@@ -14,6 +15,8 @@ ghost use Rattle.goal_forms.specs.Heights.{AreLow, is_low_datum};
 ghost use Rattle.goal_forms.specs.PartRows.{is_there};
 ghost use Rattle.goal_forms.specs.FlatHeights.{WorksLow};
 ghost use Rattle.goal_forms.specs.Flattening.{AreNumbered, finish, meaning, work_size, works_size};
+ghost use Rattle.goal_forms.specs.Sizes.{parts_in, work_parts, works_parts};
+ghost use Rattle.goal_forms.specs.TermSteps.{site_size};
 ghost use Rattle.goal_forms.specs.declared.flatten.Work.TheVariants as works_of;
 ghost use Rattle.std.specs.Option.{option_copied};
 ghost use Rattle.goal_forms.specs.Places.{are_below, kept, joined, prefixed_last};
@@ -41,6 +44,7 @@ pub enum Work<'a> {
 // Adds a part to the table, and its place to those that were made.
 fn put(at: u32, part: Part, table: &mut FlatData, places: &mut Vec<u32>) -> Result<(), Memory>
     requires there { is_there (length (sites table.old)) part ≡ true }
+    requires room { length (sites table.old) < 2 ^ 32 }
     ensures table { OnOk result
         (sites table.new ≡ sites table.old ++ part_site (sites table.old) at part ∷ []) }
     ensures places { OnOk result
@@ -77,7 +81,8 @@ fn text_part(names: &Names, text: u32) -> Part
 
 // Makes the pair of the two parts that were made last.
 fn join(at: u32, table: &mut FlatData, places: &mut Vec<u32>) -> Result<(), Memory>
-    requires { are_below (length (sites table.old)) places.old.items ≡ true }
+    requires room { length (sites table.old) < 2 ^ 32 }
+    requires below { are_below (length (sites table.old)) places.old.items ≡ true }
     ensures made { OnOk result
         (kept (sites table.new) places.new.items
         ≡ joined at (kept (sites table.old) places.old.items)) }
@@ -85,6 +90,7 @@ fn join(at: u32, table: &mut FlatData, places: &mut Vec<u32>) -> Result<(), Memo
     ensures low { OnOk result
         (list_all is_low_datum (joined at (kept (sites table.old) places.old.items))
         ≡ true → AreLow (sites table.old) → AreLow (sites table.new)) }
+    ensures parts { OnOk result (length (sites table.new) ≤ length (sites table.old) + 1) }
 {
     let Some(rest) = places.pop() else {
         return Ok(());
@@ -98,7 +104,8 @@ fn join(at: u32, table: &mut FlatData, places: &mut Vec<u32>) -> Result<(), Memo
 
 // Makes the list of a symbol and the part that was made last.
 fn prefix(at: u32, symbol: u32, table: &mut FlatData, places: &mut Vec<u32>) -> Result<(), Memory>
-    requires { are_below (length (sites table.old)) places.old.items ≡ true }
+    requires room { length (sites table.old) + 4 ≤ 2 ^ 32 }
+    requires below { are_below (length (sites table.old)) places.old.items ≡ true }
     ensures made { OnOk result
         (kept (sites table.new) places.new.items
         ≡ prefixed_last at symbol (kept (sites table.old) places.old.items)) }
@@ -106,6 +113,7 @@ fn prefix(at: u32, symbol: u32, table: &mut FlatData, places: &mut Vec<u32>) -> 
     ensures low { OnOk result
         (list_all is_low_datum (prefixed_last at symbol (kept (sites table.old) places.old.items))
         ≡ true → AreLow (sites table.old) → AreLow (sites table.new)) }
+    ensures parts { OnOk result (length (sites table.new) ≤ length (sites table.old) + 4) }
 {
     let Some(datum) = places.pop() else {
         return Ok(());
@@ -122,6 +130,7 @@ fn prefix(at: u32, symbol: u32, table: &mut FlatData, places: &mut Vec<u32>) -> 
 fn make(at: u32, part: Part, table: &mut FlatData, places: &mut Vec<u32>) -> Result<(), Memory>
     requires there { is_there (length (sites table.old)) part ≡ true }
     requires below { are_below (length (sites table.old)) places.old.items ≡ true }
+    requires room { length (sites table.old) < 2 ^ 32 }
     ensures made { OnOk result
         (kept (sites table.new) places.new.items
         ≡ part_site (sites table.old) at part ∷ kept (sites table.old) places.old.items) }
@@ -129,6 +138,7 @@ fn make(at: u32, part: Part, table: &mut FlatData, places: &mut Vec<u32>) -> Res
     ensures low { OnOk result
         (is_low_datum (part_site (sites table.old) at part)
         ≡ true → AreLow (sites table.old) → AreLow (sites table.new)) }
+    ensures parts { OnOk result (length (sites table.new) ≤ length (sites table.old) + 1) }
 {
     put(at, part, table, places)?;
     Ok(())
@@ -167,6 +177,7 @@ fn turn_datum<'a>(
 ) -> Result<(), Memory>
     requires numbered { AreNumbered names.now prefixes.now }
     requires below { are_below (length (sites table.old)) places.old.items ≡ true }
+    requires room { length (sites table.old) + work_parts names.now (works_of.Datum datum) ≤ 2 ^ 32 }
     ensures made { OnOk result
         (finish names.now (reverse works.new.items) (kept (sites table.new) places.new.items)
         ≡ finish names.now (works_of.Datum datum.entry ∷ reverse works.old.items)
@@ -179,6 +190,10 @@ fn turn_datum<'a>(
     ensures falls { OnOk result
         (works_size names.now works.new.items
         < work_size names.now (works_of.Datum datum.entry) + works_size names.now works.old.items) }
+    ensures parts { OnOk result
+        (length (sites table.new) + works_parts names.now works.new.items
+        ≤ length (sites table.old)
+        + (work_parts names.now (works_of.Datum datum.entry) + works_parts names.now works.old.items)) }
 {
     match &datum.kind {
         DatumKind::Symbol(symbol) => make(datum.at, symbol_part(names, *symbol), table, places)?,
@@ -208,7 +223,8 @@ fn turn_rest<'a>(
     places: &mut Vec<u32>,
     works: &mut Vec<Work<'a>>,
 ) -> Result<(), Memory>
-    requires { are_below (length (sites table.old)) places.old.items ≡ true }
+    requires below { are_below (length (sites table.old)) places.old.items ≡ true }
+    requires room { length (sites table.old) + work_parts names.now (works_of.Rest items last at) ≤ 2 ^ 32 }
     ensures made { OnOk result
         (finish names.now (reverse works.new.items) (kept (sites table.new) places.new.items)
         ≡ finish names.now (works_of.Rest items.entry last.entry at ∷ reverse works.old.items)
@@ -222,6 +238,10 @@ fn turn_rest<'a>(
         (works_size names.now works.new.items
         < work_size names.now
         (works_of.Rest items.entry last.entry at) + works_size names.now works.old.items) }
+    ensures parts { OnOk result
+        (length (sites table.new) + works_parts names.now works.new.items
+        ≤ length (sites table.old)
+        + (work_parts names.now (works_of.Rest items.entry last.entry at) + works_parts names.now works.old.items)) }
 {
     if let Some((first, rest)) = items.split_first() {
         works.push(Work::Pair(at))?;
@@ -247,6 +267,7 @@ fn turn_work<'a>(
 ) -> Result<(), Memory>
     requires numbered { AreNumbered names.now prefixes.now }
     requires below { are_below (length (sites table.old)) places.old.items ≡ true }
+    requires room { length (sites table.old) + work_parts names.now work ≤ 2 ^ 32 }
     ensures made { OnOk result
         (finish names.now (reverse works.new.items) (kept (sites table.new) places.new.items)
         ≡ finish names.now (work.entry ∷ reverse works.old.items)
@@ -259,6 +280,10 @@ fn turn_work<'a>(
     ensures falls { OnOk result
         (works_size names.now works.new.items
         < work_size names.now work.entry + works_size names.now works.old.items) }
+    ensures parts { OnOk result
+        (length (sites table.new) + works_parts names.now works.new.items
+        ≤ length (sites table.old)
+        + (work_parts names.now work.entry + works_parts names.now works.old.items)) }
 {
     match work {
         Work::Datum(datum) => turn_datum(datum, names, prefixes, table, places, works)?,
@@ -280,6 +305,8 @@ fn turn_one(
 ) -> Result<(), Memory>
     requires numbered { AreNumbered names.now prefixes.now }
     requires below { are_below (length (sites table.old)) places.old.items ≡ true }
+    requires room { length (sites table.old) + site_size (meaning names.now datum.now)
+        ≤ 2 ^ 32 }
     ensures made { OnOk result (kept (sites table.new) places.new.items
         ≡ with_sites names.now (written names.now datum.now)
         ∷ kept (sites table.old) places.old.items) }
@@ -288,6 +315,8 @@ fn turn_one(
         (is_low_datum (with_sites names.now (written names.now datum.now))
         ≡ true → list_all is_low_datum (kept (sites table.old) places.old.items)
         ≡ true → AreLow (sites table.old) → AreLow (sites table.new)) }
+    ensures parts { OnOk result (length (sites table.new)
+        ≤ length (sites table.old) + site_size (meaning names.now datum.now)) }
 {
     let mut works = Vec::new(alloc);
     works.push(Work::Datum(datum))?;
@@ -308,6 +337,8 @@ fn turn(
 ) -> Result<(), Memory>
     requires numbered { AreNumbered names.now prefixes.now }
     requires below { are_below (length (sites table.old)) places.old.items ≡ true }
+    requires room { length (sites table.old) + parts_in (map (meaning names.now) forms.now)
+        ≤ 2 ^ 32 }
     ensures made { OnOk result (kept (sites table.new) places.new.items
         ≡ reverse (map (meaning names.now) forms.now) ++ kept (sites table.old) places.old.items) }
     ensures below { OnOk result (are_below (length (sites table.new)) places.new.items ≡ true) }
@@ -315,6 +346,8 @@ fn turn(
         (AreLow (map (meaning names.now) forms.now) →
         list_all is_low_datum (kept (sites table.old) places.old.items)
         ≡ true → AreLow (sites table.old) → AreLow (sites table.new)) }
+    ensures parts { OnOk result (length (sites table.new)
+        ≤ length (sites table.old) + parts_in (map (meaning names.now) forms.now)) }
 {
     for datum in forms {
         turn_one(alloc, datum, names, prefixes, table, places)?;
@@ -332,7 +365,9 @@ pub fn turn_both(
     prefixes: &Prefixes,
     table: &mut FlatData,
 ) -> Result<Vec<u32>, Memory>
-    requires { AreNumbered names.now prefixes.now }
+    requires numbered { AreNumbered names.now prefixes.now }
+    requires room { length (sites table.old) + (parts_in (map (meaning names.now) library.now)
+        + parts_in (map (meaning names.now) text.now)) ≤ 2 ^ 32 }
     ensures made { IfOk result
         (λ places. map (site_at (sites table.new)) places.items
         ≡ map (meaning names.now) library.now ++ map (meaning names.now) text.now) }

@@ -1,4 +1,6 @@
 use Rattle.goal_forms.proofs.FlatteningLaws.{list_falls, prefixed_falls, prefixed_finish}
+use Rattle.std.proofs.Common.{arith}
+use Rattle.goal_forms.proofs.SizeLaws.{list_parts, prefixed_parts}
 use Rattle.goal_forms.proofs.FlatHeightLaws.{list_low, prefixed_low}
 use Rattle.goal_forms.proofs.flatten.turn_datum.Goals as goal
 
@@ -24,3 +26,12 @@ pub returns-in_ok-push-in-Prefixed-2-clause-low : goal.returns-in_ok-push-in-Pre
 returns-in_ok-push-in-Prefixed-2-clause-low c = λ low.
     prefixed_low c.args.names.now c.args.datum.now c.in-Prefixed.prefix c.in-Prefixed.inner c.get.result _ c.args.works.now.items _ c.push-in-Prefixed-2.new.self.items _ _
     c.in-Prefixed.is c.get.ensures (c.prefix_symbol.ensures c.args.names.now c.requires.numbered) c.in_ok-push-in-Prefixed.ensures.items c.in_ok-push-in-Prefixed-2.ensures.items low.left low.there
+
+pub returns-in_ok-push-in-List-clause-parts : goal.returns-in_ok-push-in-List-clause-parts
+returns-in_ok-push-in-List-clause-parts c =
+    let same = list_parts c.args.names.now c.args.datum.now c.in-List.items c.in-List.last c.as_slice.result c.lent.result c.args.works.now.items _ c.in-List.is c.as_slice.ensures c.lent.ensures c.in_ok-push-in-List.ensures.items in omega (arith, same)
+
+pub returns-in_ok-push-in-Prefixed-2-clause-parts : goal.returns-in_ok-push-in-Prefixed-2-clause-parts
+returns-in_ok-push-in-Prefixed-2-clause-parts c =
+    let fewer = prefixed_parts c.args.names.now c.args.datum.now c.in-Prefixed.prefix c.in-Prefixed.inner c.get.result _ _ c.args.works.now.items _ c.push-in-Prefixed-2.new.self.items
+    c.in-Prefixed.is c.get.ensures c.in_ok-push-in-Prefixed.ensures.items c.in_ok-push-in-Prefixed-2.ensures.items in omega (arith, fewer)
