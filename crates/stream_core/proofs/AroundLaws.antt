@@ -28,7 +28,7 @@ use Rattle.stream_core.proofs.StackLaws.{stack-pop}
 use Rattle.stream_core.proofs.StreamLaws.{Each-front, heads-going}
 
 -- what stands inside a suspension that may be forced may be forced
-within-may : (p : Program) (a : outer.Around) (i : model.Thunk) → MayForce p (within a i) → MayForce p i
+pub within-may : (p : Program) (a : outer.Around) (i : model.Thunk) → MayForce p (within a i) → MayForce p i
 within-may p (outer.Around.swap t) i may = swap-inner p t i may
 within-may p (outer.Around.bind g env) i may = bind-inner p g env i may
 
@@ -84,12 +84,12 @@ module _ {I St : Type 0} (t : Table I) (means : St → facts.Store) where
       subst (λ x. IsForce t means x s) same made.force
 
 module _ {I St : Type 0} (t u : Table I) (means : St → facts.Store) (grew : OnlyAdds t u) where
-  around-stays : (a : Around I St) → HasAround t a → around_in u means a ≡ around_in t means a
+  pub around-stays : (a : Around I St) → HasAround t a → around_in u means a ≡ around_in t means a
   around-stays (Swap heads None) there = refl
   around-stays (Swap heads (Some id)) there = ap (λ x. outer.Around.swap (going_on (map means heads) (Some x))) (grew.ids id there).1
   around-stays (Bind g env) there = ap (λ q. outer.Around.bind (goal_in q g) (terms_of env)) grew.program
 
-  has-stays : (a : Around I St) → HasAround t a → HasAround u a
+  pub has-stays : (a : Around I St) → HasAround t a → HasAround u a
   has-stays (Swap heads None) there = tt
   has-stays (Swap heads (Some id)) there = (grew.ids id there).0
   has-stays (Bind g env) there = tt
@@ -118,3 +118,21 @@ module _ {I St : Type 0} (t u : Table I) (means : St → facts.Store) (grew : On
       within-begins whole (within (around_in t means a) inside.tree) rest made (Each-front (HasAround t) xs rest a split has).0
       (sym (more-around t means xs rest a inside.tree split) ∙ inside.is) belong
       (built ∙ ap (made_within (around_in t means a)) inside.force.1 ∙ made-force t.program (around_in t means a) inside.tree)
+
+module _ {I St : Type 0} (t u : Table I) (means : St → facts.Store) (grew : OnlyAdds t u) where
+  -- what was opened stands around the force of what was inside it
+  pub opened-inside : (a : Around I St) (i whole : model.Thunk) (s : Stream I St) → HasAround t a → within (around_in t means a) i ≡ whole → MayForce t.program whole → IsForce u means i s → IsInside u means a s
+  opened-inside a i whole s has is may made = record {
+    tree = i;
+    may = subst (λ q. MayForce q (within (around_in u means a) i)) (sym grew.program) (subst (λ b. MayForce t.program (within b i)) (sym (around-stays t u means grew a has)) (subst (MayForce t.program) (sym is) may));
+    force = made;
+  }
+
+  -- what it makes of that is the force of the whole
+  pub opened-force : (v : Table I) (a : Around I St) (i whole : model.Thunk) (s made : Stream I St) → OnlyAdds u v → HasAround t a → within (around_in t means a) i ≡ whole → IsForce u means i s → HasStream v made →
+      stream_in v means made ≡ made_within (around_in u means a) (stream_in u means s) → IsForce v means whole made
+  opened-force v a i whole s made more has is inside belong built = (
+    belong,
+    built ∙ ap (λ b. made_within b (stream_in u means s)) (around-stays t u means grew a has) ∙ ap (made_within (around_in t means a)) inside.1
+        ∙ made-force u.program (around_in t means a) i ∙ ap (force u.program) is ∙ ap (λ q. force q whole) (sym more.program),
+  )

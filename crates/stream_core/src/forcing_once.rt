@@ -22,6 +22,9 @@ use kan_model::{Program, Store};
 use kan_terms::Memory;
 use std::alloc::Global;
 
+// How many suspensions inside one another are opened without a stack.
+const SHALLOW: u32 = 64;
+
 // The suspension of an id that is given up. It is copied where others have the id too.
 fn open<N: Nodes<St>, St: Store>(
     alloc: Global,
@@ -110,6 +113,68 @@ fn close<N: Nodes<St>, St: Store>(
     }
 }
 
+// The force of a suspension, by a stack of what stands around the one that has none inside.
+fn force_deep<N: Nodes<St>, St: Store>(
+    alloc: Global,
+    program: &Program,
+    id: N::Id,
+    nodes: &mut N,
+) -> Result<Stream<N::Id, St>, Memory>
+    requires table { IsTableOf program.now (N.table nodes.old) }
+    requires belongs { (N.table nodes.old).belongs id }
+    requires room { top ((N.table nodes.old).tree id) ≤ 2 ^ 62 }
+    ensures force { IfOk result (IsForce (N.table nodes.new) St.meaning
+        ((N.table nodes.old).tree id)) }
+    ensures adds { OnlyAdds (N.table nodes.old) (N.table nodes.new) }
+{
+    let opened = open_all(alloc, nodes, id)?;
+    let Opened { mut around, last } = opened;
+    let mut stream = expand(alloc, program, last, nodes)?;
+    while let Some(next) = around.pop() {
+        stream = close(alloc, program, next, stream, nodes)?;
+    }
+    Ok(stream)
+}
+
+// The force of a suspension, without a stack as far as so many are inside one another.
+fn force_shallow<N: Nodes<St>, St: Store>(
+    alloc: Global,
+    program: &Program,
+    id: N::Id,
+    depth: u32,
+    nodes: &mut N,
+) -> Result<Stream<N::Id, St>, Memory>
+    requires table { IsTableOf program.now (N.table nodes.old) }
+    requires belongs { (N.table nodes.old).belongs id }
+    requires room { top ((N.table nodes.old).tree id) ≤ 2 ^ 62 }
+    ensures force { IfOk result (IsForce (N.table nodes.new) St.meaning
+        ((N.table nodes.old).tree id)) }
+    ensures adds { OnlyAdds (N.table nodes.old) (N.table nodes.new) }
+{
+    if depth == 0 {
+        let made = force_deep(alloc, program, id, nodes)?;
+        return Ok(made);
+    }
+    let thunk = open(alloc, nodes, id)?;
+    match thunk {
+        Thunk::Swap { heads, tail, inner } => {
+            let inside = force_shallow(alloc, program, inner, depth - 1, nodes)?;
+            let waiting = Stream { heads, tail };
+            let made = append(alloc, waiting, inside, nodes)?;
+            Ok(made)
+        }
+        Thunk::Bind { goal, env, inner } => {
+            let inside = force_shallow(alloc, program, inner, depth - 1, nodes)?;
+            let made = bind_later(alloc, program, goal, env, inside, nodes)?;
+            Ok(made)
+        }
+        last => {
+            let made = expand(alloc, program, last, nodes)?;
+            Ok(made)
+        }
+    }
+}
+
 /// The force of a suspension whose id is given up: one call or pause is expanded. No stream is
 /// kept, and nothing is copied but what others have too.
 pub fn force_once<N: Nodes<St>, St: Store>(
@@ -128,11 +193,6 @@ pub fn force_once<N: Nodes<St>, St: Store>(
         (stream_in (N.table nodes.new) St.meaning made)) }
     ensures grows { Grows (N.table nodes.old) (N.table nodes.new) }
 {
-    let opened = open_all(alloc, nodes, id)?;
-    let Opened { mut around, last } = opened;
-    let mut stream = expand(alloc, program, last, nodes)?;
-    while let Some(next) = around.pop() {
-        stream = close(alloc, program, next, stream, nodes)?;
-    }
-    Ok(stream)
+    let made = force_shallow(alloc, program, id, SHALLOW, nodes)?;
+    Ok(made)
 }

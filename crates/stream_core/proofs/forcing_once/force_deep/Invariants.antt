@@ -2,7 +2,7 @@ use Rattle.std.proofs.Common.{length}
 use Rattle.stream_core.specs.CodeSurroundings.{HasAround, IsForceWithin}
 use Rattle.stream_core.specs.Tables.{IsTableOf, OnlyAdds}
 use Rattle.stream_core.specs.Tasks.{Each}
-use Rattle.stream_core.proofs.forcing_once.force_once.Given as goal
+use Rattle.stream_core.proofs.forcing_once.force_deep.Given as goal
 
 -- the stream is the force of what stands inside what is left of the whole suspension
 abbrev pub invariant-loop-next : goal.invariant-loop-next
