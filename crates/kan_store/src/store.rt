@@ -70,19 +70,6 @@ fn copied_with<B: Bindings>(held: &Held<B>, counter: u64) -> Result<Held<B>, Mem
     })
 }
 
-// Copies what is behind a pointer, unless the pointer is its only owner.
-fn own<B: Bindings>(alloc: Global, held: &mut Arc<Held<B>>) -> Result<(), Memory>
-    ensures same { OnOk result (SameParts (parts_of B.pairs (arc_value held.old).solved)
-        (parts_of B.pairs (arc_value held.new).solved)) }
-    ensures store { OnOk result (store_of (arc_value held.new) ≡ store_of (arc_value held.old)) }
-{
-    if Arc::strong_count(held) != 1 {
-        let copy = copied_with(&**held, held.counter)?;
-        *held = Arc::new(alloc, copy)?;
-    }
-    Ok(())
-}
-
 // Adds a primitive to what is held; false where it can't be kept with those before.
 fn add_held<B: Bindings>(alloc: Global, held: &mut Held<B>, prim: &Asserted) -> Result<bool, Memory>
     requires no_cycle { HasNoCycle (parts_of B.pairs held.old.solved).bound }
@@ -115,10 +102,14 @@ fn add_behind<B: Bindings>(
     ensures store { OnOk result (store_of (arc_value held.new) ≡
         with_prim (store_of (arc_value held.old)) (primitive prim.now)) }
 {
-    own(alloc, held)?;
     match Arc::get_mut(held) {
         Some(own) => add_held(alloc, own, prim),
-        None => Err(Memory),
+        None => {
+            let mut copy = copied_with(&**held, held.counter)?;
+            let fits = add_held(alloc, &mut copy, prim)?;
+            *held = Arc::new(alloc, copy)?;
+            Ok(fits)
+        }
     }
 }
 
@@ -134,14 +125,11 @@ fn count_behind<B: Bindings>(
         ((arc_value held.new).history.prims ≡ (arc_value held.old).history.prims) }
     ensures counter { OnOk result ((arc_value held.new).counter ≡ counter) }
 {
-    own(alloc, held)?;
     match Arc::get_mut(held) {
-        Some(own) => {
-            own.counter = counter;
-            Ok(())
-        }
-        None => Err(Memory),
+        Some(own) => own.counter = counter,
+        None => *held = Arc::new(alloc, copied_with(&**held, counter)?)?,
     }
+    Ok(())
 }
 
 // Adds what was found, if anything was, at the end of a list.
