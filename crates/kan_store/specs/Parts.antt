@@ -29,8 +29,8 @@ pub record Parts : Type 0 where
 abbrev pub AreInStep : Parts → Store → Type 0
 AreInStep parts st = InStep parts.bound parts.types parts.tags parts.lists st
 
--- what a call makes: nothing where the store isn't kept, and else parts that are known to be in step
--- with it
+-- what a call makes: nothing where the store isn't kept, and else parts that are known to be in
+-- step with it
 abbrev pub KnownToMake : Store → Option Parts → Type 0
 KnownToMake st None = is_kept st ≡ false
 KnownToMake st (Some parts) = ∥ AreInStep parts st ∥₁
