@@ -1,5 +1,7 @@
 -- The tables of a program, as they are built.
 pub mod TableLaws
+pub mod EntryLaws
+pub mod FormEntryLaws
 pub mod TermsLeftLaws
 pub mod TermHeightLaws
 pub mod GoalsBuiltLaws

@@ -1,5 +1,6 @@
 -- The tables of a program, as they are built.
 pub mod GrownTables
+pub mod Entries
 pub mod TermsLeft
 pub mod TermHeights
 pub mod GoalsBuilt

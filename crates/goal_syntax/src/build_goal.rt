@@ -2,7 +2,7 @@
 
 ghost use Rattle.goal_syntax.specs.Building.InContext.{list_goal, goal_alone, made_after};
 ghost use Rattle.goal_syntax.specs.Building.InContext.{KeepsLowIn};
-ghost use Rattle.std.specs.Prelude.{List, ◌≡◌, ◌&&◌, ◌<◌, ◌≤◌, ◌+◌, ◌∷◌, ◌++◌, [], length, reverse};
+ghost use Rattle.std.specs.Prelude.{List, ◌≡◌, ◌&&◌, ◌<◌, ◌≤◌, ◌+◌, ◌^◌, ◌∷◌, ◌++◌, [], length, reverse};
 ghost use Rattle.std.specs.Prelude.{true, IfOk, OnOk};
 ghost use Rattle.kan_grammar.specs.Texts.GoalForms.{goal_forms};
 ghost use Rattle.kan_grammar.specs.Texts.Resolved.{Names, within};
@@ -11,10 +11,12 @@ ghost use Rattle.goal_forms.specs.Contexts.{data_of, datum_at, binder_at};
 ghost use Rattle.kan_model.specs.Programs.Tables.{RelationEntry};
 ghost use Rattle.goal_syntax.specs.Building.CallsThere.{are_there, calls_named};
 ghost use Rattle.goal_syntax.specs.Building.GoalsBuilt.{built, with_maybe};
-ghost use Rattle.goal_syntax.specs.Building.GrownTables.{HasGoal, Grows, HasRoom};
+ghost use Rattle.goal_syntax.specs.Building.GrownTables.{HasGoal, Grows};
+ghost use Rattle.goal_syntax.specs.Building.Entries.{Adds, HasRoomFor, entries};
+ghost use Rattle.goal_syntax.specs.Building.InContext.{goals_entries, list_entries, next_entries};
 ghost use Rattle.goal_forms.specs.GoalSteps.{inner_names};
 ghost use Rattle.goal_syntax.specs.Building.GoalsLeft.{first_work, inner_works, other_works};
-ghost use Rattle.goal_syntax.specs.Building.GoalsLeft.{work_size, works_size};
+ghost use Rattle.goal_syntax.specs.Building.GoalsLeft.{own_size, work_size, works_size};
 ghost use Rattle.goal_forms.specs.Shapes.{parts};
 ghost use Rattle.goal_forms.specs.Places.{are_below};
 
@@ -51,7 +53,8 @@ fn build_own(
     draft: &mut Draft,
     places: &mut Vec<u32>,
 ) -> Result<(), Memory>
-    requires room { HasRoom (tables draft.old) }
+    requires room { HasRoomFor (own_size context.now.names.now (data_of context.now) goal) (tables draft.old) }
+    requires few { length scope.now < 2 ^ 24 }
     requires below { are_below (length (tables draft.old).goals) places.old.items ≡ true }
     ensures made { OnOk result (built (tables draft.new) places.new.items
         ≡ with_maybe (goal_alone context.now scope.now goal)
@@ -59,7 +62,7 @@ fn build_own(
     ensures below { OnOk result
         (are_below (length (tables draft.new).goals) places.new.items ≡ true) }
     ensures grows { OnOk result (Grows (tables draft.old) (tables draft.new)) }
-    ensures room { OnOk result (HasRoom (tables draft.new)) }
+    ensures room { OnOk result (Adds (own_size context.now.names.now (data_of context.now) goal) (tables draft.old) (tables draft.new)) }
     ensures low { OnOk result (KeepsLowIn context.now draft.old draft.new) }
 {
     if let Some(node) = build_node(context, scope, goal, draft)? {
@@ -128,7 +131,8 @@ fn build_goal(
     places: &mut Vec<u32>,
     works: &mut Vec<Work>,
 ) -> Result<(), Memory>
-    requires room { HasRoom (tables draft.old) }
+    requires room { HasRoomFor (next_entries context.now (Work.Goal place)) (tables draft.old) }
+    requires few { length scope.old.items + next_entries context.now (Work.Goal place) < 2 ^ 24 }
     requires below { are_below (length (tables draft.old).goals) places.old.items ≡ true }
     ensures made { OnOk result (
         made_after context.now scope.new.items (reverse works.new.items)
@@ -142,7 +146,14 @@ fn build_goal(
     ensures below { OnOk result
         (are_below (length (tables draft.new).goals) places.new.items ≡ true) }
     ensures grows { OnOk result (Grows (tables draft.old) (tables draft.new)) }
-    ensures room { OnOk result (HasRoom (tables draft.new)) }
+    ensures room { OnOk result
+        (entries (tables draft.new) + goals_entries context.now works.new.items
+        ≤ entries (tables draft.old)
+        + (next_entries context.now (Work.Goal place) + goals_entries context.now works.old.items)) }
+    ensures few { OnOk result
+        (length scope.new.items + goals_entries context.now works.new.items
+        ≤ length scope.old.items
+        + (next_entries context.now (Work.Goal place) + goals_entries context.now works.old.items)) }
     ensures low { OnOk result (KeepsLowIn context.now draft.old draft.new) }
 {
     let goal = parse_goal(context.flat, context.names, place);
@@ -190,7 +201,7 @@ fn build_row(
     places: &mut Vec<u32>,
     works: &mut Vec<Work>,
 ) -> Result<(), Memory>
-    requires room { HasRoom (tables draft.old) }
+    requires room { HasRoomFor (next_entries context.now (Work.Row row place)) (tables draft.old) }
     requires below { are_below (length (tables draft.old).goals) places.old.items ≡ true }
     ensures made { OnOk result ((ns : Names) →
         made_after context.now ns (reverse works.new.items)
@@ -204,7 +215,13 @@ fn build_row(
     ensures below { OnOk result
         (are_below (length (tables draft.new).goals) places.new.items ≡ true) }
     ensures grows { OnOk result (Grows (tables draft.old) (tables draft.new)) }
-    ensures room { OnOk result (HasRoom (tables draft.new)) }
+    ensures room { OnOk result
+        (entries (tables draft.new) + goals_entries context.now works.new.items
+        ≤ entries (tables draft.old)
+        + (next_entries context.now (Work.Row row place) + goals_entries context.now works.old.items)) }
+    ensures few { OnOk result
+        (goals_entries context.now works.new.items
+        ≤ next_entries context.now (Work.Row row place) + goals_entries context.now works.old.items) }
     ensures terms { OnOk result ((tables draft.new).terms ≡ (tables draft.old).terms) }
 {
     if let Some((first, rest)) = pair_parts(context.flat, place) {
@@ -224,7 +241,7 @@ fn build_clause(
     places: &mut Vec<u32>,
     works: &mut Vec<Work>,
 ) -> Result<(), Memory>
-    requires room { HasRoom (tables draft.old) }
+    requires room { HasRoomFor (next_entries context.now (Work.Clause clause)) (tables draft.old) }
     requires below { are_below (length (tables draft.old).goals) places.old.items ≡ true }
     ensures made { OnOk result ((ns : Names) →
         made_after context.now ns (reverse works.new.items)
@@ -238,7 +255,13 @@ fn build_clause(
     ensures below { OnOk result
         (are_below (length (tables draft.new).goals) places.new.items ≡ true) }
     ensures grows { OnOk result (Grows (tables draft.old) (tables draft.new)) }
-    ensures room { OnOk result (HasRoom (tables draft.new)) }
+    ensures room { OnOk result
+        (entries (tables draft.new) + goals_entries context.now works.new.items
+        ≤ entries (tables draft.old)
+        + (next_entries context.now (Work.Clause clause) + goals_entries context.now works.old.items)) }
+    ensures few { OnOk result
+        (goals_entries context.now works.new.items
+        ≤ next_entries context.now (Work.Clause clause) + goals_entries context.now works.old.items) }
     ensures terms { OnOk result ((tables draft.new).terms ≡ (tables draft.old).terms) }
 {
     if is_proper(context.flat, clause) {
@@ -258,7 +281,8 @@ fn build_next(
     places: &mut Vec<u32>,
     works: &mut Vec<Work>,
 ) -> Result<(), Memory>
-    requires room { HasRoom (tables draft.old) }
+    requires room { HasRoomFor (next_entries context.now work) (tables draft.old) }
+    requires few { length scope.old.items + next_entries context.now work < 2 ^ 24 }
     requires below { are_below (length (tables draft.old).goals) places.old.items ≡ true }
     ensures made { OnOk result (
         made_after context.now scope.new.items (reverse works.new.items)
@@ -271,7 +295,14 @@ fn build_next(
     ensures below { OnOk result
         (are_below (length (tables draft.new).goals) places.new.items ≡ true) }
     ensures grows { OnOk result (Grows (tables draft.old) (tables draft.new)) }
-    ensures room { OnOk result (HasRoom (tables draft.new)) }
+    ensures room { OnOk result
+        (entries (tables draft.new) + goals_entries context.now works.new.items
+        ≤ entries (tables draft.old)
+        + (next_entries context.now work + goals_entries context.now works.old.items)) }
+    ensures few { OnOk result
+        (length scope.new.items + goals_entries context.now works.new.items
+        ≤ length scope.old.items
+        + (next_entries context.now work + goals_entries context.now works.old.items)) }
     ensures low { OnOk result (KeepsLowIn context.now draft.old draft.new) }
 {
     match work {
@@ -294,11 +325,12 @@ pub(crate) fn build_goals(
     mut scope: Vec<Option<u32>>,
     draft: &mut Draft,
 ) -> Result<u32, Memory>
-    requires room { HasRoom (tables draft.old) }
+    requires room { HasRoomFor (list_entries context.now place) (tables draft.old) }
+    requires few { length scope.items + list_entries context.now place < 2 ^ 24 }
     ensures made { IfOk result
         (λ at. HasGoal (tables draft.new) at (list_goal context.now scope.items place)) }
     ensures grows { OnOk result (Grows (tables draft.old) (tables draft.new)) }
-    ensures room { OnOk result (HasRoom (tables draft.new)) }
+    ensures room { OnOk result (Adds (list_entries context.now place) (tables draft.old) (tables draft.new)) }
     ensures low { OnOk result (KeepsLowIn context.now draft.old draft.new) }
     ensures called { OnOk result
         ((rows : List RelationEntry) → are_there rows (tables draft.new).goals

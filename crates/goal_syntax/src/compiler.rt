@@ -4,7 +4,7 @@ ghost use Rattle.goal_syntax.specs.Building.InContext.{form_relations, form_name
 ghost use Rattle.goal_syntax.specs.Building.InContext.{forms_queries, forms_names};
 ghost use Rattle.goal_syntax.specs.Building.FormsBuilt.{relation_names, entry_names, AddsNames};
 ghost use Rattle.goal_syntax.specs.Building.FormsBuilt.{AddsRelations, AddsForms};
-ghost use Rattle.std.specs.Prelude.{[], ◌≡◌, ◌&&◌, ◌+◌, ◌<◌, ◌^◌, ◌++◌, length, map, true, IfOk};
+ghost use Rattle.std.specs.Prelude.{[], ◌≡◌, ◌&&◌, ◌+◌, ◌*◌, ◌<◌, ◌^◌, ◌++◌, length, map, true, IfOk};
 ghost use Rattle.std.specs.Prelude.{OnOk};
 ghost use Rattle.std.specs.List.{list_all};
 ghost use Rattle.kan_grammar.specs.Texts.TextNames.{with_prefixes};
@@ -18,7 +18,7 @@ ghost use Rattle.kan_grammar.specs.Texts.Sited.{with_sites};
 ghost use Rattle.sexpr.specs.Seen.{written};
 ghost use Rattle.kan_model.specs.Programs.Tables.{are_closed};
 ghost use Rattle.kan_grammar.specs.Texts.TopForms.{definitions};
-ghost use Rattle.goal_forms.specs.Contexts.{data_of, data_at, defined_in};
+ghost use Rattle.goal_forms.specs.Contexts.{data_of, data_at, datum_at, defined_in};
 ghost use Rattle.goal_forms.specs.Heights.{AreLow};
 ghost use Rattle.kan_grammar.specs.Texts.TextFaults.{faults_of, IsAccepted};
 ghost use Rattle.goal_syntax.specs.Building.CallsThere.{KeepsClosed, all_named, bodies_named};
@@ -26,6 +26,10 @@ ghost use Rattle.goal_syntax.specs.Compiling.CompiledForms.{CompilesForms, IsMea
 ghost use Rattle.goal_syntax.specs.Compiling.Compiles.{AreOfText, Compiles, IsAcceptedAlone};
 ghost use Rattle.goal_syntax.specs.Compiling.Compiles.{TableAfter};
 ghost use Rattle.goal_syntax.specs.Building.GrownTables.{HasRoom};
+ghost use Rattle.goal_syntax.specs.Building.Entries.{Adds, HasRoomFor, form_size, forms_size};
+ghost use Rattle.goal_syntax.specs.Building.InContext.{forms_entries};
+ghost use Rattle.goal_forms.specs.Sizes.{parts_in};
+ghost use Rattle.kan_grammar.specs.Texts.TopForms.{form};
 ghost use Rattle.goal_syntax.specs.Compiling.SymbolNames.{are_named};
 ghost use Rattle.goal_forms.specs.Parts.{sites, site_at};
 ghost use Rattle.goal_forms.specs.RelationTables.{relations};
@@ -61,12 +65,12 @@ pub struct Compiled {
 
 // Builds the relation of a top form of a library, which has no runs.
 fn build_library_form(context: &Context, place: u32, draft: &mut Draft) -> Result<(), Memory>
-    requires room { HasRoom (tables draft.old) }
+    requires room { HasRoomFor (form_size (form context.now.names.now (datum_at context.now place))) (tables draft.old) }
     ensures means { OnOk result (AddsRelations (tables draft.old) (tables draft.new)
         (form_relations context.now place)) }
     ensures names { OnOk result
         (AddsNames (tables draft.old) (tables draft.new) (form_names context.now place)) }
-    ensures room { OnOk result (HasRoom (tables draft.new)) }
+    ensures room { OnOk result (Adds (form_size (form context.now.names.now (datum_at context.now place))) (tables draft.old) (tables draft.new)) }
     ensures closed { OnOk result
         (KeepsClosed (data_of context.now) (tables draft.old) (tables draft.new)
         (bodies_named (form_relations context.now place))) }
@@ -79,12 +83,12 @@ fn build_library_form(context: &Context, place: u32, draft: &mut Draft) -> Resul
 
 // Builds the relations of a library.
 fn build_library(context: &Context, forms: &[u32], draft: &mut Draft) -> Result<(), Memory>
-    requires room { HasRoom (tables draft.old) }
+    requires room { HasRoomFor (forms_entries context.now forms.now) (tables draft.old) }
     ensures means { OnOk result (AddsRelations (tables draft.old) (tables draft.new)
         (forms_relations context.now forms.now)) }
     ensures names { OnOk result
         (AddsNames (tables draft.old) (tables draft.new) (forms_names context.now forms.now)) }
-    ensures room { OnOk result (HasRoom (tables draft.new)) }
+    ensures room { OnOk result (Adds (forms_entries context.now forms.now) (tables draft.old) (tables draft.new)) }
     ensures closed { OnOk result
         (KeepsClosed (data_of context.now) (tables draft.old) (tables draft.new)
         (bodies_named (forms_relations context.now forms.now))) }
@@ -102,14 +106,14 @@ fn build_text(
     draft: &mut Draft,
     queries: &mut Queries,
 ) -> Result<(), Memory>
-    requires room { HasRoom (tables draft.old) }
+    requires room { HasRoomFor (forms_entries context.now forms.now) (tables draft.old) }
     ensures means { OnOk result
         (AddsForms (tables draft.old) (tables draft.new) queries.old queries.new
         (forms_relations context.now forms.now)
         (forms_queries context.now forms.now)) }
     ensures names { OnOk result
         (AddsNames (tables draft.old) (tables draft.new) (forms_names context.now forms.now)) }
-    ensures room { OnOk result (HasRoom (tables draft.new)) }
+    ensures room { OnOk result (Adds (forms_entries context.now forms.now) (tables draft.old) (tables draft.new)) }
     ensures closed { OnOk result
         (KeepsClosed (data_of context.now) (tables draft.old) (tables draft.new)
         (all_named (forms_relations context.now forms.now) (forms_queries context.now forms.now))) }
@@ -172,6 +176,8 @@ fn build_program(context: &Context, library: &[u32], forms: &[u32]) -> Result<Co
     requires relations { defined_in context.now
         ≡ definitions context.now.names.now (data_at context.now library.now)
         ++ definitions context.now.names.now (data_at context.now forms.now) }
+    requires room { forms_entries context.now library.now
+        + forms_entries context.now forms.now < 2 ^ 24 }
     ensures meant { IfOk result
         (λ made. IsMeant (text_meaning context.now.dialect context.now.names.now
         (data_at context.now library.now)
@@ -200,6 +206,8 @@ fn compile_forms(
     dialect: Dialect,
 ) -> Result<Compiled, SyntaxError>
     requires few { length library.now + length forms.now < 2 ^ 32 }
+    requires room { forms_size names.now (map (site_at (sites flat.now)) library.now)
+        + forms_size names.now (map (site_at (sites flat.now)) forms.now) < 2 ^ 24 }
     requires low { AreLow (sites flat.now) }
     requires alone { faults_of names.now [] (map (site_at (sites flat.now)) library.now) ≡ [] }
     ensures { CompilesForms dialect names.now (map (site_at (sites flat.now)) library.now)
@@ -231,6 +239,8 @@ fn compile_data(
 ) -> Result<Compiled, SyntaxError>
     requires numbered { AreNumbered names.now prefixes.now }
     requires few { length library.now + length text.now < 2 ^ 32 }
+    requires parts { parts_in (map (meaning names.now) library.now) + 3 * length library.now
+        + (parts_in (map (meaning names.now) text.now) + 3 * length text.now) < 2 ^ 24 }
     requires low_library { AreLow (map (meaning names.now) library.now) }
     requires low_text { AreLow (map (meaning names.now) text.now) }
     requires alone { IsAccepted names.now [] (map (written names.now) library.now) }

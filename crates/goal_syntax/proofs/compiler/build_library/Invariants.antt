@@ -7,7 +7,7 @@ use Rattle.kan_grammar.specs.Texts.ProgramText.{relations_of}
 use Rattle.kan_model.specs.declared.nodes.Query.{Query}
 use Rattle.goal_syntax.specs.Building.FormsBuilt.{AddsNames, Means, relation_names}
 use Rattle.goal_syntax.specs.Building.CallsThere.{KeepsClosed, bodies_named}
-use Rattle.goal_syntax.specs.Building.GrownTables.{HasRoom}
+use Rattle.goal_syntax.specs.Building.Entries.{Adds, forms_size}
 use Rattle.goal_forms.specs.Parts.{sites, site_at}
 use Rattle.goal_forms.specs.RelationTables.{relations}
 use Rattle.goal_syntax.proofs.compiler.build_library.Given as goal
@@ -18,6 +18,6 @@ invariant-loop-place l = record {
   means : (qs : List Query) → (rs : List model.Relation) → (asked : List model.Query) → Means (tables l.fn.draft) qs rs asked →
       Means (tables l.draft) qs (rs ++ relations_of l.context.dialect l.context.names.now (relations l.context.relations.now) (map (site_at (sites l.context.flat.now)) (take l.place-index l.forms))) asked;
   names : AddsNames (tables l.fn.draft) (tables l.draft) (relation_names l.context.names.now (map (site_at (sites l.context.flat.now)) (take l.place-index l.forms)));
-  room : HasRoom (tables l.draft);
+  room : Adds (forms_size l.context.names.now (map (site_at (sites l.context.flat.now)) (take l.place-index l.forms))) (tables l.fn.draft) (tables l.draft);
   closed : KeepsClosed (sites l.context.flat.now) (tables l.fn.draft) (tables l.draft) (bodies_named (relations_of l.context.dialect l.context.names.now (relations l.context.relations.now) (map (site_at (sites l.context.flat.now)) (take l.place-index l.forms))));
 }
