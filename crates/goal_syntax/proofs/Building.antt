@@ -6,5 +6,7 @@ pub mod TermsLeftLaws
 pub mod TermHeightLaws
 pub mod GoalsBuiltLaws
 pub mod GoalsLeftLaws
+pub mod WidthLaws
+pub mod FormWidthLaws
 pub mod FormsBuiltLaws
 pub mod CallsThereLaws

@@ -4,6 +4,7 @@ pub mod Entries
 pub mod TermsLeft
 pub mod TermHeights
 pub mod GoalsBuilt
+pub mod Widths
 pub mod GoalsLeft
 pub mod FormsBuilt
 pub mod CallsThere

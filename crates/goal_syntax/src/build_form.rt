@@ -20,6 +20,8 @@ ghost use Rattle.goal_syntax.specs.Building.Entries.{Adds, HasRoomFor, form_size
 ghost use Rattle.goal_syntax.specs.Building.InContext.{list_entries};
 ghost use Rattle.goal_forms.specs.FormSteps.{limit_at};
 ghost use Rattle.goal_forms.specs.Parts.{sites, site_at};
+ghost use Rattle.goal_syntax.specs.Building.Widths.{Widens, form_width};
+ghost use Rattle.goal_syntax.specs.Building.InContext.{list_width};
 
 use crate::build_goal::build_goals;
 use crate::build_run::{build_list, build_one};
@@ -35,6 +37,7 @@ fn add_relation(draft: &mut Draft, relation: Relation) -> Result<(), Memory>
     ensures added { OnOk result
         (tables draft.new ≡ with_relation (tables draft.old) (relation_entry relation)) }
     ensures room { OnOk result (Adds 1 (tables draft.old) (tables draft.new)) }
+    ensures narrow { OnOk result (Widens 0 (tables draft.old) (tables draft.new)) }
 {
     draft.relation(relation)?;
     Ok(())
@@ -65,6 +68,7 @@ fn build_body(
     ensures closed { OnOk result
         (KeepsClosed (data_of context.now) (tables draft.old) (tables draft.new)
         (λ rows. calls_named rows (list_goal context.now (within [] params.now) goals))) }
+    ensures narrow { OnOk result (Widens (list_width context.now goals) (tables draft.old) (tables draft.new)) }
 {
     let mut scope = Vec::new(context.alloc);
     enter(params, &mut scope)?;
@@ -89,6 +93,7 @@ pub(crate) fn build_relation(
     ensures closed { OnOk result
         (KeepsClosed (data_of context.now) (tables draft.old) (tables draft.new)
         (bodies_named (relation_at context.now head goals ∷ []))) }
+    ensures narrow { OnOk result (Widens (list_width context.now goals) (tables draft.old) (tables draft.new)) }
 {
     let bound = head_params(context.alloc, context.flat, head)?;
     let params = bound.len() as u32;
@@ -141,6 +146,7 @@ pub(crate) fn build_form(
     ensures closed { OnOk result
         (KeepsClosed (data_of context.now) (tables draft.old) (tables draft.new)
         (all_named (relations_parsed context.now form) (queries_parsed context.now form))) }
+    ensures narrow { OnOk result (Widens (form_width (form_of context.now form)) (tables draft.old) (tables draft.new)) }
 {
     match form {
         Form::Relation(head, goals) => build_relation(context, head, goals, draft)?,

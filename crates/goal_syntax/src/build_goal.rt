@@ -19,6 +19,8 @@ ghost use Rattle.goal_syntax.specs.Building.GoalsLeft.{first_work, inner_works, 
 ghost use Rattle.goal_syntax.specs.Building.GoalsLeft.{own_size, work_size, works_size};
 ghost use Rattle.goal_forms.specs.Shapes.{parts};
 ghost use Rattle.goal_forms.specs.Places.{are_below};
+ghost use Rattle.goal_syntax.specs.Building.Widths.{Widens, made_width};
+ghost use Rattle.goal_syntax.specs.Building.InContext.{left_width, list_width, next_width};
 
 use crate::build_node::build_node;
 use crate::join_goal::{Row, add_slots, join_two, make, suspend};
@@ -64,6 +66,9 @@ fn build_own(
     ensures grows { OnOk result (Grows (tables draft.old) (tables draft.new)) }
     ensures room { OnOk result (Adds (own_size context.now.names.now (data_of context.now) goal) (tables draft.old) (tables draft.new)) }
     ensures low { OnOk result (KeepsLowIn context.now draft.old draft.new) }
+    ensures narrow { OnOk result (Widens
+        (made_width (built (tables draft.new) places.new.items))
+        (tables draft.old) (tables draft.new)) }
 {
     if let Some(node) = build_node(context, scope, goal, draft)? {
         make(node, draft, places)?;
@@ -155,6 +160,14 @@ fn build_goal(
         ≤ length scope.old.items
         + (next_entries context.now (Work.Goal place) + goals_entries context.now works.old.items)) }
     ensures low { OnOk result (KeepsLowIn context.now draft.old draft.new) }
+    ensures wide { OnOk result
+        (made_width (built (tables draft.new) places.new.items)
+        + left_width context.now works.new.items
+        ≤ made_width (built (tables draft.old) places.old.items)
+        + (next_width context.now (Work.Goal place) + left_width context.now works.old.items)) }
+    ensures narrow { OnOk result (Widens
+        (made_width (built (tables draft.new) places.new.items))
+        (tables draft.old) (tables draft.new)) }
 {
     let goal = parse_goal(context.flat, context.names, place);
     build_own(context, scope, goal, draft, places)?;
@@ -223,6 +236,14 @@ fn build_row(
         (goals_entries context.now works.new.items
         ≤ next_entries context.now (Work.Row row place) + goals_entries context.now works.old.items) }
     ensures terms { OnOk result ((tables draft.new).terms ≡ (tables draft.old).terms) }
+    ensures wide { OnOk result
+        (made_width (built (tables draft.new) places.new.items)
+        + left_width context.now works.new.items
+        ≤ made_width (built (tables draft.old) places.old.items)
+        + (next_width context.now (Work.Row row place) + left_width context.now works.old.items)) }
+    ensures narrow { OnOk result (Widens
+        (made_width (built (tables draft.new) places.new.items))
+        (tables draft.old) (tables draft.new)) }
 {
     if let Some((first, rest)) = pair_parts(context.flat, place) {
         wait_for_others(context, row, rest, works)?;
@@ -263,6 +284,14 @@ fn build_clause(
         (goals_entries context.now works.new.items
         ≤ next_entries context.now (Work.Clause clause) + goals_entries context.now works.old.items) }
     ensures terms { OnOk result ((tables draft.new).terms ≡ (tables draft.old).terms) }
+    ensures wide { OnOk result
+        (made_width (built (tables draft.new) places.new.items)
+        + left_width context.now works.new.items
+        ≤ made_width (built (tables draft.old) places.old.items)
+        + (next_width context.now (Work.Clause clause) + left_width context.now works.old.items)) }
+    ensures narrow { OnOk result (Widens
+        (made_width (built (tables draft.new) places.new.items))
+        (tables draft.old) (tables draft.new)) }
 {
     if is_proper(context.flat, clause) {
         works.push(Work::Row(Row::All, clause))?;
@@ -304,6 +333,14 @@ fn build_next(
         ≤ length scope.old.items
         + (next_entries context.now work + goals_entries context.now works.old.items)) }
     ensures low { OnOk result (KeepsLowIn context.now draft.old draft.new) }
+    ensures wide { OnOk result
+        (made_width (built (tables draft.new) places.new.items)
+        + left_width context.now works.new.items
+        ≤ made_width (built (tables draft.old) places.old.items)
+        + (next_width context.now work + left_width context.now works.old.items)) }
+    ensures narrow { OnOk result (Widens
+        (made_width (built (tables draft.new) places.new.items))
+        (tables draft.old) (tables draft.new)) }
 {
     match work {
         Work::Goal(place) => build_goal(context, place, scope, draft, places, works)?,
@@ -336,6 +373,7 @@ pub(crate) fn build_goals(
         ((rows : List RelationEntry) → are_there rows (tables draft.new).goals
         ≡ (are_there rows (tables draft.old).goals
         && calls_named rows (list_goal context.now scope.items place))) }
+    ensures narrow { OnOk result (Widens (list_width context.now place) (tables draft.old) (tables draft.new)) }
 {
     let mut places = Vec::new(context.alloc);
     let mut works = Vec::new(context.alloc);

@@ -17,6 +17,11 @@ ghost use Rattle.goal_syntax.specs.Building.GrownTables.{HasGoal, Grows};
 ghost use Rattle.goal_syntax.specs.Building.Entries.{Adds, HasRoomFor};
 ghost use Rattle.goal_syntax.specs.Building.InContext.{list_entries};
 ghost use Rattle.goal_syntax.specs.Building.FormsBuilt.{asked_equation};
+ghost use Rattle.goal_syntax.specs.Building.Widths.{Widens};
+ghost use Rattle.goal_syntax.specs.Building.InContext.{list_width};
+ghost use Rattle.kan_model.specs.Programs.Scope.{width};
+ghost use Rattle.kan_model.specs.Programs.Tables.{goal_at};
+ghost use Rattle.kan_model.specs.Programs.Drafts.{goals as model_goals};
 
 use crate::build_goal::build_goals;
 use crate::build_term::build_slots;
@@ -42,6 +47,7 @@ pub(crate) fn build_one(
     ensures closed { OnOk result
         (KeepsClosed (data_of context.now) (tables draft.old) (tables draft.new)
         (λ rows. calls_named rows (list_goal context.now (within [] (symbol ∷ [])) goals))) }
+    ensures narrow { OnOk result (Widens (list_width context.now goals) (tables draft.old) (tables draft.new)) }
 {
     let mut scope = Vec::new(context.alloc);
     scope.push(Some(symbol))?;
@@ -61,6 +67,7 @@ fn build_equation(bound: &[u32], draft: &mut Draft) -> Result<u32, Memory>
     ensures called { OnOk result
         ((rows : List RelationEntry) → are_there rows (tables draft.new).goals
         ≡ are_there rows (tables draft.old).goals) }
+    ensures narrow { OnOk result (Widens 0 (tables draft.old) (tables draft.new)) }
 {
     let list = build_slots(bound, draft)?;
     let asked = add_term(draft, TermNode::Slot(0))?;
@@ -86,6 +93,9 @@ fn build_behind(
     ensures closed { OnOk result
         (KeepsClosed (data_of context.now) (tables draft.old) (tables draft.new)
         (λ rows. calls_named rows (list_goal context.now scope.items goals))) }
+    ensures narrow { OnOk result (Widens
+        (width (goal_at (model_goals draft.old) first) + list_width context.now goals)
+        (tables draft.old) (tables draft.new)) }
 {
     if pair_parts(context.flat, goals).is_none() {
         return Ok(first);
@@ -105,6 +115,9 @@ fn build_fresh(context: &Context, binder: u32, goals: u32, draft: &mut Draft) ->
     ensures closed { OnOk result
         (KeepsClosed (data_of context.now) (tables draft.old) (tables draft.new)
         (λ rows. calls_named rows (fresh_goal context.now binder goals))) }
+    ensures narrow { OnOk result (Widens
+        (length (binder_at context.now binder).value + list_width context.now goals)
+        (tables draft.old) (tables draft.new)) }
 {
     let bound = binder_names(context.alloc, context.flat, binder)?;
     let count = bound.len() as u32;
@@ -127,6 +140,7 @@ fn suspend_at(dialect: Dialect, goal: u32, draft: &mut Draft) -> Result<u32, Mem
     ensures terms { OnOk result ((tables draft.new).terms ≡ (tables draft.old).terms) }
     ensures called { OnOk result ((rows : List RelationEntry) →
         are_there rows (tables draft.new).goals ≡ are_there rows (tables draft.old).goals) }
+    ensures narrow { OnOk result (Widens 0 (tables draft.old) (tables draft.new)) }
 {
     match dialect {
         Dialect::Book => Ok(goal),
@@ -152,6 +166,9 @@ pub(crate) fn build_list(
     ensures closed { OnOk result
         (KeepsClosed (data_of context.now) (tables draft.old) (tables draft.new)
         (λ rows. calls_named rows (run_goal context.now binder goals))) }
+    ensures narrow { OnOk result (Widens
+        (length (binder_at context.now binder).value + list_width context.now goals)
+        (tables draft.old) (tables draft.new)) }
 {
     let fresh = build_fresh(context, binder, goals, draft)?;
     let goal = suspend_at(context.dialect, fresh, draft)?;

@@ -4,7 +4,7 @@ ghost use Rattle.goal_syntax.specs.Building.InContext.{form_relations, form_name
 ghost use Rattle.goal_syntax.specs.Building.InContext.{forms_queries, forms_names};
 ghost use Rattle.goal_syntax.specs.Building.FormsBuilt.{relation_names, entry_names, AddsNames};
 ghost use Rattle.goal_syntax.specs.Building.FormsBuilt.{AddsRelations, AddsForms};
-ghost use Rattle.std.specs.Prelude.{[], ◌≡◌, ◌&&◌, ◌+◌, ◌*◌, ◌<◌, ◌^◌, ◌++◌, length, map, true, IfOk};
+ghost use Rattle.std.specs.Prelude.{[], ◌≡◌, ◌&&◌, ◌+◌, ◌*◌, ◌<◌, ◌≤◌, ◌^◌, ◌++◌, length, map, true, IfOk};
 ghost use Rattle.std.specs.Prelude.{OnOk};
 ghost use Rattle.std.specs.List.{list_all};
 ghost use Rattle.kan_grammar.specs.Texts.TextNames.{with_prefixes};
@@ -34,6 +34,8 @@ ghost use Rattle.goal_syntax.specs.Compiling.SymbolNames.{are_named};
 ghost use Rattle.goal_forms.specs.Parts.{sites, site_at};
 ghost use Rattle.goal_forms.specs.RelationTables.{relations};
 ghost use Rattle.goal_forms.specs.Flattening.{AreNumbered, meaning};
+ghost use Rattle.goal_syntax.specs.Building.Widths.{Widens, form_width, forms_width, widest_in};
+ghost use Rattle.goal_syntax.specs.Building.InContext.{widest_form};
 
 use crate::build_form::{build_form, build_relation};
 use crate::judge_text::first_of_forms;
@@ -47,9 +49,6 @@ use kan_model::{Draft, Program, Query};
 use kan_terms::{ListOf, Memory, Names};
 use sexpr::Datum;
 use std::alloc::Global;
-
-// The width from which on a goal is too wide.
-const TOO_WIDE: u32 = 0x20_0000;
 
 /// Queries in their order.
 pub type Queries = ListOf<Query>;
@@ -74,6 +73,9 @@ fn build_library_form(context: &Context, place: u32, draft: &mut Draft) -> Resul
     ensures closed { OnOk result
         (KeepsClosed (data_of context.now) (tables draft.old) (tables draft.new)
         (bodies_named (form_relations context.now place))) }
+    ensures narrow { OnOk result (Widens
+        (form_width (form context.now.names.now (datum_at context.now place)))
+        (tables draft.old) (tables draft.new)) }
 {
     if let Form::Relation(head, goals) = parse_form(context.flat, context.names, place) {
         build_relation(context, head, goals, draft)?;
@@ -92,6 +94,7 @@ fn build_library(context: &Context, forms: &[u32], draft: &mut Draft) -> Result<
     ensures closed { OnOk result
         (KeepsClosed (data_of context.now) (tables draft.old) (tables draft.new)
         (bodies_named (forms_relations context.now forms.now))) }
+    ensures narrow { OnOk result (Widens (widest_form context.now forms.now) (tables draft.old) (tables draft.new)) }
 {
     for place in forms {
         build_library_form(context, *place, draft)?;
@@ -117,6 +120,7 @@ fn build_text(
     ensures closed { OnOk result
         (KeepsClosed (data_of context.now) (tables draft.old) (tables draft.new)
         (all_named (forms_relations context.now forms.now) (forms_queries context.now forms.now))) }
+    ensures narrow { OnOk result (Widens (widest_form context.now forms.now) (tables draft.old) (tables draft.new)) }
 {
     for place in forms {
         build_form(
@@ -129,26 +133,11 @@ fn build_text(
     Ok(())
 }
 
-// Whether each goal of a program is narrow.
-fn are_narrow(program: &Program) -> bool
-    requires { HasRoom (programs.tables program.now) }
-    ensures { result ≡ is_small (programs.meaning program.now) }
-{
-    let mut at = 0;
-    while let Some(width) = program.width(at) {
-        if width >= TOO_WIDE {
-            return false;
-        }
-        at += 1;
-    }
-    true
-}
-
-// Closes a draft with the goals of runs, in which nothing is open. Where a goal is too wide or a
-// symbol has no name, there is
-// no memory for it; no text comes to that.
+// Closes a draft with the goals of runs, in which nothing is open. Where a symbol has no name,
+// there is no memory for it; no text comes to that.
 fn close(draft: Draft, queries: Queries, names: &Names) -> Result<Compiled, Memory>
     requires room { HasRoom (tables draft) }
+    requires narrow { widest_in (tables draft) < 2 ^ 21 }
     requires closed { are_closed (tables draft) (map goal_place queries) ≡ true }
     ensures tables { IfOk result (λ made. programs.tables made.program ≡ tables draft) }
     ensures queries { IfOk result (λ made. made.queries ≡ queries) }
@@ -161,7 +150,7 @@ fn close(draft: Draft, queries: Queries, names: &Names) -> Result<Compiled, Memo
     let Ok(program) = draft.close(queries.items()) else {
         unreachable!()
     };
-    if !are_narrow(&program) || !are_named(names, &program) {
+    if !are_named(names, &program) {
         return Err(Memory);
     }
     Ok(Compiled { program, queries })
@@ -178,6 +167,8 @@ fn build_program(context: &Context, library: &[u32], forms: &[u32]) -> Result<Co
         ++ definitions context.now.names.now (data_at context.now forms.now) }
     requires room { forms_entries context.now library.now
         + forms_entries context.now forms.now < 2 ^ 24 }
+    requires narrow_library { widest_form context.now library.now < 2 ^ 21 }
+    requires narrow_text { widest_form context.now forms.now < 2 ^ 21 }
     ensures meant { IfOk result
         (λ made. IsMeant (text_meaning context.now.dialect context.now.names.now
         (data_at context.now library.now)
@@ -210,6 +201,10 @@ fn compile_forms(
         + forms_size names.now (map (site_at (sites flat.now)) forms.now) < 2 ^ 24 }
     requires low { AreLow (sites flat.now) }
     requires alone { faults_of names.now [] (map (site_at (sites flat.now)) library.now) ≡ [] }
+    requires narrow_library { forms_width names.now (map (site_at (sites flat.now)) library.now)
+        < 2 ^ 21 }
+    requires narrow_text { forms_width names.now (map (site_at (sites flat.now)) forms.now)
+        < 2 ^ 21 }
     ensures { CompilesForms dialect names.now (map (site_at (sites flat.now)) library.now)
         (map (site_at (sites flat.now)) forms.now) result }
 {
@@ -239,8 +234,10 @@ fn compile_data(
 ) -> Result<Compiled, SyntaxError>
     requires numbered { AreNumbered names.now prefixes.now }
     requires few { length library.now + length text.now < 2 ^ 32 }
-    requires parts { parts_in (map (meaning names.now) library.now) + 3 * length library.now
-        + (parts_in (map (meaning names.now) text.now) + 3 * length text.now) < 2 ^ 24 }
+    requires library_parts { parts_in (map (meaning names.now) library.now)
+        + 3 * length library.now ≤ 2 ^ 22 }
+    requires text_parts { parts_in (map (meaning names.now) text.now) + 3 * length text.now
+        ≤ 2 ^ 22 }
     requires low_library { AreLow (map (meaning names.now) library.now) }
     requires low_text { AreLow (map (meaning names.now) text.now) }
     requires alone { IsAccepted names.now [] (map (written names.now) library.now) }

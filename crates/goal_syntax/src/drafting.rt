@@ -11,6 +11,8 @@ ghost use Rattle.std.specs.List.{list_all};
 ghost use Rattle.kan_model.specs.Programs.Scope.{is_low};
 ghost use Rattle.goal_syntax.specs.Building.GrownTables.{HasTemplate, HasGoal, Grows};
 ghost use Rattle.goal_syntax.specs.Building.Entries.{Adds, HasRoomFor};
+ghost use Rattle.goal_syntax.specs.Building.Widths.{Widens};
+ghost use Rattle.kan_model.specs.Programs.Scope.{width};
 
 use kan_model::{Draft, GoalNode, TermNode};
 use kan_terms::Memory;
@@ -62,6 +64,9 @@ pub(crate) fn add_goal(draft: &mut Draft, node: GoalNode) -> Result<u32, Memory>
     ensures called { OnOk result
         ((rows : List RelationEntry) → are_there rows (tables draft.new).goals
         ≡ (are_there rows (tables draft.old).goals && call_there rows (goal_entry node))) }
+    ensures narrow { OnOk result (Widens
+        (width (goal_of (templates draft.old) (tables draft.old).arguments (goals draft.old)
+        (goal_entry node))) (tables draft.old) (tables draft.new)) }
 {
     let at = draft.goal(node)?;
     Ok(at)

@@ -10,6 +10,7 @@ ghost use Rattle.goal_syntax.specs.Building.Entries.{Adds, HasRoomFor};
 ghost use Rattle.goal_syntax.specs.Building.GoalsLeft.{empty_entry, freshened, join_entry, joined};
 ghost use Rattle.goal_syntax.specs.Building.GoalsLeft.{suspended};
 ghost use Rattle.goal_forms.specs.Places.{are_below};
+ghost use Rattle.goal_syntax.specs.Building.Widths.{Widens, made_width};
 
 use crate::drafting::add_goal;
 use kan_grammar::Dialect;
@@ -66,6 +67,9 @@ pub(crate) fn make(node: GoalNode, draft: &mut Draft, places: &mut Vec<u32>) -> 
     ensures grows { OnOk result (Grows (tables draft.old) (tables draft.new)) }
     ensures room { OnOk result (Adds 1 (tables draft.old) (tables draft.new)) }
     ensures terms { OnOk result ((tables draft.new).terms ≡ (tables draft.old).terms) }
+    ensures narrow { OnOk result (Widens
+        (made_width (built (tables draft.new) places.new.items))
+        (tables draft.old) (tables draft.new)) }
 {
     let place = add_goal(draft, node)?;
     places.push(place)?;
@@ -84,6 +88,9 @@ pub(crate) fn join_two(row: Row, draft: &mut Draft, places: &mut Vec<u32>) -> Re
     ensures grows { OnOk result (Grows (tables draft.old) (tables draft.new)) }
     ensures room { OnOk result (Adds 1 (tables draft.old) (tables draft.new)) }
     ensures terms { OnOk result ((tables draft.new).terms ≡ (tables draft.old).terms) }
+    ensures narrow { OnOk result (Widens
+        (made_width (built (tables draft.new) places.new.items))
+        (tables draft.old) (tables draft.new)) }
 {
     let Some(right) = places.pop() else {
         return Ok(());
@@ -107,6 +114,9 @@ pub(crate) fn add_slots(count: u32, draft: &mut Draft, places: &mut Vec<u32>) ->
     ensures grows { OnOk result (Grows (tables draft.old) (tables draft.new)) }
     ensures room { OnOk result (Adds 1 (tables draft.old) (tables draft.new)) }
     ensures terms { OnOk result ((tables draft.new).terms ≡ (tables draft.old).terms) }
+    ensures narrow { OnOk result (Widens
+        (made_width (built (tables draft.new) places.new.items))
+        (tables draft.old) (tables draft.new)) }
 {
     let Some(goal) = places.pop() else {
         return Ok(());
@@ -127,6 +137,9 @@ fn add_later(draft: &mut Draft, places: &mut Vec<u32>) -> Result<(), Memory>
     ensures grows { OnOk result (Grows (tables draft.old) (tables draft.new)) }
     ensures room { OnOk result (Adds 1 (tables draft.old) (tables draft.new)) }
     ensures terms { OnOk result ((tables draft.new).terms ≡ (tables draft.old).terms) }
+    ensures narrow { OnOk result (Widens
+        (made_width (built (tables draft.new) places.new.items))
+        (tables draft.old) (tables draft.new)) }
 {
     let Some(goal) = places.pop() else {
         return Ok(());
@@ -151,6 +164,9 @@ pub(crate) fn suspend(
     ensures grows { OnOk result (Grows (tables draft.old) (tables draft.new)) }
     ensures room { OnOk result (Adds 1 (tables draft.old) (tables draft.new)) }
     ensures terms { OnOk result ((tables draft.new).terms ≡ (tables draft.old).terms) }
+    ensures narrow { OnOk result (Widens
+        (made_width (built (tables draft.new) places.new.items))
+        (tables draft.old) (tables draft.new)) }
 {
     match dialect {
         Dialect::Book => Ok(()),

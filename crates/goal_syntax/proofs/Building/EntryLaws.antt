@@ -1,28 +1,27 @@
 -- Tables have at most as many entries as what was built of forms, and no table is full.
-use Rattle.std.proofs.Common.{◌≡◌, ℕ, suc, zero, ◌+◌, ◌<◌, ◌≤◌, ◌^◌, List, [], ◌∷◌, ◌++◌, length, map, take, drop, get_or, refl, sym, ◌∙◌, ap, arith, append-nil, length-append, Option, Some, None}
-use Rattle.std.specs.Prelude.{Bool, true, false, unwrap_or, nat_lt}
-use Rattle.std.proofs.lemmas.List.{length-map, take_more}
+use Rattle.std.proofs.Common.{◌≡◌, ℕ, ◌+◌, ◌<◌, ◌≤◌, ◌^◌, List, [], ◌∷◌, ◌++◌, length, map, refl, sym, ◌∙◌, ap, arith, length-append, Option, Some, None}
+use Rattle.std.specs.Prelude.{Bool, true, false, unwrap_or}
+use Rattle.std.proofs.lemmas.List.{length-map}
 use Rattle.kan_terms.specs.Tree.{Tree, size}
 use Rattle.kan_terms.specs.Table.{Table}
 use Rattle.kan_grammar.specs.declared.dialect.Dialect.{Dialect}
 use Rattle.kan_grammar.specs.Texts.Sited.{Sited, site, is_proper}
 use Rattle.kan_grammar.specs.Texts.Binders.{binder}
 use Rattle.kan_grammar.specs.Texts.TermForms.{TermForm, term_form}
-use Rattle.kan_grammar.specs.Texts.GoalForms.{GoalForm, GoalForms, none, more, goal_form, goal_forms, clause_forms, term_forms}
-use Rattle.kan_grammar.specs.Texts.Resolved.{Names, within, template_in, slot_of}
-use Rattle.kan_grammar.specs.Texts.TopForms.{Defined, form}
-use Rattle.kan_model.specs.Programs.Goals.{Goal, Template}
+use Rattle.kan_grammar.specs.Texts.GoalForms.{GoalForm, goal_forms, term_forms}
+use Rattle.kan_grammar.specs.Texts.Resolved.{Names, template_in}
+use Rattle.kan_grammar.specs.Texts.TopForms.{Defined}
 use Rattle.kan_model.specs.Programs.Tables.{TermEntry, GoalEntry, RelationEntry, Tables, with_term, with_argument, with_goal, with_relation}
 use Rattle.kan_model.specs.declared.nodes.GoalNode.{GoalNode}
 use Rattle.goal_forms.specs.Parts.{site_at}
 use Rattle.goal_forms.specs.Shapes.{parts}
-use Rattle.goal_forms.specs.TermSteps.{task_form, step_form}
+use Rattle.goal_forms.specs.TermSteps.{task_form}
 use Rattle.goal_forms.specs.GoalSteps.{step_goal, inner_names}
 use Rattle.goal_forms.specs.declared.term.Task.{Task}
 use Rattle.goal_forms.specs.declared.goal.Goal as opened
 use Rattle.goal_forms.specs.declared.goal.Goal.TheVariants.{Succeed, Fail, Same, Differ, Symbol, Number, Text, Absent, Fresh, AllOf, OneOf, Clauses, Call, Misshapen}
-use Rattle.goal_syntax.specs.Building.GrownTables.{HasRoom, HasTemplate}
-use Rattle.goal_syntax.specs.Building.Entries.{entries, Adds, HasRoomFor, terms_size, arguments_size, sides_size, goal_size, goals_size, others_size, form_size, forms_size}
+use Rattle.goal_syntax.specs.Building.GrownTables.{HasRoom}
+use Rattle.goal_syntax.specs.Building.Entries.{entries, terms_size, sides_size, goal_size, goals_size, others_size}
 use Rattle.goal_syntax.specs.Building.TermsLeft as terms
 use Rattle.goal_syntax.specs.Building.TermsLeft.{HasTemplates}
 use Rattle.goal_syntax.specs.declared.build_term.Work as term_work
@@ -32,7 +31,6 @@ use Rattle.goal_syntax.specs.Building.GoalsLeft.{clause_form, first_work, first_
 use Rattle.goal_syntax.specs.declared.join_goal.Row.{Row}
 use Rattle.goal_syntax.specs.declared.join_goal.Row.TheVariants as rows
 use Rattle.goal_syntax.specs.declared.build_goal.Work.{Work}
-use Rattle.goal_syntax.specs.declared.build_goal.Work.TheVariants as works
 use Rattle.goal_syntax.proofs.Building.GoalsLeftLaws.{row-none, row-more}
 
 longer : {A : Type 0} (xs : List A) (x : A) → length (xs ++ x ∷ []) ≡ length xs + 1

@@ -1,21 +1,21 @@
 -- Forms are made of at most as many entries as their data have parts, and three more for each.
-use Rattle.std.proofs.Common.{◌≡◌, ℕ, suc, ◌+◌, ◌*◌, ◌≤◌, ◌<◌, ◌^◌, List, [], ◌∷◌, ◌++◌, length, map, take, get_or, zero, refl, sym, ◌∙◌, ap, arith, length-append, Option, Some, None}
+use Rattle.std.proofs.Common.{◌≡◌, ℕ, suc, ◌+◌, ◌*◌, ◌≤◌, ◌<◌, List, [], ◌∷◌, ◌++◌, length, map, take, get_or, zero, refl, ◌∙◌, ap, arith, length-append, Option}
 use Rattle.std.specs.Prelude.{Bool, true, false, if◌then◌else◌}
 use Rattle.std.proofs.Math.Seq.{take-suc}
 use Rattle.std.proofs.lemmas.List.{map-append}
 use Rattle.kan_terms.specs.Tree.{Tree, size}
 use Rattle.kan_terms.specs.Table.{Table}
-use Rattle.kan_grammar.specs.Texts.Sited.{Sited, site, constant, is_proper, count, first, rest}
+use Rattle.kan_grammar.specs.Texts.Sited.{Sited, site, constant, is_proper, count, first}
 use Rattle.kan_grammar.specs.Texts.Language.{Word, word, head_word}
 use Rattle.kan_grammar.specs.Texts.Binders.{Checked, names_of, bound_names, binder, binder_faults, tag}
-use Rattle.kan_grammar.specs.Texts.TermForms.{Use, TermForm, bad_term, quote_form, term_form, cons_form, list_form, quasiquote_form, template_form, unquote_form}
-use Rattle.kan_grammar.specs.Texts.GoalForms.{GoalForm, GoalForms, none, more, Parts, parts_of, is_count, atom_goal, term_forms, term_one, term_two, goal_form, goal_forms, fresh_form, clause_forms}
+use Rattle.kan_grammar.specs.Texts.TermForms.{Use, bad_term, quote_form, term_form, cons_form, list_form, quasiquote_form, template_form, unquote_form}
+use Rattle.kan_grammar.specs.Texts.GoalForms.{GoalForm, parts_of, is_count, atom_goal, term_forms, term_one, term_two, goal_form, goal_forms, fresh_form, clause_forms}
 use Rattle.kan_grammar.specs.Texts.TopForms.{Form, head, head_name, limit, no_limit, relation, run_of_one, run_of_list, misshapen, unknown, relation_form, run_form, limited_form, form}
 use Rattle.goal_forms.specs.Parts.{site_at}
 use Rattle.goal_forms.specs.TermSteps.{site_size}
 use Rattle.goal_forms.specs.Sizes.{parts_in}
 use Rattle.goal_forms.proofs.SizeLaws.{some_parts}
-use Rattle.goal_syntax.specs.Building.Entries.{terms_size, arguments_size, goal_size, goals_size, others_size, form_size, forms_size}
+use Rattle.goal_syntax.specs.Building.Entries.{arguments_size, goal_size, goals_size, others_size, form_size, forms_size}
 
 -- a constant has as many parts as its datum
 constant_size : (d : Sited) → size (constant {V = Use} d) ≡ site_size d
@@ -136,7 +136,7 @@ bound_small (Sited.pair at a d) =
     one_name (Sited.name at s) = omega arith
     one_name a = omega arith
 
-binder_small : (t : Table) (d : Sited) → length (binder t d).value + length (binder t d).value ≤ site_size d
+pub binder_small : (t : Table) (d : Sited) → length (binder t d).value + length (binder t d).value ≤ site_size d
 binder_small t d = by_proper (is_proper d) refl
   where
     by_proper : (b : Bool) → is_proper d ≡ b → length (binder t d).value + length (binder t d).value ≤ site_size d

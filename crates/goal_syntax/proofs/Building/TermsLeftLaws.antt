@@ -1,7 +1,6 @@
 -- How building templates goes on from one piece of work to the next.
 use Rattle.std.proofs.Common.{◌≡◌, ℕ, suc, zero, ◌+◌, ◌<◌, ◌≤◌, List, [], ◌∷◌, ◌++◌, ◌-◌, length, map, reverse, take, drop, get_or, refl, sym, ◌∙◌, ap, ap₂, arith, append_assoc, length-append, drop-cons}
-use Rattle.std.specs.Prelude.{true, nat_lt, Option, Some, None, Result, IfOk, unwrap_or}
-use Rattle.std.specs.Option.{ok_or, option_to_list}
+use Rattle.std.specs.Prelude.{true, nat_lt, Some, unwrap_or}
 use Rattle.std.proofs.lemmas.Bool.{ltb-true, lt-ltb, and_parts, and_from}
 use Rattle.std.proofs.lemmas.List.{reverse-append, map-append, length-map, take_more}
 use Rattle.std.proofs.Math.Seq.{drop-append_seam, take-length}

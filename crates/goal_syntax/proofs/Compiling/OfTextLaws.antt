@@ -1,5 +1,5 @@
 -- Data of texts, and libraries that are accepted by themselves, for those who compile.
-use Rattle.std.proofs.Common.{◌≡◌, ◌≤◌, ◌<◌, ◌+◌, ◌^◌, ℕ, List, [], map, length, refl, arith, ◌*◌, sym, ap, ◌∙◌}
+use Rattle.std.proofs.Common.{◌≡◌, ◌≤◌, ◌<◌, ◌+◌, ◌^◌, ℕ, List, [], map, length, refl, arith, ◌*◌, ap}
 use Rattle.std.proofs.lemmas.List.{length-map}
 use Rattle.std.specs.Prelude.{None, Ok}
 use Rattle.std.specs.Str.{is_utf8, chars}
@@ -17,6 +17,8 @@ use Rattle.goal_forms.specs.Flattening.{meaning}
 use Rattle.goal_forms.specs.Sizes.{parts_in}
 use Rattle.goal_forms.proofs.DataPlaces.{map-meaning}
 use Rattle.goal_forms.proofs.SizeLaws.{text_parts}
+use Rattle.goal_syntax.specs.Building.Widths.{forms_width}
+use Rattle.goal_syntax.proofs.Building.FormWidthLaws.{forms_narrow}
 use Rattle.goal_syntax.specs.Building.Entries.{forms_size}
 use Rattle.goal_syntax.proofs.Building.FormEntryLaws.{forms_small}
 use Rattle.kan_grammar.proofs.Data.CountLaws.{few_data}
@@ -67,8 +69,8 @@ pub few_of_both : (names : Table) (library text : List Datum) → AreOfText name
 few_of_both names library text ls ds =
     omega (arith, few_of_text names library ls, few_of_text names text ds)
 
--- data of a text have at most four parts a byte, so those of two are few, and few entries are made of them
-parts_of_text : (old new : Table) (ds : List Datum) → new ≡ with_prefixes old → AreOfText (with_prefixes old) ds → parts_in (map (meaning new) ds) + 3 * length ds ≤ 2 ^ 22
+-- data of a text have at most four parts a byte, so few entries are made of them
+pub parts_of_text : (old new : Table) (ds : List Datum) → new ≡ with_prefixes old → AreOfText (with_prefixes old) ds → parts_in (map (meaning new) ds) + 3 * length ds ≤ 2 ^ 22
 parts_of_text old new ds is of =
     let table = with_prefixes old in
     rw is (
@@ -81,10 +83,6 @@ parts_of_text old new ds is of =
     )
     )
 
-pub parts_of_both : (old new : Table) (library text : List Datum) → new ≡ with_prefixes old → AreOfText (with_prefixes old) library → AreOfText (with_prefixes old) text →
-    parts_in (map (meaning new) library) + 3 * length library + (parts_in (map (meaning new) text) + 3 * length text) < 2 ^ 24
-parts_of_both old new library text is ls ds = omega (arith, parts_of_text old new library is ls, parts_of_text old new text is ds)
-
 pub forms_of_data : (names : Table) (ds : List Datum) → forms_size names (map (with_sites names) (map (written names) ds)) ≤ parts_in (map (meaning names) ds) + 3 * length ds
 forms_of_data names ds =
     omega (
@@ -93,4 +91,18 @@ forms_of_data names ds =
       ap parts_in (map-meaning names ds),
       length-map (map (written names) ds) (with_sites names),
       length-map ds (written names),
+    )
+
+-- and their goals are narrow
+pub narrow_data : (names : Table) (ds : List Datum) → parts_in (map (meaning names) ds) + 3 * length ds ≤ 2 ^ 22 → forms_width names (map (with_sites names) (map (written names) ds)) < 2 ^ 21
+narrow_data names ds few =
+    forms_narrow names (map (with_sites names) (map (written names) ds))
+    (
+    omega (
+      arith,
+      few,
+      ap parts_in (map-meaning names ds),
+      length-map (map (written names) ds) (with_sites names),
+      length-map ds (written names),
+    )
     )

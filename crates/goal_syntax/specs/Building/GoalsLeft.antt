@@ -14,6 +14,7 @@ use Rattle.goal_forms.specs.Parts.{site_at}
 use Rattle.goal_forms.specs.TermSteps.{site_size}
 use Rattle.goal_syntax.specs.Building.GoalsBuilt.{Built, with_goal}
 use Rattle.goal_forms.specs.GoalSteps.{step_goal}
+use Rattle.goal_syntax.specs.Building.Widths.{goal_width, goals_width}
 use Rattle.goal_syntax.specs.Building.Entries.{goal_size, goals_size, sides_size}
 use Rattle.goal_forms.specs.declared.goal.Goal as opened
 use Rattle.goal_forms.specs.declared.goal.Goal.TheVariants.{Fresh, AllOf, OneOf, Clauses}
@@ -150,6 +151,18 @@ own_size t ds (AllOf gs) = 0
 own_size t ds (OneOf gs) = 0
 own_size t ds (Clauses cs) = 0
 own_size t ds g = 1 + sides_size (step_goal ds t g)
+
+-- how wide the goals of a piece of work are, and those of all that is left
+abbrev pub work_width : Table → List Sited → Work → ℕ
+work_width t ds (works.Goal p) = goal_width (goal_form t (site_at ds p))
+work_width t ds (works.Clause p) = goal_width (clause_form t (site_at ds p))
+work_width t ds (works.Row row p) = goals_width (row_forms row t (site_at ds p))
+work_width t ds (works.Fresh k) = k
+work_width t ds w = 0
+
+abbrev pub works_width : Table → List Sited → List Work → ℕ
+works_width t ds [] = 0
+works_width t ds (w ∷ ws) = work_width t ds w + works_width t ds ws
 
 -- the work that a goal leaves, the last on top
 abbrev pub inner_works : Table → List Sited → Names → opened.Goal → List Work

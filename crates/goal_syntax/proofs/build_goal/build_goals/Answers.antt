@@ -8,6 +8,7 @@ use Rattle.std.proofs.Common.{arith}
 use Rattle.goal_syntax.proofs.Building.GoalsBuiltLaws.{goal_called}
 use Rattle.goal_syntax.proofs.Building.GoalsLeftLaws.{works_done}
 use Rattle.goal_syntax.proofs.Building.EntryLaws.{one_pushed}
+use Rattle.goal_syntax.proofs.Building.WidthLaws.{one_widens}
 use Rattle.goal_syntax.proofs.build_goal.build_goals.Goals as goal
 
 pub loop-work-smaller : goal.loop-work-smaller
@@ -21,6 +22,8 @@ loop-work-preserved c = record {
   grows = grows_on _ _ _ c.loop-work.invariant.grows c.in_ok-build_next.ensures.grows;
   room = omega (arith, one_pushed c.args.context.now.names.now (sites c.args.context.now.flat.now) _ c.loop-work.works.items c.in-Some.work c.in-Some.ensures.items, c.in_ok-build_next.ensures.room, c.loop-work.invariant.room);
   few = omega (arith, one_pushed c.args.context.now.names.now (sites c.args.context.now.flat.now) _ c.loop-work.works.items c.in-Some.work c.in-Some.ensures.items, c.in_ok-build_next.ensures.few, c.loop-work.invariant.few);
+  wide = omega (arith, one_widens c.args.context.now.names.now (sites c.args.context.now.flat.now) _ c.loop-work.works.items c.in-Some.work c.in-Some.ensures.items, c.in_ok-build_next.ensures.wide, c.loop-work.invariant.wide);
+  narrow = omega (arith, one_widens c.args.context.now.names.now (sites c.args.context.now.flat.now) _ c.loop-work.works.items c.in-Some.work c.in-Some.ensures.items, c.in_ok-build_next.ensures.wide, c.loop-work.invariant.wide, c.in_ok-build_next.ensures.narrow, c.loop-work.invariant.narrow);
   low = low_on (sites c.args.context.now.flat.now) (tables c.args.draft.now) (tables c.loop-work.draft) (tables c.build_next.new.draft) c.loop-work.invariant.low c.in_ok-build_next.ensures.low;
 }
 

@@ -7,6 +7,7 @@ use Rattle.goal_syntax.proofs.Building.GoalsBuiltLaws.{built_kept, own_some, own
 use Rattle.goal_syntax.proofs.Building.TableLaws.{grows_on}
 use Rattle.std.proofs.Common.{arith}
 use Rattle.goal_syntax.proofs.Building.EntryLaws.{own_node, sides_few}
+use Rattle.goal_syntax.proofs.Building.WidthLaws.{widest_kept}
 use Rattle.goal_syntax.proofs.build_goal.build_own.Goals as goal
 
 pub returns-in_ok-make-clause-made : goal.returns-in_ok-make-clause-made
@@ -46,3 +47,9 @@ returns-in_ok-make-clause-room c =
 
 pub returns-in_default-clause-room : goal.returns-in_default-clause-room
 returns-in_default-clause-room c = omega (arith, sides_few c.args.context.now.names.now (sites c.args.context.now.flat.now) c.args.goal, c.in_ok-node.ensures.room)
+
+pub returns-in_ok-make-clause-narrow : goal.returns-in_ok-make-clause-narrow
+returns-in_ok-make-clause-narrow c = omega (arith, widest_kept (tables c.args.draft.now) (tables c.build_node.new.draft) c.in_ok-node.ensures.grows c.in_ok-node.ensures.same, c.in_ok-make.ensures.narrow)
+
+pub returns-in_default-clause-narrow : goal.returns-in_default-clause-narrow
+returns-in_default-clause-narrow c = omega (arith, widest_kept (tables c.args.draft.now) (tables c.build_node.new.draft) c.in_ok-node.ensures.grows c.in_ok-node.ensures.same)

@@ -9,6 +9,9 @@ use Rattle.goal_syntax.proofs.Building.GoalsBuiltLaws.{stands_added, empty_stand
 use Rattle.goal_syntax.proofs.Building.GoalsLeftLaws.{empty_row}
 use Rattle.std.proofs.Common.{arith}
 use Rattle.goal_syntax.proofs.Building.EntryLaws.{empty_entries, row_entries}
+use Rattle.std.proofs.Common.{ap}
+use Rattle.goal_syntax.proofs.Building.WidthLaws.{empty_wide, row_wide}
+use Rattle.goal_syntax.specs.Building.Widths.{made_width}
 use Rattle.goal_syntax.proofs.build_goal.build_row.Goals as goal
 
 pub returns-in_ok-push-clause-made : goal.returns-in_ok-push-clause-made
@@ -43,3 +46,11 @@ make-requires-clause-room c = omega (arith, empty_entries c.args.context.now.nam
 
 pub returns-in_ok-make-clause-room : goal.returns-in_ok-make-clause-room
 returns-in_ok-make-clause-room c = omega (arith, empty_entries c.args.context.now.names.now (sites c.args.context.now.flat.now) c.args.row c.args.place c.in_default.ensures.parts, c.in_ok-make.ensures.room)
+
+pub returns-in_ok-push-clause-wide : goal.returns-in_ok-push-clause-wide
+returns-in_ok-push-clause-wide c =
+    let few = row_wide c.args.context.now.names.now (sites c.args.context.now.flat.now) c.args.row c.args.place c.in-Some.first c.in-Some.rest _ c.args.works.now.items _ _
+    c.in-Some.ensures.parts c.in_ok-wait_for_others.ensures c.first_work.ensures c.in_ok-push.ensures.items in omega (arith, few)
+
+pub returns-in_ok-make-clause-wide : goal.returns-in_ok-make-clause-wide
+returns-in_ok-make-clause-wide c = omega (arith, ap made_width c.in_ok-make.ensures.made, empty_wide (tables c.args.draft.now) c.args.row _ c.empty.ensures)

@@ -8,6 +8,7 @@ use Rattle.goal_syntax.proofs.Compiling.CompilingLaws.{names_both}
 use Rattle.std.proofs.Common.{arith, ap}
 use Rattle.goal_syntax.proofs.Building.EntryLaws.{room_left}
 use Rattle.goal_syntax.specs.Building.Entries.{entries}
+use Rattle.goal_syntax.specs.Building.Widths.{widest_in}
 use Rattle.goal_syntax.proofs.compiler.build_program.Goals as goal
 
 pub returns-clause-meant : goal.returns-clause-meant
@@ -40,3 +41,14 @@ build_text-requires c = record { room = omega (arith, ap entries c.new-draft.ens
 
 pub close-requires-clause-room : goal.close-requires-clause-room
 close-requires-clause-room c = room_left (tables c.build_text.new.draft) (omega (arith, ap entries c.new-draft.ensures, c.in_ok-build_library.ensures.room, c.in_ok-build_text.ensures.room, c.requires.room))
+
+pub close-requires-clause-narrow : goal.close-requires-clause-narrow
+close-requires-clause-narrow c =
+    omega (
+      arith,
+      ap widest_in c.new-draft.ensures,
+      c.in_ok-build_library.ensures.narrow,
+      c.in_ok-build_text.ensures.narrow,
+      c.requires.narrow_library,
+      c.requires.narrow_text,
+    )

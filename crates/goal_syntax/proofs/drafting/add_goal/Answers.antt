@@ -3,6 +3,7 @@ use Rattle.kan_model.specs.Programs.Nodes.{goal_entry}
 use Rattle.goal_syntax.proofs.Building.TableLaws.{goal_made, goal_called, grows_goal, grows_to}
 use Rattle.std.proofs.Common.{arith}
 use Rattle.goal_syntax.proofs.Building.EntryLaws.{goal_adds}
+use Rattle.goal_syntax.proofs.Building.WidthLaws.{goal_widens}
 use Rattle.goal_syntax.proofs.drafting.add_goal.Goals as goal
 
 pub returns-clause-made : goal.returns-clause-made
@@ -19,3 +20,6 @@ returns-clause-room c = omega (arith, goal_adds (tables c.args.draft.now) _ (goa
 
 pub goal-requires-clause-room : goal.goal-requires-clause-room
 goal-requires-clause-room c = omega (arith, c.requires.room)
+
+pub returns-clause-narrow : goal.returns-clause-narrow
+returns-clause-narrow c = omega (arith, goal_widens (tables c.args.draft.now) _ (goal_entry c.args.node) c.in_ok-at.ensures.added)
