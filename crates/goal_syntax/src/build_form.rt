@@ -60,15 +60,19 @@ fn build_body(
     goals: u32,
     draft: &mut Draft,
 ) -> Result<u32, Memory>
-    requires room { HasRoomFor (length params.now + list_entries context.now goals) (tables draft.old) }
+    requires room { HasRoomFor
+        (length params.now + list_entries context.now goals) (tables draft.old) }
     ensures made { IfOk result
         (λ at. HasGoal (tables draft.new) at (list_goal context.now (within [] params.now) goals)) }
     ensures grows { OnOk result (Grows (tables draft.old) (tables draft.new)) }
-    ensures room { OnOk result (Adds (length params.now + list_entries context.now goals) (tables draft.old) (tables draft.new)) }
+    ensures room { OnOk result
+        (Adds (length params.now + list_entries context.now goals)
+        (tables draft.old) (tables draft.new)) }
     ensures closed { OnOk result
         (KeepsClosed (data_of context.now) (tables draft.old) (tables draft.new)
         (λ rows. calls_named rows (list_goal context.now (within [] params.now) goals))) }
-    ensures narrow { OnOk result (Widens (list_width context.now goals) (tables draft.old) (tables draft.new)) }
+    ensures narrow { OnOk result
+        (Widens (list_width context.now goals) (tables draft.old) (tables draft.new)) }
 {
     let mut scope = Vec::new(context.alloc);
     enter(params, &mut scope)?;
@@ -83,17 +87,22 @@ pub(crate) fn build_relation(
     goals: u32,
     draft: &mut Draft,
 ) -> Result<(), Memory>
-    requires room { HasRoomFor (1 + length (head_at context.now head).value + list_entries context.now goals) (tables draft.old) }
+    requires room { HasRoomFor
+        (1 + length (head_at context.now head).value + list_entries context.now goals)
+        (tables draft.old) }
     ensures means { OnOk result (AddsRelations (tables draft.old) (tables draft.new)
         (relation_at context.now head goals ∷ [])) }
     ensures names { OnOk result
         (AddsNames (tables draft.old) (tables draft.new)
         (name_symbol (head_name (datum_at context.now head)) ∷ [])) }
-    ensures room { OnOk result (Adds (1 + length (head_at context.now head).value + list_entries context.now goals) (tables draft.old) (tables draft.new)) }
+    ensures room { OnOk result
+        (Adds (1 + length (head_at context.now head).value + list_entries context.now goals)
+        (tables draft.old) (tables draft.new)) }
     ensures closed { OnOk result
         (KeepsClosed (data_of context.now) (tables draft.old) (tables draft.new)
         (bodies_named (relation_at context.now head goals ∷ []))) }
-    ensures narrow { OnOk result (Widens (list_width context.now goals) (tables draft.old) (tables draft.new)) }
+    ensures narrow { OnOk result
+        (Widens (list_width context.now goals) (tables draft.old) (tables draft.new)) }
 {
     let bound = head_params(context.alloc, context.flat, head)?;
     let params = bound.len() as u32;
@@ -142,11 +151,13 @@ pub(crate) fn build_form(
         (queries_parsed context.now form)) }
     ensures names { OnOk result
         (AddsNames (tables draft.old) (tables draft.new) (names_parsed context.now form)) }
-    ensures room { OnOk result (Adds (form_size (form_of context.now form)) (tables draft.old) (tables draft.new)) }
+    ensures room { OnOk result
+        (Adds (form_size (form_of context.now form)) (tables draft.old) (tables draft.new)) }
     ensures closed { OnOk result
         (KeepsClosed (data_of context.now) (tables draft.old) (tables draft.new)
         (all_named (relations_parsed context.now form) (queries_parsed context.now form))) }
-    ensures narrow { OnOk result (Widens (form_width (form_of context.now form)) (tables draft.old) (tables draft.new)) }
+    ensures narrow { OnOk result
+        (Widens (form_width (form_of context.now form)) (tables draft.old) (tables draft.new)) }
 {
     match form {
         Form::Relation(head, goals) => build_relation(context, head, goals, draft)?,

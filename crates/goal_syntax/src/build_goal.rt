@@ -2,7 +2,8 @@
 
 ghost use Rattle.goal_syntax.specs.Building.InContext.{list_goal, goal_alone, made_after};
 ghost use Rattle.goal_syntax.specs.Building.InContext.{KeepsLowIn};
-ghost use Rattle.std.specs.Prelude.{List, ◌≡◌, ◌&&◌, ◌<◌, ◌≤◌, ◌+◌, ◌^◌, ◌∷◌, ◌++◌, [], length, reverse};
+ghost use Rattle.std.specs.Prelude.{List, ◌≡◌, ◌&&◌, ◌<◌, ◌≤◌, ◌+◌, ◌^◌, ◌∷◌, ◌++◌, [], length};
+ghost use Rattle.std.specs.Prelude.{reverse};
 ghost use Rattle.std.specs.Prelude.{true, IfOk, OnOk};
 ghost use Rattle.kan_grammar.specs.Texts.GoalForms.{goal_forms};
 ghost use Rattle.kan_grammar.specs.Texts.Resolved.{Names, within};
@@ -55,7 +56,8 @@ fn build_own(
     draft: &mut Draft,
     places: &mut Vec<u32>,
 ) -> Result<(), Memory>
-    requires room { HasRoomFor (own_size context.now.names.now (data_of context.now) goal) (tables draft.old) }
+    requires room { HasRoomFor
+        (own_size context.now.names.now (data_of context.now) goal) (tables draft.old) }
     requires few { length scope.now < 2 ^ 24 }
     requires below { are_below (length (tables draft.old).goals) places.old.items ≡ true }
     ensures made { OnOk result (built (tables draft.new) places.new.items
@@ -64,7 +66,9 @@ fn build_own(
     ensures below { OnOk result
         (are_below (length (tables draft.new).goals) places.new.items ≡ true) }
     ensures grows { OnOk result (Grows (tables draft.old) (tables draft.new)) }
-    ensures room { OnOk result (Adds (own_size context.now.names.now (data_of context.now) goal) (tables draft.old) (tables draft.new)) }
+    ensures room { OnOk result
+        (Adds (own_size context.now.names.now (data_of context.now) goal)
+        (tables draft.old) (tables draft.new)) }
     ensures low { OnOk result (KeepsLowIn context.now draft.old draft.new) }
     ensures narrow { OnOk result (Widens
         (made_width (built (tables draft.new) places.new.items))
@@ -154,11 +158,13 @@ fn build_goal(
     ensures room { OnOk result
         (entries (tables draft.new) + goals_entries context.now works.new.items
         ≤ entries (tables draft.old)
-        + (next_entries context.now (Work.Goal place) + goals_entries context.now works.old.items)) }
+        + (next_entries context.now (Work.Goal place)
+        + goals_entries context.now works.old.items)) }
     ensures few { OnOk result
         (length scope.new.items + goals_entries context.now works.new.items
         ≤ length scope.old.items
-        + (next_entries context.now (Work.Goal place) + goals_entries context.now works.old.items)) }
+        + (next_entries context.now (Work.Goal place)
+        + goals_entries context.now works.old.items)) }
     ensures low { OnOk result (KeepsLowIn context.now draft.old draft.new) }
     ensures wide { OnOk result
         (made_width (built (tables draft.new) places.new.items)
@@ -231,10 +237,12 @@ fn build_row(
     ensures room { OnOk result
         (entries (tables draft.new) + goals_entries context.now works.new.items
         ≤ entries (tables draft.old)
-        + (next_entries context.now (Work.Row row place) + goals_entries context.now works.old.items)) }
+        + (next_entries context.now (Work.Row row place)
+        + goals_entries context.now works.old.items)) }
     ensures few { OnOk result
         (goals_entries context.now works.new.items
-        ≤ next_entries context.now (Work.Row row place) + goals_entries context.now works.old.items) }
+        ≤ next_entries context.now (Work.Row row place)
+        + goals_entries context.now works.old.items) }
     ensures terms { OnOk result ((tables draft.new).terms ≡ (tables draft.old).terms) }
     ensures wide { OnOk result
         (made_width (built (tables draft.new) places.new.items)
@@ -279,10 +287,12 @@ fn build_clause(
     ensures room { OnOk result
         (entries (tables draft.new) + goals_entries context.now works.new.items
         ≤ entries (tables draft.old)
-        + (next_entries context.now (Work.Clause clause) + goals_entries context.now works.old.items)) }
+        + (next_entries context.now (Work.Clause clause)
+        + goals_entries context.now works.old.items)) }
     ensures few { OnOk result
         (goals_entries context.now works.new.items
-        ≤ next_entries context.now (Work.Clause clause) + goals_entries context.now works.old.items) }
+        ≤ next_entries context.now (Work.Clause clause)
+        + goals_entries context.now works.old.items) }
     ensures terms { OnOk result ((tables draft.new).terms ≡ (tables draft.old).terms) }
     ensures wide { OnOk result
         (made_width (built (tables draft.new) places.new.items)
@@ -367,13 +377,15 @@ pub(crate) fn build_goals(
     ensures made { IfOk result
         (λ at. HasGoal (tables draft.new) at (list_goal context.now scope.items place)) }
     ensures grows { OnOk result (Grows (tables draft.old) (tables draft.new)) }
-    ensures room { OnOk result (Adds (list_entries context.now place) (tables draft.old) (tables draft.new)) }
+    ensures room { OnOk result
+        (Adds (list_entries context.now place) (tables draft.old) (tables draft.new)) }
     ensures low { OnOk result (KeepsLowIn context.now draft.old draft.new) }
     ensures called { OnOk result
         ((rows : List RelationEntry) → are_there rows (tables draft.new).goals
         ≡ (are_there rows (tables draft.old).goals
         && calls_named rows (list_goal context.now scope.items place))) }
-    ensures narrow { OnOk result (Widens (list_width context.now place) (tables draft.old) (tables draft.new)) }
+    ensures narrow { OnOk result
+        (Widens (list_width context.now place) (tables draft.old) (tables draft.new)) }
 {
     let mut places = Vec::new(context.alloc);
     let mut works = Vec::new(context.alloc);

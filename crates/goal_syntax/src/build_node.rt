@@ -26,7 +26,8 @@ fn build_two(
     right: u32,
     draft: &mut Draft,
 ) -> Result<(u32, u32), Memory>
-    requires room { HasRoomFor (size (term_at context.now left) + size (term_at context.now right)) (tables draft.old) }
+    requires room { HasRoomFor
+        (size (term_at context.now left) + size (term_at context.now right)) (tables draft.old) }
     requires few { length scope.now < 2 ^ 24 }
     ensures left { IfOk result
         (λ made. HasTemplate (tables draft.new) made.0
@@ -35,7 +36,9 @@ fn build_two(
         (λ made. HasTemplate (tables draft.new) made.1
         (template_in scope.now (term_at context.now right))) }
     ensures grows { OnOk result (Grows (tables draft.old) (tables draft.new)) }
-    ensures room { OnOk result (Adds (size (term_at context.now left) + size (term_at context.now right)) (tables draft.old) (tables draft.new)) }
+    ensures room { OnOk result
+        (Adds (size (term_at context.now left) + size (term_at context.now right))
+        (tables draft.old) (tables draft.new)) }
     ensures low { OnOk result (KeepsLowIn context.now draft.old draft.new) }
     ensures same { OnOk result ((tables draft.new).goals ≡ (tables draft.old).goals) }
 {
@@ -58,12 +61,16 @@ pub(crate) fn build_node(
     goal: Goal,
     draft: &mut Draft,
 ) -> Result<Option<GoalNode>, Memory>
-    requires room { HasRoomFor (sides_size (step_goal (data_of context.now) context.now.names.now goal)) (tables draft.old) }
+    requires room { HasRoomFor
+        (sides_size (step_goal (data_of context.now) context.now.names.now goal))
+        (tables draft.old) }
     requires few { length scope.now < 2 ^ 24 }
     ensures made { IfOk result
         (λ node. StandsFor (tables draft.new) node (goal_alone context.now scope.now goal)) }
     ensures grows { OnOk result (Grows (tables draft.old) (tables draft.new)) }
-    ensures room { OnOk result (Adds (sides_size (step_goal (data_of context.now) context.now.names.now goal)) (tables draft.old) (tables draft.new)) }
+    ensures room { OnOk result
+        (Adds (sides_size (step_goal (data_of context.now) context.now.names.now goal))
+        (tables draft.old) (tables draft.new)) }
     ensures low { OnOk result (KeepsLowIn context.now draft.old draft.new) }
     ensures same { OnOk result ((tables draft.new).goals ≡ (tables draft.old).goals) }
 {

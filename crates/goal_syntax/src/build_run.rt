@@ -2,7 +2,8 @@
 
 ghost use Rattle.goal_syntax.specs.Building.InContext.{list_goal, goal_behind, run_goal};
 ghost use Rattle.goal_syntax.specs.Building.InContext.{fresh_goal};
-ghost use Rattle.std.specs.Prelude.{true, ◌≤◌, ◌≡◌, ◌&&◌, ◌<◌, ◌+◌, ◌^◌, ◌∷◌, [], List, length, IfOk};
+ghost use Rattle.std.specs.Prelude.{true, ◌≤◌, ◌≡◌, ◌&&◌, ◌<◌, ◌+◌, ◌^◌, ◌∷◌, [], List, length};
+ghost use Rattle.std.specs.Prelude.{IfOk};
 ghost use Rattle.std.specs.Prelude.{OnOk};
 ghost use Rattle.kan_model.specs.Programs.Goals as model;
 ghost use Rattle.kan_grammar.specs.Texts.GoalForms.{goal_forms};
@@ -43,11 +44,13 @@ pub(crate) fn build_one(
         (λ at. HasGoal (tables draft.new) at
         (list_goal context.now (within [] (symbol ∷ [])) goals)) }
     ensures grows { OnOk result (Grows (tables draft.old) (tables draft.new)) }
-    ensures room { OnOk result (Adds (1 + list_entries context.now goals) (tables draft.old) (tables draft.new)) }
+    ensures room { OnOk result
+        (Adds (1 + list_entries context.now goals) (tables draft.old) (tables draft.new)) }
     ensures closed { OnOk result
         (KeepsClosed (data_of context.now) (tables draft.old) (tables draft.new)
         (λ rows. calls_named rows (list_goal context.now (within [] (symbol ∷ [])) goals))) }
-    ensures narrow { OnOk result (Widens (list_width context.now goals) (tables draft.old) (tables draft.new)) }
+    ensures narrow { OnOk result
+        (Widens (list_width context.now goals) (tables draft.old) (tables draft.new)) }
 {
     let mut scope = Vec::new(context.alloc);
     scope.push(Some(symbol))?;
@@ -60,7 +63,8 @@ fn build_equation(bound: &[u32], draft: &mut Draft) -> Result<u32, Memory>
     requires room { HasRoomFor (3 + length bound.now + length bound.now) (tables draft.old) }
     ensures made { IfOk result (λ at. HasGoal (tables draft.new) at (asked_equation bound.now)) }
     ensures grows { OnOk result (Grows (tables draft.old) (tables draft.new)) }
-    ensures room { OnOk result (Adds (3 + length bound.now + length bound.now) (tables draft.old) (tables draft.new)) }
+    ensures room { OnOk result
+        (Adds (3 + length bound.now + length bound.now) (tables draft.old) (tables draft.new)) }
     ensures low { OnOk result
         (length bound.now ≤ 2048 → list_all is_low (templates draft.old)
         ≡ true → list_all is_low (templates draft.new) ≡ true) }
@@ -89,7 +93,8 @@ fn build_behind(
     ensures made { IfOk result (λ at. (g : model.Goal) → HasGoal (tables draft.old) first g →
         HasGoal (tables draft.new) at (goal_behind context.now g scope.items goals)) }
     ensures grows { OnOk result (Grows (tables draft.old) (tables draft.new)) }
-    ensures room { OnOk result (Adds (1 + list_entries context.now goals) (tables draft.old) (tables draft.new)) }
+    ensures room { OnOk result
+        (Adds (1 + list_entries context.now goals) (tables draft.old) (tables draft.new)) }
     ensures closed { OnOk result
         (KeepsClosed (data_of context.now) (tables draft.old) (tables draft.new)
         (λ rows. calls_named rows (list_goal context.now scope.items goals))) }
@@ -107,11 +112,17 @@ fn build_behind(
 
 // Builds the fresh goal of a run over a list of names, whose variable is the list of these.
 fn build_fresh(context: &Context, binder: u32, goals: u32, draft: &mut Draft) -> Result<u32, Memory>
-    requires room { HasRoomFor (5 + length (binder_at context.now binder).value + length (binder_at context.now binder).value + list_entries context.now goals) (tables draft.old) }
+    requires room { HasRoomFor
+        (5 + length (binder_at context.now binder).value
+        + length (binder_at context.now binder).value + list_entries context.now goals)
+        (tables draft.old) }
     ensures made { IfOk result
         (λ at. HasGoal (tables draft.new) at (fresh_goal context.now binder goals)) }
     ensures grows { OnOk result (Grows (tables draft.old) (tables draft.new)) }
-    ensures room { OnOk result (Adds (5 + length (binder_at context.now binder).value + length (binder_at context.now binder).value + list_entries context.now goals) (tables draft.old) (tables draft.new)) }
+    ensures room { OnOk result
+        (Adds (5 + length (binder_at context.now binder).value
+        + length (binder_at context.now binder).value + list_entries context.now goals)
+        (tables draft.old) (tables draft.new)) }
     ensures closed { OnOk result
         (KeepsClosed (data_of context.now) (tables draft.old) (tables draft.new)
         (λ rows. calls_named rows (fresh_goal context.now binder goals))) }
@@ -158,11 +169,17 @@ pub(crate) fn build_list(
     goals: u32,
     draft: &mut Draft,
 ) -> Result<u32, Memory>
-    requires room { HasRoomFor (6 + length (binder_at context.now binder).value + length (binder_at context.now binder).value + list_entries context.now goals) (tables draft.old) }
+    requires room { HasRoomFor
+        (6 + length (binder_at context.now binder).value
+        + length (binder_at context.now binder).value + list_entries context.now goals)
+        (tables draft.old) }
     ensures made { IfOk result
         (λ at. HasGoal (tables draft.new) at (run_goal context.now binder goals)) }
     ensures grows { OnOk result (Grows (tables draft.old) (tables draft.new)) }
-    ensures room { OnOk result (Adds (6 + length (binder_at context.now binder).value + length (binder_at context.now binder).value + list_entries context.now goals) (tables draft.old) (tables draft.new)) }
+    ensures room { OnOk result
+        (Adds (6 + length (binder_at context.now binder).value
+        + length (binder_at context.now binder).value + list_entries context.now goals)
+        (tables draft.old) (tables draft.new)) }
     ensures closed { OnOk result
         (KeepsClosed (data_of context.now) (tables draft.old) (tables draft.new)
         (λ rows. calls_named rows (run_goal context.now binder goals))) }

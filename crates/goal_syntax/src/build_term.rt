@@ -106,7 +106,8 @@ fn build_step(
     places: &mut Vec<u32>,
     works: &mut Vec<Work>,
 ) -> Result<(), Memory>
-    requires room { HasRoomFor (size (step_form (data_of context.now) context.now.names.now step)) (tables draft.old) }
+    requires room { HasRoomFor
+        (size (step_form (data_of context.now) context.now.names.now step)) (tables draft.old) }
     requires few { length scope.now < 2 ^ 24 }
     requires below { are_below (length (tables draft.old).terms) places.old.items ≡ true }
     ensures made { OnOk result
@@ -131,7 +132,8 @@ fn build_step(
     ensures room { OnOk result
         (entries (tables draft.new) + terms_entries context.now works.new.items
         ≤ entries (tables draft.old)
-        + ((size (step_form (data_of context.now) context.now.names.now step)) + terms_entries context.now works.old.items)) }
+        + (size (step_form (data_of context.now) context.now.names.now step)
+        + terms_entries context.now works.old.items)) }
 {
     match step {
         Step::Variable(_, symbol) => {
@@ -161,7 +163,8 @@ fn build_work(
     places: &mut Vec<u32>,
     works: &mut Vec<Work>,
 ) -> Result<(), Memory>
-    requires room { HasRoomFor (work_entries (data_of context.now) context.now.names.now work) (tables draft.old) }
+    requires room { HasRoomFor
+        (work_entries (data_of context.now) context.now.names.now work) (tables draft.old) }
     requires few { length scope.now < 2 ^ 24 }
     requires below { are_below (length (tables draft.old).terms) places.old.items ≡ true }
     ensures made { OnOk result
@@ -182,7 +185,8 @@ fn build_work(
     ensures room { OnOk result
         (entries (tables draft.new) + terms_entries context.now works.new.items
         ≤ entries (tables draft.old)
-        + (work_entries (data_of context.now) context.now.names.now work + terms_entries context.now works.old.items)) }
+        + (work_entries (data_of context.now) context.now.names.now work
+        + terms_entries context.now works.old.items)) }
 {
     match work {
         Work::Term(task) => {
@@ -206,7 +210,8 @@ pub(crate) fn build_term(
     ensures made { IfOk result
         (λ at. HasTemplate (tables draft.new) at (task_template context.now scope.now task)) }
     ensures grows { OnOk result (Grows (tables draft.old) (tables draft.new)) }
-    ensures room { OnOk result (Adds (task_entries context.now task) (tables draft.old) (tables draft.new)) }
+    ensures room { OnOk result
+        (Adds (task_entries context.now task) (tables draft.old) (tables draft.new)) }
     ensures same { OnOk result ((tables draft.new).goals ≡ (tables draft.old).goals) }
     ensures low { OnOk result (KeepsLowIn context.now draft.old draft.new) }
 {
@@ -236,7 +241,8 @@ fn build_terms(
         (term_templates context.now scope.now place)) }
     ensures adds { OnOk result (AddsTerms (tables draft.old) (tables draft.new)) }
     ensures low { OnOk result (KeepsLowIn context.now draft.old draft.new) }
-    ensures room { OnOk result (Adds (terms_size (terms_at context.now place)) (tables draft.old) (tables draft.new)) }
+    ensures room { OnOk result
+        (Adds (terms_size (terms_at context.now place)) (tables draft.old) (tables draft.new)) }
 {
     let mut places = Vec::new(context.alloc);
     while let Some((first, rest)) = pair_parts(context.flat, place) {
@@ -296,7 +302,8 @@ pub(crate) fn build_arguments(
         (λ made. HasArguments (tables draft.new) made.0 made.1
         (term_templates context.now scope.now place)) }
     ensures grows { OnOk result (Grows (tables draft.old) (tables draft.new)) }
-    ensures room { OnOk result (Adds (arguments_size (terms_at context.now place)) (tables draft.old) (tables draft.new)) }
+    ensures room { OnOk result
+        (Adds (arguments_size (terms_at context.now place)) (tables draft.old) (tables draft.new)) }
     ensures same { OnOk result ((tables draft.new).goals ≡ (tables draft.old).goals) }
     ensures low { OnOk result (KeepsLowIn context.now draft.old draft.new) }
 {
@@ -310,7 +317,8 @@ pub(crate) fn build_slots(bound: &[u32], draft: &mut Draft) -> Result<u32, Memor
     requires room { HasRoomFor (1 + length bound.now + length bound.now) (tables draft.old) }
     ensures made { IfOk result (λ at. HasTemplate (tables draft.new) at (slot_list 1 bound.now)) }
     ensures grows { OnOk result (Grows (tables draft.old) (tables draft.new)) }
-    ensures room { OnOk result (Adds (1 + length bound.now + length bound.now) (tables draft.old) (tables draft.new)) }
+    ensures room { OnOk result
+        (Adds (1 + length bound.now + length bound.now) (tables draft.old) (tables draft.new)) }
     ensures same { OnOk result ((tables draft.new).goals ≡ (tables draft.old).goals) }
     ensures low { OnOk result
         (length bound.now ≤ 2048 → list_all is_low (templates draft.old)

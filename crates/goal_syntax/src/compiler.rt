@@ -4,7 +4,8 @@ ghost use Rattle.goal_syntax.specs.Building.InContext.{form_relations, form_name
 ghost use Rattle.goal_syntax.specs.Building.InContext.{forms_queries, forms_names};
 ghost use Rattle.goal_syntax.specs.Building.FormsBuilt.{relation_names, entry_names, AddsNames};
 ghost use Rattle.goal_syntax.specs.Building.FormsBuilt.{AddsRelations, AddsForms};
-ghost use Rattle.std.specs.Prelude.{[], ◌≡◌, ◌&&◌, ◌+◌, ◌*◌, ◌<◌, ◌≤◌, ◌^◌, ◌++◌, length, map, true, IfOk};
+ghost use Rattle.std.specs.Prelude.{[], ◌≡◌, ◌&&◌, ◌+◌, ◌*◌, ◌<◌, ◌≤◌, ◌^◌, ◌++◌, length, map};
+ghost use Rattle.std.specs.Prelude.{true, IfOk};
 ghost use Rattle.std.specs.Prelude.{OnOk};
 ghost use Rattle.std.specs.List.{list_all};
 ghost use Rattle.kan_grammar.specs.Texts.TextNames.{with_prefixes};
@@ -64,12 +65,15 @@ pub struct Compiled {
 
 // Builds the relation of a top form of a library, which has no runs.
 fn build_library_form(context: &Context, place: u32, draft: &mut Draft) -> Result<(), Memory>
-    requires room { HasRoomFor (form_size (form context.now.names.now (datum_at context.now place))) (tables draft.old) }
+    requires room { HasRoomFor
+        (form_size (form context.now.names.now (datum_at context.now place))) (tables draft.old) }
     ensures means { OnOk result (AddsRelations (tables draft.old) (tables draft.new)
         (form_relations context.now place)) }
     ensures names { OnOk result
         (AddsNames (tables draft.old) (tables draft.new) (form_names context.now place)) }
-    ensures room { OnOk result (Adds (form_size (form context.now.names.now (datum_at context.now place))) (tables draft.old) (tables draft.new)) }
+    ensures room { OnOk result
+        (Adds (form_size (form context.now.names.now (datum_at context.now place)))
+        (tables draft.old) (tables draft.new)) }
     ensures closed { OnOk result
         (KeepsClosed (data_of context.now) (tables draft.old) (tables draft.new)
         (bodies_named (form_relations context.now place))) }
@@ -90,11 +94,13 @@ fn build_library(context: &Context, forms: &[u32], draft: &mut Draft) -> Result<
         (forms_relations context.now forms.now)) }
     ensures names { OnOk result
         (AddsNames (tables draft.old) (tables draft.new) (forms_names context.now forms.now)) }
-    ensures room { OnOk result (Adds (forms_entries context.now forms.now) (tables draft.old) (tables draft.new)) }
+    ensures room { OnOk result
+        (Adds (forms_entries context.now forms.now) (tables draft.old) (tables draft.new)) }
     ensures closed { OnOk result
         (KeepsClosed (data_of context.now) (tables draft.old) (tables draft.new)
         (bodies_named (forms_relations context.now forms.now))) }
-    ensures narrow { OnOk result (Widens (widest_form context.now forms.now) (tables draft.old) (tables draft.new)) }
+    ensures narrow { OnOk result
+        (Widens (widest_form context.now forms.now) (tables draft.old) (tables draft.new)) }
 {
     for place in forms {
         build_library_form(context, *place, draft)?;
@@ -116,11 +122,13 @@ fn build_text(
         (forms_queries context.now forms.now)) }
     ensures names { OnOk result
         (AddsNames (tables draft.old) (tables draft.new) (forms_names context.now forms.now)) }
-    ensures room { OnOk result (Adds (forms_entries context.now forms.now) (tables draft.old) (tables draft.new)) }
+    ensures room { OnOk result
+        (Adds (forms_entries context.now forms.now) (tables draft.old) (tables draft.new)) }
     ensures closed { OnOk result
         (KeepsClosed (data_of context.now) (tables draft.old) (tables draft.new)
         (all_named (forms_relations context.now forms.now) (forms_queries context.now forms.now))) }
-    ensures narrow { OnOk result (Widens (widest_form context.now forms.now) (tables draft.old) (tables draft.new)) }
+    ensures narrow { OnOk result
+        (Widens (widest_form context.now forms.now) (tables draft.old) (tables draft.new)) }
 {
     for place in forms {
         build_form(

@@ -131,8 +131,8 @@ list_entries context place = goals_size (goals_at context place)
 abbrev pub forms_entries : Context → List ℕ → ℕ
 forms_entries context places = forms_size context.names.now (data_at context places)
 
--- how wide the goals of a piece of work are, of all work that is left, and of a list; and the widest
--- of the top forms at places
+-- how wide the goals of a piece of work are, of all work that is left, and of a list; and the
+-- widest of the top forms at places
 abbrev pub next_width : Context → Work → ℕ
 next_width context work = work_width context.names.now (data_of context) work
 
