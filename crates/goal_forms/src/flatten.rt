@@ -177,7 +177,8 @@ fn turn_datum<'a>(
 ) -> Result<(), Memory>
     requires numbered { AreNumbered names.now prefixes.now }
     requires below { are_below (length (sites table.old)) places.old.items ≡ true }
-    requires room { length (sites table.old) + work_parts names.now (works_of.Datum datum) ≤ 2 ^ 32 }
+    requires room { length (sites table.old)
+        + work_parts names.now (works_of.Datum datum) ≤ 2 ^ 32 }
     ensures made { OnOk result
         (finish names.now (reverse works.new.items) (kept (sites table.new) places.new.items)
         ≡ finish names.now (works_of.Datum datum.entry ∷ reverse works.old.items)
@@ -193,7 +194,8 @@ fn turn_datum<'a>(
     ensures parts { OnOk result
         (length (sites table.new) + works_parts names.now works.new.items
         ≤ length (sites table.old)
-        + (work_parts names.now (works_of.Datum datum.entry) + works_parts names.now works.old.items)) }
+        + (work_parts names.now (works_of.Datum datum.entry)
+        + works_parts names.now works.old.items)) }
 {
     match &datum.kind {
         DatumKind::Symbol(symbol) => make(datum.at, symbol_part(names, *symbol), table, places)?,
@@ -224,7 +226,8 @@ fn turn_rest<'a>(
     works: &mut Vec<Work<'a>>,
 ) -> Result<(), Memory>
     requires below { are_below (length (sites table.old)) places.old.items ≡ true }
-    requires room { length (sites table.old) + work_parts names.now (works_of.Rest items last at) ≤ 2 ^ 32 }
+    requires room { length (sites table.old)
+        + work_parts names.now (works_of.Rest items last at) ≤ 2 ^ 32 }
     ensures made { OnOk result
         (finish names.now (reverse works.new.items) (kept (sites table.new) places.new.items)
         ≡ finish names.now (works_of.Rest items.entry last.entry at ∷ reverse works.old.items)
@@ -241,7 +244,8 @@ fn turn_rest<'a>(
     ensures parts { OnOk result
         (length (sites table.new) + works_parts names.now works.new.items
         ≤ length (sites table.old)
-        + (work_parts names.now (works_of.Rest items.entry last.entry at) + works_parts names.now works.old.items)) }
+        + (work_parts names.now (works_of.Rest items.entry last.entry at)
+        + works_parts names.now works.old.items)) }
 {
     if let Some((first, rest)) = items.split_first() {
         works.push(Work::Pair(at))?;

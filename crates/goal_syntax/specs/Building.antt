@@ -1,8 +1,10 @@
 -- The tables of a program, as they are built.
 pub mod GrownTables
+pub mod Entries
 pub mod TermsLeft
 pub mod TermHeights
 pub mod GoalsBuilt
+pub mod Widths
 pub mod GoalsLeft
 pub mod FormsBuilt
 pub mod CallsThere

@@ -2,7 +2,7 @@
 
 ghost use Rattle.goal_syntax.specs.Building.InContext.{list_goal, relation_at, relations_parsed};
 ghost use Rattle.goal_syntax.specs.Building.InContext.{queries_parsed, names_parsed};
-ghost use Rattle.std.specs.Prelude.{◌≡◌, ◌&&◌, ◌<◌, ◌∷◌, ◌++◌, [], length, IfOk, OnOk};
+ghost use Rattle.std.specs.Prelude.{◌≡◌, ◌&&◌, ◌<◌, ◌+◌, ◌∷◌, ◌++◌, [], length, IfOk, OnOk};
 ghost use Rattle.kan_model.specs.Programs.Goals as model;
 ghost use Rattle.kan_grammar.specs.Texts.TopForms.{head_name};
 ghost use Rattle.kan_grammar.specs.Texts.GoalForms.{goal_forms};
@@ -10,37 +10,37 @@ ghost use Rattle.kan_grammar.specs.Texts.Resolved.{within};
 ghost use Rattle.kan_model.specs.Programs.Drafts.{tables};
 ghost use Rattle.kan_model.specs.Programs.Nodes.{relation_entry};
 ghost use Rattle.kan_model.specs.Programs.Tables.{with_relation};
-ghost use Rattle.goal_forms.specs.Contexts.{data_of, datum_at};
+ghost use Rattle.goal_forms.specs.Contexts.{data_of, datum_at, form_of, head_at};
 ghost use Rattle.goal_syntax.specs.Building.CallsThere.{KeepsClosed, all_named, bodies_named};
 ghost use Rattle.goal_syntax.specs.Building.CallsThere.{calls_named};
 ghost use Rattle.goal_syntax.specs.Building.FormsBuilt.{name_symbol, query_asked, AddsNames};
 ghost use Rattle.goal_syntax.specs.Building.FormsBuilt.{AddsRelations, AddsForms};
-ghost use Rattle.goal_syntax.specs.Building.GrownTables.{HasGoal, Grows, HasRoom};
+ghost use Rattle.goal_syntax.specs.Building.GrownTables.{HasGoal, Grows};
+ghost use Rattle.goal_syntax.specs.Building.Entries.{Adds, HasRoomFor, form_size};
+ghost use Rattle.goal_syntax.specs.Building.InContext.{list_entries};
 ghost use Rattle.goal_forms.specs.FormSteps.{limit_at};
 ghost use Rattle.goal_forms.specs.Parts.{sites, site_at};
+ghost use Rattle.goal_syntax.specs.Building.Widths.{Widens, form_width};
+ghost use Rattle.goal_syntax.specs.Building.InContext.{list_width};
 
 use crate::build_goal::build_goals;
 use crate::build_run::{build_list, build_one};
 use crate::compiler::Queries;
-use crate::drafting::MOST_ENTRIES;
 use goal_forms::{Context, FlatData, Form, enter, head_name, head_params, limit};
 use kan_model::{Draft, Query, Relation};
 use kan_terms::Memory;
 
-// Adds a relation. A full table has no memory left.
+// Adds a relation.
 fn add_relation(draft: &mut Draft, relation: Relation) -> Result<(), Memory>
     requires there { relation.body < length (tables draft.old).goals }
-    requires room { HasRoom (tables draft.old) }
+    requires room { HasRoomFor 1 (tables draft.old) }
     ensures added { OnOk result
         (tables draft.new ≡ with_relation (tables draft.old) (relation_entry relation)) }
-    ensures room { OnOk result (HasRoom (tables draft.new)) }
+    ensures room { OnOk result (Adds 1 (tables draft.old) (tables draft.new)) }
+    ensures narrow { OnOk result (Widens 0 (tables draft.old) (tables draft.new)) }
 {
-    let at = draft.relation(relation)?;
-    if at < MOST_ENTRIES {
-        Ok(())
-    } else {
-        Err(Memory)
-    }
+    draft.relation(relation)?;
+    Ok(())
 }
 
 // The symbol of a relation's name; one that is none stands for the first symbol.
@@ -60,14 +60,19 @@ fn build_body(
     goals: u32,
     draft: &mut Draft,
 ) -> Result<u32, Memory>
-    requires room { HasRoom (tables draft.old) }
+    requires room { HasRoomFor
+        (length params.now + list_entries context.now goals) (tables draft.old) }
     ensures made { IfOk result
         (λ at. HasGoal (tables draft.new) at (list_goal context.now (within [] params.now) goals)) }
     ensures grows { OnOk result (Grows (tables draft.old) (tables draft.new)) }
-    ensures room { OnOk result (HasRoom (tables draft.new)) }
+    ensures room { OnOk result
+        (Adds (length params.now + list_entries context.now goals)
+        (tables draft.old) (tables draft.new)) }
     ensures closed { OnOk result
         (KeepsClosed (data_of context.now) (tables draft.old) (tables draft.new)
         (λ rows. calls_named rows (list_goal context.now (within [] params.now) goals))) }
+    ensures narrow { OnOk result
+        (Widens (list_width context.now goals) (tables draft.old) (tables draft.new)) }
 {
     let mut scope = Vec::new(context.alloc);
     enter(params, &mut scope)?;
@@ -82,16 +87,22 @@ pub(crate) fn build_relation(
     goals: u32,
     draft: &mut Draft,
 ) -> Result<(), Memory>
-    requires room { HasRoom (tables draft.old) }
+    requires room { HasRoomFor
+        (1 + length (head_at context.now head).value + list_entries context.now goals)
+        (tables draft.old) }
     ensures means { OnOk result (AddsRelations (tables draft.old) (tables draft.new)
         (relation_at context.now head goals ∷ [])) }
     ensures names { OnOk result
         (AddsNames (tables draft.old) (tables draft.new)
         (name_symbol (head_name (datum_at context.now head)) ∷ [])) }
-    ensures room { OnOk result (HasRoom (tables draft.new)) }
+    ensures room { OnOk result
+        (Adds (1 + length (head_at context.now head).value + list_entries context.now goals)
+        (tables draft.old) (tables draft.new)) }
     ensures closed { OnOk result
         (KeepsClosed (data_of context.now) (tables draft.old) (tables draft.new)
         (bodies_named (relation_at context.now head goals ∷ []))) }
+    ensures narrow { OnOk result
+        (Widens (list_width context.now goals) (tables draft.old) (tables draft.new)) }
 {
     let bound = head_params(context.alloc, context.flat, head)?;
     let params = bound.len() as u32;
@@ -133,17 +144,20 @@ pub(crate) fn build_form(
     draft: &mut Draft,
     queries: &mut Queries,
 ) -> Result<(), Memory>
-    requires room { HasRoom (tables draft.old) }
+    requires room { HasRoomFor (form_size (form_of context.now form)) (tables draft.old) }
     ensures means { OnOk result
         (AddsForms (tables draft.old) (tables draft.new) queries.old queries.new
         (relations_parsed context.now form)
         (queries_parsed context.now form)) }
     ensures names { OnOk result
         (AddsNames (tables draft.old) (tables draft.new) (names_parsed context.now form)) }
-    ensures room { OnOk result (HasRoom (tables draft.new)) }
+    ensures room { OnOk result
+        (Adds (form_size (form_of context.now form)) (tables draft.old) (tables draft.new)) }
     ensures closed { OnOk result
         (KeepsClosed (data_of context.now) (tables draft.old) (tables draft.new)
         (all_named (relations_parsed context.now form) (queries_parsed context.now form))) }
+    ensures narrow { OnOk result
+        (Widens (form_width (form_of context.now form)) (tables draft.old) (tables draft.new)) }
 {
     match form {
         Form::Relation(head, goals) => build_relation(context, head, goals, draft)?,

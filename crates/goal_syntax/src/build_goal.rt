@@ -2,7 +2,8 @@
 
 ghost use Rattle.goal_syntax.specs.Building.InContext.{list_goal, goal_alone, made_after};
 ghost use Rattle.goal_syntax.specs.Building.InContext.{KeepsLowIn};
-ghost use Rattle.std.specs.Prelude.{List, ◌≡◌, ◌&&◌, ◌<◌, ◌≤◌, ◌+◌, ◌∷◌, ◌++◌, [], length, reverse};
+ghost use Rattle.std.specs.Prelude.{List, ◌≡◌, ◌&&◌, ◌<◌, ◌≤◌, ◌+◌, ◌^◌, ◌∷◌, ◌++◌, [], length};
+ghost use Rattle.std.specs.Prelude.{reverse};
 ghost use Rattle.std.specs.Prelude.{true, IfOk, OnOk};
 ghost use Rattle.kan_grammar.specs.Texts.GoalForms.{goal_forms};
 ghost use Rattle.kan_grammar.specs.Texts.Resolved.{Names, within};
@@ -11,12 +12,16 @@ ghost use Rattle.goal_forms.specs.Contexts.{data_of, datum_at, binder_at};
 ghost use Rattle.kan_model.specs.Programs.Tables.{RelationEntry};
 ghost use Rattle.goal_syntax.specs.Building.CallsThere.{are_there, calls_named};
 ghost use Rattle.goal_syntax.specs.Building.GoalsBuilt.{built, with_maybe};
-ghost use Rattle.goal_syntax.specs.Building.GrownTables.{HasGoal, Grows, HasRoom};
+ghost use Rattle.goal_syntax.specs.Building.GrownTables.{HasGoal, Grows};
+ghost use Rattle.goal_syntax.specs.Building.Entries.{Adds, HasRoomFor, entries};
+ghost use Rattle.goal_syntax.specs.Building.InContext.{goals_entries, list_entries, next_entries};
 ghost use Rattle.goal_forms.specs.GoalSteps.{inner_names};
 ghost use Rattle.goal_syntax.specs.Building.GoalsLeft.{first_work, inner_works, other_works};
-ghost use Rattle.goal_syntax.specs.Building.GoalsLeft.{work_size, works_size};
+ghost use Rattle.goal_syntax.specs.Building.GoalsLeft.{own_size, work_size, works_size};
 ghost use Rattle.goal_forms.specs.Shapes.{parts};
 ghost use Rattle.goal_forms.specs.Places.{are_below};
+ghost use Rattle.goal_syntax.specs.Building.Widths.{Widens, made_width};
+ghost use Rattle.goal_syntax.specs.Building.InContext.{left_width, list_width, next_width};
 
 use crate::build_node::build_node;
 use crate::join_goal::{Row, add_slots, join_two, make, suspend};
@@ -51,7 +56,9 @@ fn build_own(
     draft: &mut Draft,
     places: &mut Vec<u32>,
 ) -> Result<(), Memory>
-    requires room { HasRoom (tables draft.old) }
+    requires room { HasRoomFor
+        (own_size context.now.names.now (data_of context.now) goal) (tables draft.old) }
+    requires few { length scope.now < 2 ^ 24 }
     requires below { are_below (length (tables draft.old).goals) places.old.items ≡ true }
     ensures made { OnOk result (built (tables draft.new) places.new.items
         ≡ with_maybe (goal_alone context.now scope.now goal)
@@ -59,8 +66,13 @@ fn build_own(
     ensures below { OnOk result
         (are_below (length (tables draft.new).goals) places.new.items ≡ true) }
     ensures grows { OnOk result (Grows (tables draft.old) (tables draft.new)) }
-    ensures room { OnOk result (HasRoom (tables draft.new)) }
+    ensures room { OnOk result
+        (Adds (own_size context.now.names.now (data_of context.now) goal)
+        (tables draft.old) (tables draft.new)) }
     ensures low { OnOk result (KeepsLowIn context.now draft.old draft.new) }
+    ensures narrow { OnOk result (Widens
+        (made_width (built (tables draft.new) places.new.items))
+        (tables draft.old) (tables draft.new)) }
 {
     if let Some(node) = build_node(context, scope, goal, draft)? {
         make(node, draft, places)?;
@@ -128,7 +140,8 @@ fn build_goal(
     places: &mut Vec<u32>,
     works: &mut Vec<Work>,
 ) -> Result<(), Memory>
-    requires room { HasRoom (tables draft.old) }
+    requires room { HasRoomFor (next_entries context.now (Work.Goal place)) (tables draft.old) }
+    requires few { length scope.old.items + next_entries context.now (Work.Goal place) < 2 ^ 24 }
     requires below { are_below (length (tables draft.old).goals) places.old.items ≡ true }
     ensures made { OnOk result (
         made_after context.now scope.new.items (reverse works.new.items)
@@ -142,8 +155,25 @@ fn build_goal(
     ensures below { OnOk result
         (are_below (length (tables draft.new).goals) places.new.items ≡ true) }
     ensures grows { OnOk result (Grows (tables draft.old) (tables draft.new)) }
-    ensures room { OnOk result (HasRoom (tables draft.new)) }
+    ensures room { OnOk result
+        (entries (tables draft.new) + goals_entries context.now works.new.items
+        ≤ entries (tables draft.old)
+        + (next_entries context.now (Work.Goal place)
+        + goals_entries context.now works.old.items)) }
+    ensures few { OnOk result
+        (length scope.new.items + goals_entries context.now works.new.items
+        ≤ length scope.old.items
+        + (next_entries context.now (Work.Goal place)
+        + goals_entries context.now works.old.items)) }
     ensures low { OnOk result (KeepsLowIn context.now draft.old draft.new) }
+    ensures wide { OnOk result
+        (made_width (built (tables draft.new) places.new.items)
+        + left_width context.now works.new.items
+        ≤ made_width (built (tables draft.old) places.old.items)
+        + (next_width context.now (Work.Goal place) + left_width context.now works.old.items)) }
+    ensures narrow { OnOk result (Widens
+        (made_width (built (tables draft.new) places.new.items))
+        (tables draft.old) (tables draft.new)) }
 {
     let goal = parse_goal(context.flat, context.names, place);
     build_own(context, scope, goal, draft, places)?;
@@ -190,7 +220,7 @@ fn build_row(
     places: &mut Vec<u32>,
     works: &mut Vec<Work>,
 ) -> Result<(), Memory>
-    requires room { HasRoom (tables draft.old) }
+    requires room { HasRoomFor (next_entries context.now (Work.Row row place)) (tables draft.old) }
     requires below { are_below (length (tables draft.old).goals) places.old.items ≡ true }
     ensures made { OnOk result ((ns : Names) →
         made_after context.now ns (reverse works.new.items)
@@ -204,8 +234,24 @@ fn build_row(
     ensures below { OnOk result
         (are_below (length (tables draft.new).goals) places.new.items ≡ true) }
     ensures grows { OnOk result (Grows (tables draft.old) (tables draft.new)) }
-    ensures room { OnOk result (HasRoom (tables draft.new)) }
+    ensures room { OnOk result
+        (entries (tables draft.new) + goals_entries context.now works.new.items
+        ≤ entries (tables draft.old)
+        + (next_entries context.now (Work.Row row place)
+        + goals_entries context.now works.old.items)) }
+    ensures few { OnOk result
+        (goals_entries context.now works.new.items
+        ≤ next_entries context.now (Work.Row row place)
+        + goals_entries context.now works.old.items) }
     ensures terms { OnOk result ((tables draft.new).terms ≡ (tables draft.old).terms) }
+    ensures wide { OnOk result
+        (made_width (built (tables draft.new) places.new.items)
+        + left_width context.now works.new.items
+        ≤ made_width (built (tables draft.old) places.old.items)
+        + (next_width context.now (Work.Row row place) + left_width context.now works.old.items)) }
+    ensures narrow { OnOk result (Widens
+        (made_width (built (tables draft.new) places.new.items))
+        (tables draft.old) (tables draft.new)) }
 {
     if let Some((first, rest)) = pair_parts(context.flat, place) {
         wait_for_others(context, row, rest, works)?;
@@ -224,7 +270,7 @@ fn build_clause(
     places: &mut Vec<u32>,
     works: &mut Vec<Work>,
 ) -> Result<(), Memory>
-    requires room { HasRoom (tables draft.old) }
+    requires room { HasRoomFor (next_entries context.now (Work.Clause clause)) (tables draft.old) }
     requires below { are_below (length (tables draft.old).goals) places.old.items ≡ true }
     ensures made { OnOk result ((ns : Names) →
         made_after context.now ns (reverse works.new.items)
@@ -238,8 +284,24 @@ fn build_clause(
     ensures below { OnOk result
         (are_below (length (tables draft.new).goals) places.new.items ≡ true) }
     ensures grows { OnOk result (Grows (tables draft.old) (tables draft.new)) }
-    ensures room { OnOk result (HasRoom (tables draft.new)) }
+    ensures room { OnOk result
+        (entries (tables draft.new) + goals_entries context.now works.new.items
+        ≤ entries (tables draft.old)
+        + (next_entries context.now (Work.Clause clause)
+        + goals_entries context.now works.old.items)) }
+    ensures few { OnOk result
+        (goals_entries context.now works.new.items
+        ≤ next_entries context.now (Work.Clause clause)
+        + goals_entries context.now works.old.items) }
     ensures terms { OnOk result ((tables draft.new).terms ≡ (tables draft.old).terms) }
+    ensures wide { OnOk result
+        (made_width (built (tables draft.new) places.new.items)
+        + left_width context.now works.new.items
+        ≤ made_width (built (tables draft.old) places.old.items)
+        + (next_width context.now (Work.Clause clause) + left_width context.now works.old.items)) }
+    ensures narrow { OnOk result (Widens
+        (made_width (built (tables draft.new) places.new.items))
+        (tables draft.old) (tables draft.new)) }
 {
     if is_proper(context.flat, clause) {
         works.push(Work::Row(Row::All, clause))?;
@@ -258,7 +320,8 @@ fn build_next(
     places: &mut Vec<u32>,
     works: &mut Vec<Work>,
 ) -> Result<(), Memory>
-    requires room { HasRoom (tables draft.old) }
+    requires room { HasRoomFor (next_entries context.now work) (tables draft.old) }
+    requires few { length scope.old.items + next_entries context.now work < 2 ^ 24 }
     requires below { are_below (length (tables draft.old).goals) places.old.items ≡ true }
     ensures made { OnOk result (
         made_after context.now scope.new.items (reverse works.new.items)
@@ -271,8 +334,23 @@ fn build_next(
     ensures below { OnOk result
         (are_below (length (tables draft.new).goals) places.new.items ≡ true) }
     ensures grows { OnOk result (Grows (tables draft.old) (tables draft.new)) }
-    ensures room { OnOk result (HasRoom (tables draft.new)) }
+    ensures room { OnOk result
+        (entries (tables draft.new) + goals_entries context.now works.new.items
+        ≤ entries (tables draft.old)
+        + (next_entries context.now work + goals_entries context.now works.old.items)) }
+    ensures few { OnOk result
+        (length scope.new.items + goals_entries context.now works.new.items
+        ≤ length scope.old.items
+        + (next_entries context.now work + goals_entries context.now works.old.items)) }
     ensures low { OnOk result (KeepsLowIn context.now draft.old draft.new) }
+    ensures wide { OnOk result
+        (made_width (built (tables draft.new) places.new.items)
+        + left_width context.now works.new.items
+        ≤ made_width (built (tables draft.old) places.old.items)
+        + (next_width context.now work + left_width context.now works.old.items)) }
+    ensures narrow { OnOk result (Widens
+        (made_width (built (tables draft.new) places.new.items))
+        (tables draft.old) (tables draft.new)) }
 {
     match work {
         Work::Goal(place) => build_goal(context, place, scope, draft, places, works)?,
@@ -294,16 +372,20 @@ pub(crate) fn build_goals(
     mut scope: Vec<Option<u32>>,
     draft: &mut Draft,
 ) -> Result<u32, Memory>
-    requires room { HasRoom (tables draft.old) }
+    requires room { HasRoomFor (list_entries context.now place) (tables draft.old) }
+    requires few { length scope.items + list_entries context.now place < 2 ^ 24 }
     ensures made { IfOk result
         (λ at. HasGoal (tables draft.new) at (list_goal context.now scope.items place)) }
     ensures grows { OnOk result (Grows (tables draft.old) (tables draft.new)) }
-    ensures room { OnOk result (HasRoom (tables draft.new)) }
+    ensures room { OnOk result
+        (Adds (list_entries context.now place) (tables draft.old) (tables draft.new)) }
     ensures low { OnOk result (KeepsLowIn context.now draft.old draft.new) }
     ensures called { OnOk result
         ((rows : List RelationEntry) → are_there rows (tables draft.new).goals
         ≡ (are_there rows (tables draft.old).goals
         && calls_named rows (list_goal context.now scope.items place))) }
+    ensures narrow { OnOk result
+        (Widens (list_width context.now place) (tables draft.old) (tables draft.new)) }
 {
     let mut places = Vec::new(context.alloc);
     let mut works = Vec::new(context.alloc);

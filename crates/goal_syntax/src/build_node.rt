@@ -1,13 +1,16 @@
 //! Building goals that have no goals in them.
 
 ghost use Rattle.goal_syntax.specs.Building.InContext.{goal_alone, KeepsLowIn};
-ghost use Rattle.std.specs.Prelude.{◌≡◌, IfOk, OnOk};
+ghost use Rattle.std.specs.Prelude.{◌≡◌, ◌+◌, ◌<◌, ◌^◌, length, IfOk, OnOk};
 ghost use Rattle.kan_grammar.specs.Texts.Binders.{tag as tag_of};
 ghost use Rattle.kan_grammar.specs.Texts.Resolved.{template_in};
 ghost use Rattle.kan_model.specs.Programs.Drafts.{tables};
-ghost use Rattle.goal_forms.specs.Contexts.{datum_at, term_at};
+ghost use Rattle.goal_forms.specs.Contexts.{data_of, datum_at, term_at};
 ghost use Rattle.goal_syntax.specs.Building.GoalsBuilt.{StandsFor};
-ghost use Rattle.goal_syntax.specs.Building.GrownTables.{HasTemplate, Grows, HasRoom};
+ghost use Rattle.goal_syntax.specs.Building.GrownTables.{HasTemplate, Grows};
+ghost use Rattle.goal_syntax.specs.Building.Entries.{Adds, HasRoomFor, sides_size};
+ghost use Rattle.goal_forms.specs.GoalSteps.{step_goal};
+ghost use Rattle.kan_terms.specs.Tree.{size};
 ghost use Rattle.goal_forms.specs.RelationTables.{relations};
 
 use crate::build_term::{build_arguments, build_term};
@@ -23,7 +26,9 @@ fn build_two(
     right: u32,
     draft: &mut Draft,
 ) -> Result<(u32, u32), Memory>
-    requires room { HasRoom (tables draft.old) }
+    requires room { HasRoomFor
+        (size (term_at context.now left) + size (term_at context.now right)) (tables draft.old) }
+    requires few { length scope.now < 2 ^ 24 }
     ensures left { IfOk result
         (λ made. HasTemplate (tables draft.new) made.0
         (template_in scope.now (term_at context.now left))) }
@@ -31,7 +36,9 @@ fn build_two(
         (λ made. HasTemplate (tables draft.new) made.1
         (template_in scope.now (term_at context.now right))) }
     ensures grows { OnOk result (Grows (tables draft.old) (tables draft.new)) }
-    ensures room { OnOk result (HasRoom (tables draft.new)) }
+    ensures room { OnOk result
+        (Adds (size (term_at context.now left) + size (term_at context.now right))
+        (tables draft.old) (tables draft.new)) }
     ensures low { OnOk result (KeepsLowIn context.now draft.old draft.new) }
     ensures same { OnOk result ((tables draft.new).goals ≡ (tables draft.old).goals) }
 {
@@ -54,11 +61,16 @@ pub(crate) fn build_node(
     goal: Goal,
     draft: &mut Draft,
 ) -> Result<Option<GoalNode>, Memory>
-    requires room { HasRoom (tables draft.old) }
+    requires room { HasRoomFor
+        (sides_size (step_goal (data_of context.now) context.now.names.now goal))
+        (tables draft.old) }
+    requires few { length scope.now < 2 ^ 24 }
     ensures made { IfOk result
         (λ node. StandsFor (tables draft.new) node (goal_alone context.now scope.now goal)) }
     ensures grows { OnOk result (Grows (tables draft.old) (tables draft.new)) }
-    ensures room { OnOk result (HasRoom (tables draft.new)) }
+    ensures room { OnOk result
+        (Adds (sides_size (step_goal (data_of context.now) context.now.names.now goal))
+        (tables draft.old) (tables draft.new)) }
     ensures low { OnOk result (KeepsLowIn context.now draft.old draft.new) }
     ensures same { OnOk result ((tables draft.new).goals ≡ (tables draft.old).goals) }
 {

@@ -2,19 +2,27 @@
 
 ghost use Rattle.goal_syntax.specs.Building.InContext.{list_goal, goal_behind, run_goal};
 ghost use Rattle.goal_syntax.specs.Building.InContext.{fresh_goal};
-ghost use Rattle.std.specs.Prelude.{true, ◌≤◌, ◌≡◌, ◌&&◌, ◌<◌, ◌^◌, ◌∷◌, [], List, length, IfOk};
+ghost use Rattle.std.specs.Prelude.{true, ◌≤◌, ◌≡◌, ◌&&◌, ◌<◌, ◌+◌, ◌^◌, ◌∷◌, [], List, length};
+ghost use Rattle.std.specs.Prelude.{IfOk};
 ghost use Rattle.std.specs.Prelude.{OnOk};
 ghost use Rattle.kan_model.specs.Programs.Goals as model;
 ghost use Rattle.kan_grammar.specs.Texts.GoalForms.{goal_forms};
 ghost use Rattle.kan_grammar.specs.Texts.Resolved.{suspended_in, within};
 ghost use Rattle.kan_model.specs.Programs.Drafts.{tables, templates};
-ghost use Rattle.goal_forms.specs.Contexts.{data_of};
+ghost use Rattle.goal_forms.specs.Contexts.{data_of, binder_at};
 ghost use Rattle.goal_syntax.specs.Building.CallsThere.{KeepsClosed, are_there, calls_named};
 ghost use Rattle.std.specs.List.{list_all};
 ghost use Rattle.kan_model.specs.Programs.Scope.{is_low};
 ghost use Rattle.kan_model.specs.Programs.Tables.{RelationEntry};
-ghost use Rattle.goal_syntax.specs.Building.GrownTables.{HasGoal, Grows, HasRoom};
+ghost use Rattle.goal_syntax.specs.Building.GrownTables.{HasGoal, Grows};
+ghost use Rattle.goal_syntax.specs.Building.Entries.{Adds, HasRoomFor};
+ghost use Rattle.goal_syntax.specs.Building.InContext.{list_entries};
 ghost use Rattle.goal_syntax.specs.Building.FormsBuilt.{asked_equation};
+ghost use Rattle.goal_syntax.specs.Building.Widths.{Widens};
+ghost use Rattle.goal_syntax.specs.Building.InContext.{list_width};
+ghost use Rattle.kan_model.specs.Programs.Scope.{width};
+ghost use Rattle.kan_model.specs.Programs.Tables.{goal_at};
+ghost use Rattle.kan_model.specs.Programs.Drafts.{goals as model_goals};
 
 use crate::build_goal::build_goals;
 use crate::build_term::build_slots;
@@ -31,15 +39,18 @@ pub(crate) fn build_one(
     goals: u32,
     draft: &mut Draft,
 ) -> Result<u32, Memory>
-    requires room { HasRoom (tables draft.old) }
+    requires room { HasRoomFor (1 + list_entries context.now goals) (tables draft.old) }
     ensures made { IfOk result
         (λ at. HasGoal (tables draft.new) at
         (list_goal context.now (within [] (symbol ∷ [])) goals)) }
     ensures grows { OnOk result (Grows (tables draft.old) (tables draft.new)) }
-    ensures room { OnOk result (HasRoom (tables draft.new)) }
+    ensures room { OnOk result
+        (Adds (1 + list_entries context.now goals) (tables draft.old) (tables draft.new)) }
     ensures closed { OnOk result
         (KeepsClosed (data_of context.now) (tables draft.old) (tables draft.new)
         (λ rows. calls_named rows (list_goal context.now (within [] (symbol ∷ [])) goals))) }
+    ensures narrow { OnOk result
+        (Widens (list_width context.now goals) (tables draft.old) (tables draft.new)) }
 {
     let mut scope = Vec::new(context.alloc);
     scope.push(Some(symbol))?;
@@ -49,17 +60,18 @@ pub(crate) fn build_one(
 
 // Builds the goal that slot 0 is the list of as many slots behind it as there are names.
 fn build_equation(bound: &[u32], draft: &mut Draft) -> Result<u32, Memory>
-    requires few { length bound.now < 2 ^ 32 }
-    requires room { HasRoom (tables draft.old) }
+    requires room { HasRoomFor (3 + length bound.now + length bound.now) (tables draft.old) }
     ensures made { IfOk result (λ at. HasGoal (tables draft.new) at (asked_equation bound.now)) }
     ensures grows { OnOk result (Grows (tables draft.old) (tables draft.new)) }
-    ensures room { OnOk result (HasRoom (tables draft.new)) }
+    ensures room { OnOk result
+        (Adds (3 + length bound.now + length bound.now) (tables draft.old) (tables draft.new)) }
     ensures low { OnOk result
         (length bound.now ≤ 2048 → list_all is_low (templates draft.old)
         ≡ true → list_all is_low (templates draft.new) ≡ true) }
     ensures called { OnOk result
         ((rows : List RelationEntry) → are_there rows (tables draft.new).goals
         ≡ are_there rows (tables draft.old).goals) }
+    ensures narrow { OnOk result (Widens 0 (tables draft.old) (tables draft.new)) }
 {
     let list = build_slots(bound, draft)?;
     let asked = add_term(draft, TermNode::Slot(0))?;
@@ -76,14 +88,19 @@ fn build_behind(
     draft: &mut Draft,
 ) -> Result<u32, Memory>
     requires there { first < length (tables draft.old).goals }
-    requires room { HasRoom (tables draft.old) }
+    requires room { HasRoomFor (1 + list_entries context.now goals) (tables draft.old) }
+    requires few { length scope.items + list_entries context.now goals < 2 ^ 24 }
     ensures made { IfOk result (λ at. (g : model.Goal) → HasGoal (tables draft.old) first g →
         HasGoal (tables draft.new) at (goal_behind context.now g scope.items goals)) }
     ensures grows { OnOk result (Grows (tables draft.old) (tables draft.new)) }
-    ensures room { OnOk result (HasRoom (tables draft.new)) }
+    ensures room { OnOk result
+        (Adds (1 + list_entries context.now goals) (tables draft.old) (tables draft.new)) }
     ensures closed { OnOk result
         (KeepsClosed (data_of context.now) (tables draft.old) (tables draft.new)
         (λ rows. calls_named rows (list_goal context.now scope.items goals))) }
+    ensures narrow { OnOk result (Widens
+        (width (goal_at (model_goals draft.old) first) + list_width context.now goals)
+        (tables draft.old) (tables draft.new)) }
 {
     if pair_parts(context.flat, goals).is_none() {
         return Ok(first);
@@ -95,14 +112,23 @@ fn build_behind(
 
 // Builds the fresh goal of a run over a list of names, whose variable is the list of these.
 fn build_fresh(context: &Context, binder: u32, goals: u32, draft: &mut Draft) -> Result<u32, Memory>
-    requires room { HasRoom (tables draft.old) }
+    requires room { HasRoomFor
+        (5 + length (binder_at context.now binder).value
+        + length (binder_at context.now binder).value + list_entries context.now goals)
+        (tables draft.old) }
     ensures made { IfOk result
         (λ at. HasGoal (tables draft.new) at (fresh_goal context.now binder goals)) }
     ensures grows { OnOk result (Grows (tables draft.old) (tables draft.new)) }
-    ensures room { OnOk result (HasRoom (tables draft.new)) }
+    ensures room { OnOk result
+        (Adds (5 + length (binder_at context.now binder).value
+        + length (binder_at context.now binder).value + list_entries context.now goals)
+        (tables draft.old) (tables draft.new)) }
     ensures closed { OnOk result
         (KeepsClosed (data_of context.now) (tables draft.old) (tables draft.new)
         (λ rows. calls_named rows (fresh_goal context.now binder goals))) }
+    ensures narrow { OnOk result (Widens
+        (length (binder_at context.now binder).value + list_width context.now goals)
+        (tables draft.old) (tables draft.new)) }
 {
     let bound = binder_names(context.alloc, context.flat, binder)?;
     let count = bound.len() as u32;
@@ -117,14 +143,15 @@ fn build_fresh(context: &Context, binder: u32, goals: u32, draft: &mut Draft) ->
 // The goal at a place, which suspends in the dialect in which `fresh` does.
 fn suspend_at(dialect: Dialect, goal: u32, draft: &mut Draft) -> Result<u32, Memory>
     requires there { goal < length (tables draft.old).goals }
-    requires room { HasRoom (tables draft.old) }
+    requires room { HasRoomFor 1 (tables draft.old) }
     ensures made { IfOk result (λ at. (g : model.Goal) → HasGoal (tables draft.old) goal g →
         HasGoal (tables draft.new) at (suspended_in dialect g)) }
     ensures grows { OnOk result (Grows (tables draft.old) (tables draft.new)) }
-    ensures room { OnOk result (HasRoom (tables draft.new)) }
+    ensures room { OnOk result (Adds 1 (tables draft.old) (tables draft.new)) }
     ensures terms { OnOk result ((tables draft.new).terms ≡ (tables draft.old).terms) }
     ensures called { OnOk result ((rows : List RelationEntry) →
         are_there rows (tables draft.new).goals ≡ are_there rows (tables draft.old).goals) }
+    ensures narrow { OnOk result (Widens 0 (tables draft.old) (tables draft.new)) }
 {
     match dialect {
         Dialect::Book => Ok(goal),
@@ -142,14 +169,23 @@ pub(crate) fn build_list(
     goals: u32,
     draft: &mut Draft,
 ) -> Result<u32, Memory>
-    requires room { HasRoom (tables draft.old) }
+    requires room { HasRoomFor
+        (6 + length (binder_at context.now binder).value
+        + length (binder_at context.now binder).value + list_entries context.now goals)
+        (tables draft.old) }
     ensures made { IfOk result
         (λ at. HasGoal (tables draft.new) at (run_goal context.now binder goals)) }
     ensures grows { OnOk result (Grows (tables draft.old) (tables draft.new)) }
-    ensures room { OnOk result (HasRoom (tables draft.new)) }
+    ensures room { OnOk result
+        (Adds (6 + length (binder_at context.now binder).value
+        + length (binder_at context.now binder).value + list_entries context.now goals)
+        (tables draft.old) (tables draft.new)) }
     ensures closed { OnOk result
         (KeepsClosed (data_of context.now) (tables draft.old) (tables draft.new)
         (λ rows. calls_named rows (run_goal context.now binder goals))) }
+    ensures narrow { OnOk result (Widens
+        (length (binder_at context.now binder).value + list_width context.now goals)
+        (tables draft.old) (tables draft.new)) }
 {
     let fresh = build_fresh(context, binder, goals, draft)?;
     let goal = suspend_at(context.dialect, fresh, draft)?;

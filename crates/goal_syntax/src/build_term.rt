@@ -10,12 +10,16 @@ ghost use Rattle.kan_model.specs.Programs.Nodes.{term_entry};
 ghost use Rattle.kan_model.specs.Programs.Drafts.{tables, templates};
 ghost use Rattle.std.specs.List.{list_all};
 ghost use Rattle.kan_model.specs.Programs.Scope.{is_low};
-ghost use Rattle.goal_forms.specs.Contexts.{data_of};
+ghost use Rattle.goal_forms.specs.Contexts.{data_of, terms_at};
+ghost use Rattle.kan_terms.specs.Tree.{size};
 ghost use Rattle.goal_syntax.specs.Building.TermHeights.{WorksLow, all_low};
 ghost use Rattle.goal_syntax.specs.Building.TermsLeft.{AddsTerms, HasTemplates, with_arguments};
 ghost use Rattle.goal_syntax.specs.Building.TermsLeft.{built, paired, finish, work_size};
-ghost use Rattle.goal_syntax.specs.Building.TermsLeft.{works_size};
-ghost use Rattle.goal_syntax.specs.Building.GrownTables.{HasTemplate, HasArguments, Grows, HasRoom};
+ghost use Rattle.goal_syntax.specs.Building.TermsLeft.{works_size, work_entries};
+ghost use Rattle.goal_syntax.specs.Building.GrownTables.{HasTemplate, HasArguments, Grows};
+ghost use Rattle.goal_syntax.specs.Building.Entries.{Adds, HasRoomFor, arguments_size, entries};
+ghost use Rattle.goal_syntax.specs.Building.Entries.{terms_size};
+ghost use Rattle.goal_syntax.specs.Building.InContext.{task_entries, terms_entries};
 ghost use Rattle.goal_forms.specs.TermSteps.{step_form, step_size};
 ghost use Rattle.goal_forms.specs.Places.{are_below};
 
@@ -36,7 +40,7 @@ pub(crate) enum Work {
 // Adds a template as the one built last.
 fn put(node: TermNode, draft: &mut Draft, places: &mut Vec<u32>) -> Result<(), Memory>
     requires there { is_term_grown (length (tables draft.old).terms) (term_entry node) ≡ true }
-    requires room { HasRoom (tables draft.old) }
+    requires room { HasRoomFor 1 (tables draft.old) }
     requires below { are_below (length (tables draft.old).terms) places.old.items ≡ true }
     ensures made { OnOk result
         (built (templates draft.new) places.new.items
@@ -49,6 +53,7 @@ fn put(node: TermNode, draft: &mut Draft, places: &mut Vec<u32>) -> Result<(), M
         (is_low (template_of (templates draft.old) (term_entry node))
         ≡ true → list_all is_low (templates draft.old)
         ≡ true → list_all is_low (templates draft.new) ≡ true) }
+    ensures room { OnOk result (Adds 1 (tables draft.old) (tables draft.new)) }
 {
     let place = add_term(draft, node)?;
     places.push(place)?;
@@ -57,7 +62,7 @@ fn put(node: TermNode, draft: &mut Draft, places: &mut Vec<u32>) -> Result<(), M
 
 // Builds the pair of the two templates that were built last.
 fn join(draft: &mut Draft, places: &mut Vec<u32>) -> Result<(), Memory>
-    requires room { HasRoom (tables draft.old) }
+    requires room { HasRoomFor 1 (tables draft.old) }
     requires below { are_below (length (tables draft.old).terms) places.old.items ≡ true }
     ensures made { OnOk result
         (built (templates draft.new) places.new.items
@@ -69,6 +74,7 @@ fn join(draft: &mut Draft, places: &mut Vec<u32>) -> Result<(), Memory>
         (list_all is_low (paired (built (templates draft.old) places.old.items))
         ≡ true → list_all is_low (templates draft.old)
         ≡ true → list_all is_low (templates draft.new) ≡ true) }
+    ensures room { OnOk result (Adds 1 (tables draft.old) (tables draft.new)) }
 {
     let Some(rest) = places.pop() else {
         return Ok(());
@@ -80,13 +86,15 @@ fn join(draft: &mut Draft, places: &mut Vec<u32>) -> Result<(), Memory>
     Ok(())
 }
 
-// The slot of a variable, 0 where its name is not in scope. A number too large for a template has
-// no memory.
-fn slot_number(scope: &[Option<u32>], symbol: u32) -> Result<u32, Memory>
-    ensures { IfOk result (λ slot. slot ≡ unwrap_or (slot_of scope.now symbol) 0) }
+// The slot of a variable, 0 where its name is not in scope.
+fn slot_number(scope: &[Option<u32>], symbol: u32) -> u32
+    requires few { length scope.now < 2 ^ 24 }
+    ensures { result ≡ unwrap_or (slot_of scope.now symbol) 0 }
 {
-    let slot = slot_of(scope, symbol).unwrap_or(0);
-    u32::try_from(slot).map_err(|_| Memory)
+    match slot_of(scope, symbol) {
+        Some(slot) => slot as u32,
+        None => 0,
+    }
 }
 
 // Builds the template that begins with a step, as far as its parts.
@@ -98,7 +106,9 @@ fn build_step(
     places: &mut Vec<u32>,
     works: &mut Vec<Work>,
 ) -> Result<(), Memory>
-    requires room { HasRoom (tables draft.old) }
+    requires room { HasRoomFor
+        (size (step_form (data_of context.now) context.now.names.now step)) (tables draft.old) }
+    requires few { length scope.now < 2 ^ 24 }
     requires below { are_below (length (tables draft.old).terms) places.old.items ≡ true }
     ensures made { OnOk result
         (finish (data_of context.now) context.now.names.now scope.now (reverse works.new.items)
@@ -119,10 +129,15 @@ fn build_step(
     ensures falls { OnOk result (works_size (data_of context.now) works.new.items
         ≤ 1 + step_size (data_of context.now) step + step_size
         (data_of context.now) step + works_size (data_of context.now) works.old.items) }
+    ensures room { OnOk result
+        (entries (tables draft.new) + terms_entries context.now works.new.items
+        ≤ entries (tables draft.old)
+        + (size (step_form (data_of context.now) context.now.names.now step)
+        + terms_entries context.now works.old.items)) }
 {
     match step {
         Step::Variable(_, symbol) => {
-            put(TermNode::Slot(slot_number(scope, symbol)?), draft, places)?
+            put(TermNode::Slot(slot_number(scope, symbol)), draft, places)?
         }
         Step::Symbol(symbol) => put(TermNode::Sym(symbol), draft, places)?,
         Step::Text(text) => put(TermNode::Str(text), draft, places)?,
@@ -148,7 +163,9 @@ fn build_work(
     places: &mut Vec<u32>,
     works: &mut Vec<Work>,
 ) -> Result<(), Memory>
-    requires room { HasRoom (tables draft.old) }
+    requires room { HasRoomFor
+        (work_entries (data_of context.now) context.now.names.now work) (tables draft.old) }
+    requires few { length scope.now < 2 ^ 24 }
     requires below { are_below (length (tables draft.old).terms) places.old.items ≡ true }
     ensures made { OnOk result
         (finish (data_of context.now) context.now.names.now scope.now (reverse works.new.items)
@@ -165,6 +182,11 @@ fn build_work(
         (templates draft.new) places.new.items) }
     ensures falls { OnOk result (works_size (data_of context.now) works.new.items
         < work_size (data_of context.now) work + works_size (data_of context.now) works.old.items) }
+    ensures room { OnOk result
+        (entries (tables draft.new) + terms_entries context.now works.new.items
+        ≤ entries (tables draft.old)
+        + (work_entries (data_of context.now) context.now.names.now work
+        + terms_entries context.now works.old.items)) }
 {
     match work {
         Work::Term(task) => {
@@ -183,11 +205,13 @@ pub(crate) fn build_term(
     task: Task,
     draft: &mut Draft,
 ) -> Result<u32, Memory>
-    requires room { HasRoom (tables draft.old) }
+    requires room { HasRoomFor (task_entries context.now task) (tables draft.old) }
+    requires few { length scope.now < 2 ^ 24 }
     ensures made { IfOk result
         (λ at. HasTemplate (tables draft.new) at (task_template context.now scope.now task)) }
     ensures grows { OnOk result (Grows (tables draft.old) (tables draft.new)) }
-    ensures room { OnOk result (HasRoom (tables draft.new)) }
+    ensures room { OnOk result
+        (Adds (task_entries context.now task) (tables draft.old) (tables draft.new)) }
     ensures same { OnOk result ((tables draft.new).goals ≡ (tables draft.old).goals) }
     ensures low { OnOk result (KeepsLowIn context.now draft.old draft.new) }
 {
@@ -210,12 +234,15 @@ fn build_terms(
     mut place: u32,
     draft: &mut Draft,
 ) -> Result<Vec<u32>, Memory>
-    requires room { HasRoom (tables draft.old) }
+    requires room { HasRoomFor (terms_size (terms_at context.now place)) (tables draft.old) }
+    requires few { length scope.now < 2 ^ 24 }
     ensures made { IfOk result
         (λ places. HasTemplates (tables draft.new) places.items
         (term_templates context.now scope.now place)) }
     ensures adds { OnOk result (AddsTerms (tables draft.old) (tables draft.new)) }
     ensures low { OnOk result (KeepsLowIn context.now draft.old draft.new) }
+    ensures room { OnOk result
+        (Adds (terms_size (terms_at context.now place)) (tables draft.old) (tables draft.new)) }
 {
     let mut places = Vec::new(context.alloc);
     while let Some((first, rest)) = pair_parts(context.flat, place) {
@@ -228,11 +255,12 @@ fn build_terms(
 
 // Puts templates, by their places, behind the arguments that are there.
 fn put_behind(terms: &[u32], draft: &mut Draft) -> Result<(), Memory>
-    requires room { HasRoom (tables draft.old) }
+    requires room { HasRoomFor (length terms.now) (tables draft.old) }
     requires below { are_below (length (tables draft.old).terms) terms.now ≡ true }
     ensures put { OnOk result (tables draft.new ≡ with_arguments (tables draft.old) terms.now) }
     ensures adds { OnOk result (AddsTerms (tables draft.old) (tables draft.new)) }
     ensures terms { OnOk result ((tables draft.new).terms ≡ (tables draft.old).terms) }
+    ensures room { OnOk result (Adds (length terms.now) (tables draft.old) (tables draft.new)) }
 {
     for term in terms {
         add_argument(draft, *term)?;
@@ -242,13 +270,14 @@ fn put_behind(terms: &[u32], draft: &mut Draft) -> Result<(), Memory>
 
 // The same, and gives the place of the first of them.
 fn put_arguments(terms: &[u32], draft: &mut Draft) -> Result<u32, Memory>
-    requires room { HasRoom (tables draft.old) }
+    requires room { HasRoomFor (length terms.now) (tables draft.old) }
     requires below { are_below (length (tables draft.old).terms) terms.now ≡ true }
     ensures put { IfOk result
         (λ at. HasArguments (tables draft.new) at (length terms.now)
         (map (template_at (templates draft.old)) terms.now)) }
     ensures adds { OnOk result (AddsTerms (tables draft.old) (tables draft.new)) }
     ensures terms { OnOk result ((tables draft.new).terms ≡ (tables draft.old).terms) }
+    ensures room { OnOk result (Adds (length terms.now) (tables draft.old) (tables draft.new)) }
 {
     let Some((first, rest)) = terms.split_first() else {
         return Ok(0);
@@ -267,12 +296,14 @@ pub(crate) fn build_arguments(
     place: u32,
     draft: &mut Draft,
 ) -> Result<(u32, u32), Memory>
-    requires room { HasRoom (tables draft.old) }
+    requires room { HasRoomFor (arguments_size (terms_at context.now place)) (tables draft.old) }
+    requires few { length scope.now < 2 ^ 24 }
     ensures made { IfOk result
         (λ made. HasArguments (tables draft.new) made.0 made.1
         (term_templates context.now scope.now place)) }
     ensures grows { OnOk result (Grows (tables draft.old) (tables draft.new)) }
-    ensures room { OnOk result (HasRoom (tables draft.new)) }
+    ensures room { OnOk result
+        (Adds (arguments_size (terms_at context.now place)) (tables draft.old) (tables draft.new)) }
     ensures same { OnOk result ((tables draft.new).goals ≡ (tables draft.old).goals) }
     ensures low { OnOk result (KeepsLowIn context.now draft.old draft.new) }
 {
@@ -283,11 +314,11 @@ pub(crate) fn build_arguments(
 
 /// Builds the list of as many slots as there are names, from slot 1 on, and gives its place.
 pub(crate) fn build_slots(bound: &[u32], draft: &mut Draft) -> Result<u32, Memory>
-    requires few { length bound.now < 2 ^ 32 }
-    requires room { HasRoom (tables draft.old) }
+    requires room { HasRoomFor (1 + length bound.now + length bound.now) (tables draft.old) }
     ensures made { IfOk result (λ at. HasTemplate (tables draft.new) at (slot_list 1 bound.now)) }
     ensures grows { OnOk result (Grows (tables draft.old) (tables draft.new)) }
-    ensures room { OnOk result (HasRoom (tables draft.new)) }
+    ensures room { OnOk result
+        (Adds (1 + length bound.now + length bound.now) (tables draft.old) (tables draft.new)) }
     ensures same { OnOk result ((tables draft.new).goals ≡ (tables draft.old).goals) }
     ensures low { OnOk result
         (length bound.now ≤ 2048 → list_all is_low (templates draft.old)

@@ -4,7 +4,8 @@ ghost use Rattle.goal_syntax.specs.Building.InContext.{form_relations, form_name
 ghost use Rattle.goal_syntax.specs.Building.InContext.{forms_queries, forms_names};
 ghost use Rattle.goal_syntax.specs.Building.FormsBuilt.{relation_names, entry_names, AddsNames};
 ghost use Rattle.goal_syntax.specs.Building.FormsBuilt.{AddsRelations, AddsForms};
-ghost use Rattle.std.specs.Prelude.{[], ◌≡◌, ◌&&◌, ◌+◌, ◌<◌, ◌^◌, ◌++◌, length, map, true, IfOk};
+ghost use Rattle.std.specs.Prelude.{[], ◌≡◌, ◌&&◌, ◌+◌, ◌*◌, ◌<◌, ◌≤◌, ◌^◌, ◌++◌, length, map};
+ghost use Rattle.std.specs.Prelude.{true, IfOk};
 ghost use Rattle.std.specs.Prelude.{OnOk};
 ghost use Rattle.std.specs.List.{list_all};
 ghost use Rattle.kan_grammar.specs.Texts.TextNames.{with_prefixes};
@@ -18,7 +19,7 @@ ghost use Rattle.kan_grammar.specs.Texts.Sited.{with_sites};
 ghost use Rattle.sexpr.specs.Seen.{written};
 ghost use Rattle.kan_model.specs.Programs.Tables.{are_closed};
 ghost use Rattle.kan_grammar.specs.Texts.TopForms.{definitions};
-ghost use Rattle.goal_forms.specs.Contexts.{data_of, data_at, defined_in};
+ghost use Rattle.goal_forms.specs.Contexts.{data_of, data_at, datum_at, defined_in};
 ghost use Rattle.goal_forms.specs.Heights.{AreLow};
 ghost use Rattle.kan_grammar.specs.Texts.TextFaults.{faults_of, IsAccepted};
 ghost use Rattle.goal_syntax.specs.Building.CallsThere.{KeepsClosed, all_named, bodies_named};
@@ -26,10 +27,16 @@ ghost use Rattle.goal_syntax.specs.Compiling.CompiledForms.{CompilesForms, IsMea
 ghost use Rattle.goal_syntax.specs.Compiling.Compiles.{AreOfText, Compiles, IsAcceptedAlone};
 ghost use Rattle.goal_syntax.specs.Compiling.Compiles.{TableAfter};
 ghost use Rattle.goal_syntax.specs.Building.GrownTables.{HasRoom};
+ghost use Rattle.goal_syntax.specs.Building.Entries.{Adds, HasRoomFor, form_size, forms_size};
+ghost use Rattle.goal_syntax.specs.Building.InContext.{forms_entries};
+ghost use Rattle.goal_forms.specs.Sizes.{parts_in};
+ghost use Rattle.kan_grammar.specs.Texts.TopForms.{form};
 ghost use Rattle.goal_syntax.specs.Compiling.SymbolNames.{are_named};
 ghost use Rattle.goal_forms.specs.Parts.{sites, site_at};
 ghost use Rattle.goal_forms.specs.RelationTables.{relations};
 ghost use Rattle.goal_forms.specs.Flattening.{AreNumbered, meaning};
+ghost use Rattle.goal_syntax.specs.Building.Widths.{Widens, form_width, forms_width, widest_in};
+ghost use Rattle.goal_syntax.specs.Building.InContext.{widest_form};
 
 use crate::build_form::{build_form, build_relation};
 use crate::judge_text::first_of_forms;
@@ -43,9 +50,6 @@ use kan_model::{Draft, Program, Query};
 use kan_terms::{ListOf, Memory, Names};
 use sexpr::Datum;
 use std::alloc::Global;
-
-// The width from which on a goal is too wide.
-const TOO_WIDE: u32 = 0x20_0000;
 
 /// Queries in their order.
 pub type Queries = ListOf<Query>;
@@ -61,15 +65,21 @@ pub struct Compiled {
 
 // Builds the relation of a top form of a library, which has no runs.
 fn build_library_form(context: &Context, place: u32, draft: &mut Draft) -> Result<(), Memory>
-    requires room { HasRoom (tables draft.old) }
+    requires room { HasRoomFor
+        (form_size (form context.now.names.now (datum_at context.now place))) (tables draft.old) }
     ensures means { OnOk result (AddsRelations (tables draft.old) (tables draft.new)
         (form_relations context.now place)) }
     ensures names { OnOk result
         (AddsNames (tables draft.old) (tables draft.new) (form_names context.now place)) }
-    ensures room { OnOk result (HasRoom (tables draft.new)) }
+    ensures room { OnOk result
+        (Adds (form_size (form context.now.names.now (datum_at context.now place)))
+        (tables draft.old) (tables draft.new)) }
     ensures closed { OnOk result
         (KeepsClosed (data_of context.now) (tables draft.old) (tables draft.new)
         (bodies_named (form_relations context.now place))) }
+    ensures narrow { OnOk result (Widens
+        (form_width (form context.now.names.now (datum_at context.now place)))
+        (tables draft.old) (tables draft.new)) }
 {
     if let Form::Relation(head, goals) = parse_form(context.flat, context.names, place) {
         build_relation(context, head, goals, draft)?;
@@ -79,15 +89,18 @@ fn build_library_form(context: &Context, place: u32, draft: &mut Draft) -> Resul
 
 // Builds the relations of a library.
 fn build_library(context: &Context, forms: &[u32], draft: &mut Draft) -> Result<(), Memory>
-    requires room { HasRoom (tables draft.old) }
+    requires room { HasRoomFor (forms_entries context.now forms.now) (tables draft.old) }
     ensures means { OnOk result (AddsRelations (tables draft.old) (tables draft.new)
         (forms_relations context.now forms.now)) }
     ensures names { OnOk result
         (AddsNames (tables draft.old) (tables draft.new) (forms_names context.now forms.now)) }
-    ensures room { OnOk result (HasRoom (tables draft.new)) }
+    ensures room { OnOk result
+        (Adds (forms_entries context.now forms.now) (tables draft.old) (tables draft.new)) }
     ensures closed { OnOk result
         (KeepsClosed (data_of context.now) (tables draft.old) (tables draft.new)
         (bodies_named (forms_relations context.now forms.now))) }
+    ensures narrow { OnOk result
+        (Widens (widest_form context.now forms.now) (tables draft.old) (tables draft.new)) }
 {
     for place in forms {
         build_library_form(context, *place, draft)?;
@@ -102,17 +115,20 @@ fn build_text(
     draft: &mut Draft,
     queries: &mut Queries,
 ) -> Result<(), Memory>
-    requires room { HasRoom (tables draft.old) }
+    requires room { HasRoomFor (forms_entries context.now forms.now) (tables draft.old) }
     ensures means { OnOk result
         (AddsForms (tables draft.old) (tables draft.new) queries.old queries.new
         (forms_relations context.now forms.now)
         (forms_queries context.now forms.now)) }
     ensures names { OnOk result
         (AddsNames (tables draft.old) (tables draft.new) (forms_names context.now forms.now)) }
-    ensures room { OnOk result (HasRoom (tables draft.new)) }
+    ensures room { OnOk result
+        (Adds (forms_entries context.now forms.now) (tables draft.old) (tables draft.new)) }
     ensures closed { OnOk result
         (KeepsClosed (data_of context.now) (tables draft.old) (tables draft.new)
         (all_named (forms_relations context.now forms.now) (forms_queries context.now forms.now))) }
+    ensures narrow { OnOk result
+        (Widens (widest_form context.now forms.now) (tables draft.old) (tables draft.new)) }
 {
     for place in forms {
         build_form(
@@ -125,26 +141,11 @@ fn build_text(
     Ok(())
 }
 
-// Whether each goal of a program is narrow.
-fn are_narrow(program: &Program) -> bool
-    requires { HasRoom (programs.tables program.now) }
-    ensures { result ≡ is_small (programs.meaning program.now) }
-{
-    let mut at = 0;
-    while let Some(width) = program.width(at) {
-        if width >= TOO_WIDE {
-            return false;
-        }
-        at += 1;
-    }
-    true
-}
-
-// Closes a draft with the goals of runs, in which nothing is open. Where a goal is too wide or a
-// symbol has no name, there is
-// no memory for it; no text comes to that.
+// Closes a draft with the goals of runs, in which nothing is open. Where a symbol has no name,
+// there is no memory for it; no text comes to that.
 fn close(draft: Draft, queries: Queries, names: &Names) -> Result<Compiled, Memory>
     requires room { HasRoom (tables draft) }
+    requires narrow { widest_in (tables draft) < 2 ^ 21 }
     requires closed { are_closed (tables draft) (map goal_place queries) ≡ true }
     ensures tables { IfOk result (λ made. programs.tables made.program ≡ tables draft) }
     ensures queries { IfOk result (λ made. made.queries ≡ queries) }
@@ -157,7 +158,7 @@ fn close(draft: Draft, queries: Queries, names: &Names) -> Result<Compiled, Memo
     let Ok(program) = draft.close(queries.items()) else {
         unreachable!()
     };
-    if !are_narrow(&program) || !are_named(names, &program) {
+    if !are_named(names, &program) {
         return Err(Memory);
     }
     Ok(Compiled { program, queries })
@@ -172,6 +173,10 @@ fn build_program(context: &Context, library: &[u32], forms: &[u32]) -> Result<Co
     requires relations { defined_in context.now
         ≡ definitions context.now.names.now (data_at context.now library.now)
         ++ definitions context.now.names.now (data_at context.now forms.now) }
+    requires room { forms_entries context.now library.now
+        + forms_entries context.now forms.now < 2 ^ 24 }
+    requires narrow_library { widest_form context.now library.now < 2 ^ 21 }
+    requires narrow_text { widest_form context.now forms.now < 2 ^ 21 }
     ensures meant { IfOk result
         (λ made. IsMeant (text_meaning context.now.dialect context.now.names.now
         (data_at context.now library.now)
@@ -200,8 +205,14 @@ fn compile_forms(
     dialect: Dialect,
 ) -> Result<Compiled, SyntaxError>
     requires few { length library.now + length forms.now < 2 ^ 32 }
+    requires room { forms_size names.now (map (site_at (sites flat.now)) library.now)
+        + forms_size names.now (map (site_at (sites flat.now)) forms.now) < 2 ^ 24 }
     requires low { AreLow (sites flat.now) }
     requires alone { faults_of names.now [] (map (site_at (sites flat.now)) library.now) ≡ [] }
+    requires narrow_library { forms_width names.now (map (site_at (sites flat.now)) library.now)
+        < 2 ^ 21 }
+    requires narrow_text { forms_width names.now (map (site_at (sites flat.now)) forms.now)
+        < 2 ^ 21 }
     ensures { CompilesForms dialect names.now (map (site_at (sites flat.now)) library.now)
         (map (site_at (sites flat.now)) forms.now) result }
 {
@@ -231,6 +242,10 @@ fn compile_data(
 ) -> Result<Compiled, SyntaxError>
     requires numbered { AreNumbered names.now prefixes.now }
     requires few { length library.now + length text.now < 2 ^ 32 }
+    requires library_parts { parts_in (map (meaning names.now) library.now)
+        + 3 * length library.now ≤ 2 ^ 22 }
+    requires text_parts { parts_in (map (meaning names.now) text.now) + 3 * length text.now
+        ≤ 2 ^ 22 }
     requires low_library { AreLow (map (meaning names.now) library.now) }
     requires low_text { AreLow (map (meaning names.now) text.now) }
     requires alone { IsAccepted names.now [] (map (written names.now) library.now) }

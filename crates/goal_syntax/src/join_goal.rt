@@ -5,10 +5,12 @@ ghost use Rattle.kan_model.specs.Programs.Drafts.{tables};
 ghost use Rattle.kan_model.specs.Programs.Nodes.{goal_entry};
 ghost use Rattle.kan_model.specs.Programs.Tables.{is_goal_grown};
 ghost use Rattle.goal_syntax.specs.Building.GoalsBuilt.{built, with_entry};
-ghost use Rattle.goal_syntax.specs.Building.GrownTables.{Grows, HasRoom};
+ghost use Rattle.goal_syntax.specs.Building.GrownTables.{Grows};
+ghost use Rattle.goal_syntax.specs.Building.Entries.{Adds, HasRoomFor};
 ghost use Rattle.goal_syntax.specs.Building.GoalsLeft.{empty_entry, freshened, join_entry, joined};
 ghost use Rattle.goal_syntax.specs.Building.GoalsLeft.{suspended};
 ghost use Rattle.goal_forms.specs.Places.{are_below};
+ghost use Rattle.goal_syntax.specs.Building.Widths.{Widens, made_width};
 
 use crate::drafting::add_goal;
 use kan_grammar::Dialect;
@@ -54,7 +56,7 @@ impl Row {
 pub(crate) fn make(node: GoalNode, draft: &mut Draft, places: &mut Vec<u32>) -> Result<(), Memory>
     requires there { is_goal_grown (tables draft.old) (length (tables draft.old).goals)
         (goal_entry node) ≡ true }
-    requires room { HasRoom (tables draft.old) }
+    requires room { HasRoomFor 1 (tables draft.old) }
     requires below { are_below (length (tables draft.old).goals) places.old.items ≡ true }
     ensures made { OnOk result
         (built (tables draft.new) places.new.items
@@ -63,8 +65,11 @@ pub(crate) fn make(node: GoalNode, draft: &mut Draft, places: &mut Vec<u32>) -> 
     ensures below { OnOk result
         (are_below (length (tables draft.new).goals) places.new.items ≡ true) }
     ensures grows { OnOk result (Grows (tables draft.old) (tables draft.new)) }
-    ensures room { OnOk result (HasRoom (tables draft.new)) }
+    ensures room { OnOk result (Adds 1 (tables draft.old) (tables draft.new)) }
     ensures terms { OnOk result ((tables draft.new).terms ≡ (tables draft.old).terms) }
+    ensures narrow { OnOk result (Widens
+        (made_width (built (tables draft.new) places.new.items))
+        (tables draft.old) (tables draft.new)) }
 {
     let place = add_goal(draft, node)?;
     places.push(place)?;
@@ -73,7 +78,7 @@ pub(crate) fn make(node: GoalNode, draft: &mut Draft, places: &mut Vec<u32>) -> 
 
 /// Joins the two goals that were made last as those of a row.
 pub(crate) fn join_two(row: Row, draft: &mut Draft, places: &mut Vec<u32>) -> Result<(), Memory>
-    requires room { HasRoom (tables draft.old) }
+    requires room { HasRoomFor 1 (tables draft.old) }
     requires below { are_below (length (tables draft.old).goals) places.old.items ≡ true }
     ensures made { OnOk result
         (built (tables draft.new) places.new.items
@@ -81,8 +86,11 @@ pub(crate) fn join_two(row: Row, draft: &mut Draft, places: &mut Vec<u32>) -> Re
     ensures below { OnOk result
         (are_below (length (tables draft.new).goals) places.new.items ≡ true) }
     ensures grows { OnOk result (Grows (tables draft.old) (tables draft.new)) }
-    ensures room { OnOk result (HasRoom (tables draft.new)) }
+    ensures room { OnOk result (Adds 1 (tables draft.old) (tables draft.new)) }
     ensures terms { OnOk result ((tables draft.new).terms ≡ (tables draft.old).terms) }
+    ensures narrow { OnOk result (Widens
+        (made_width (built (tables draft.new) places.new.items))
+        (tables draft.old) (tables draft.new)) }
 {
     let Some(right) = places.pop() else {
         return Ok(());
@@ -96,7 +104,7 @@ pub(crate) fn join_two(row: Row, draft: &mut Draft, places: &mut Vec<u32>) -> Re
 
 /// Gives the goal that was made last so many slots of its own.
 pub(crate) fn add_slots(count: u32, draft: &mut Draft, places: &mut Vec<u32>) -> Result<(), Memory>
-    requires room { HasRoom (tables draft.old) }
+    requires room { HasRoomFor 1 (tables draft.old) }
     requires below { are_below (length (tables draft.old).goals) places.old.items ≡ true }
     ensures made { OnOk result
         (built (tables draft.new) places.new.items
@@ -104,8 +112,11 @@ pub(crate) fn add_slots(count: u32, draft: &mut Draft, places: &mut Vec<u32>) ->
     ensures below { OnOk result
         (are_below (length (tables draft.new).goals) places.new.items ≡ true) }
     ensures grows { OnOk result (Grows (tables draft.old) (tables draft.new)) }
-    ensures room { OnOk result (HasRoom (tables draft.new)) }
+    ensures room { OnOk result (Adds 1 (tables draft.old) (tables draft.new)) }
     ensures terms { OnOk result ((tables draft.new).terms ≡ (tables draft.old).terms) }
+    ensures narrow { OnOk result (Widens
+        (made_width (built (tables draft.new) places.new.items))
+        (tables draft.old) (tables draft.new)) }
 {
     let Some(goal) = places.pop() else {
         return Ok(());
@@ -116,7 +127,7 @@ pub(crate) fn add_slots(count: u32, draft: &mut Draft, places: &mut Vec<u32>) ->
 
 // Lets the goal that was made last suspend.
 fn add_later(draft: &mut Draft, places: &mut Vec<u32>) -> Result<(), Memory>
-    requires room { HasRoom (tables draft.old) }
+    requires room { HasRoomFor 1 (tables draft.old) }
     requires below { are_below (length (tables draft.old).goals) places.old.items ≡ true }
     ensures made { OnOk result
         (built (tables draft.new) places.new.items
@@ -124,8 +135,11 @@ fn add_later(draft: &mut Draft, places: &mut Vec<u32>) -> Result<(), Memory>
     ensures below { OnOk result
         (are_below (length (tables draft.new).goals) places.new.items ≡ true) }
     ensures grows { OnOk result (Grows (tables draft.old) (tables draft.new)) }
-    ensures room { OnOk result (HasRoom (tables draft.new)) }
+    ensures room { OnOk result (Adds 1 (tables draft.old) (tables draft.new)) }
     ensures terms { OnOk result ((tables draft.new).terms ≡ (tables draft.old).terms) }
+    ensures narrow { OnOk result (Widens
+        (made_width (built (tables draft.new) places.new.items))
+        (tables draft.old) (tables draft.new)) }
 {
     let Some(goal) = places.pop() else {
         return Ok(());
@@ -140,7 +154,7 @@ pub(crate) fn suspend(
     draft: &mut Draft,
     places: &mut Vec<u32>,
 ) -> Result<(), Memory>
-    requires room { HasRoom (tables draft.old) }
+    requires room { HasRoomFor 1 (tables draft.old) }
     requires below { are_below (length (tables draft.old).goals) places.old.items ≡ true }
     ensures made { OnOk result
         (built (tables draft.new) places.new.items
@@ -148,8 +162,11 @@ pub(crate) fn suspend(
     ensures below { OnOk result
         (are_below (length (tables draft.new).goals) places.new.items ≡ true) }
     ensures grows { OnOk result (Grows (tables draft.old) (tables draft.new)) }
-    ensures room { OnOk result (HasRoom (tables draft.new)) }
+    ensures room { OnOk result (Adds 1 (tables draft.old) (tables draft.new)) }
     ensures terms { OnOk result ((tables draft.new).terms ≡ (tables draft.old).terms) }
+    ensures narrow { OnOk result (Widens
+        (made_width (built (tables draft.new) places.new.items))
+        (tables draft.old) (tables draft.new)) }
 {
     match dialect {
         Dialect::Book => Ok(()),

@@ -17,7 +17,7 @@ use Rattle.kan_model.specs.declared.prims.Kind.{Kind}
 use Rattle.type_absence.specs.Tags.{is_listed}
 use Rattle.diseq.specs.Laws.{BringingGoesOn}
 use Rattle.kan_store.specs.InStep.{InStep}
-use Rattle.kan_store.specs.Parts.{Parts, AreInStep, SameParts, Equated, Typing, Keeping, Differing}
+use Rattle.kan_store.specs.Parts.{Parts, AreInStep, KnownToMake, SameParts, Equated, Typing, Keeping, Differing}
 use Rattle.kan_store.proofs.KeptParts.{typing}
 use Rattle.kan_store.proofs.Asserting.{same_none, same_types_fail, same_tags_fail, same_differs_fail, same_added, typing_added, typing_fails, absent_added, absent_fails, differ_added, differ_fails}
 
@@ -29,10 +29,6 @@ test-known a b h = ∥∥₁_elim h (Coded-set coded_bool a b) (λ e. e)
 abbrev pub Makes : Store → Option Parts → Type 0
 Makes st None = is_kept st ≡ false
 Makes st (Some parts) = AreInStep parts st
-
-abbrev pub KnownToMake : Store → Option Parts → Type 0
-KnownToMake st None = is_kept st ≡ false
-KnownToMake st (Some parts) = ∥ AreInStep parts st ∥₁
 
 pub known-to : (st : Store) (r : Option Parts) → ∥ Makes st r ∥₁ → KnownToMake st r
 known-to st None h = test-known (is_kept st) false h

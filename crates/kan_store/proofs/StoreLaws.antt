@@ -1,5 +1,5 @@
 -- What each call makes of a store whose parts are in step with it, which is known behind a truncation.
-use Rattle.std.proofs.Common.{◌≡◌, ℕ, ◌+◌, List, [], ◌∷◌, ◌++◌, true, Option, Some, None, sym, ap₂, subst, refl, ◌∙◌, ltb-true, lt-ltb, arith}
+use Rattle.std.proofs.Common.{◌≡◌, ℕ, ◌+◌, List, [], ◌∷◌, ◌++◌, Bool, true, false, Option, Some, None, sym, ap₂, subst, refl, ◌∙◌, ltb-true, lt-ltb, arith}
 use Rattle.std.proofs.Math.Logic.{∥∥₁_map}
 use Rattle.std.specs.List.{list_all}
 use Rattle.std.proofs.lemmas.Bool.{and_parts, and_from}
@@ -10,13 +10,14 @@ use Rattle.kan_model.specs.Stores.Store.{Store, Equation, bare, with_prim, with_
 use Rattle.kan_model.specs.Stores.Kept.{is_kept}
 use Rattle.kan_model.specs.Stores.Calls.{answer, differences, WalksTo, AreDifferences}
 use Rattle.kan_model.specs.declared.prims.Kind.TheVariants.{Symbol, Number, Text}
+use Rattle.type_absence.specs.Types.{made_if}
 use Rattle.unify_core.specs.Walking.{Pairs, walked}
 use Rattle.diseq.proofs.BroughtLaws.{bringing_goes_on, ground_meaning}
-use Rattle.kan_store.specs.Parts.{Parts, AreInStep, SameParts, Adding, Resolved}
+use Rattle.kan_store.specs.Parts.{Parts, AreInStep, KnownToMake, SameParts, Adding, Resolved}
 use Rattle.kan_store.specs.Held.{parts_of, store_of}
 use Rattle.kan_store.specs.declared.store.Held.{Held}
 use Rattle.kan_store.proofs.Asserting.{kept}
-use Rattle.kan_store.proofs.StepLaws.{test-known, Makes, KnownToMake, known-to, equated_makes, typing_makes, keeping_makes, differing_makes, same_in_step, fresh_in_step, empty_in_step}
+use Rattle.kan_store.proofs.StepLaws.{test-known, Makes, known-to, equated_makes, typing_makes, keeping_makes, differing_makes, same_in_step, fresh_in_step, empty_in_step}
 use Rattle.kan_store.proofs.Observing.{walk_known}
 use Rattle.kan_store.proofs.Listing.{differences_known}
 
@@ -103,3 +104,13 @@ differences_told parts st step all out is d = differences_known ground_meaning p
 -- what is seen through a pointer is what is held
 pub shown_known : {B : Type 0} (pairs : B → Pairs) (shown held : Held B) → shown ≡ held → Known (parts_of pairs held.solved) (store_of held) → Known (parts_of pairs shown.solved) (store_of held)
 shown_known pairs shown held is step = subst (λ h. Known (parts_of pairs h.solved) (store_of held)) (sym is) step
+
+pub seen_known : {B : Type 0} (pairs : B → Pairs) (shown held : Held B) (st : Store) → shown ≡ held → Known (parts_of pairs held.solved) st → Known (parts_of pairs shown.solved) st
+seen_known pairs shown held st is step = subst (λ h. Known (parts_of pairs h.solved) st) (sym is) step
+
+-- what a pointer has after a primitive was added behind it
+pub longer_known : (parts : Parts) (st now : Store) (p : Primitive Tm) (fits : Bool) → fits ≡ true → KnownToMake (with_prim st p) (made_if fits parts) → now ≡ with_prim st p → Known parts now
+longer_known parts st now p fits on made is = subst (λ s. Known parts s) (sym is) (subst (λ f. KnownToMake (with_prim st p) (made_if f parts)) on made)
+
+pub refused_known : (parts : Parts) (st : Store) (p : Primitive Tm) (fits : Bool) → fits ≡ false → KnownToMake (with_prim st p) (made_if fits parts) → is_kept (with_prim st p) ≡ false
+refused_known parts st p fits off made = subst (λ f. KnownToMake (with_prim st p) (made_if f parts)) off made

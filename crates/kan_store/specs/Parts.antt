@@ -3,6 +3,7 @@ use Rattle.std.specs.Prelude.{◌≡◌, ℕ, true, false, List, [], ◌∷◌, 
 use Rattle.std.specs.List.{list_any}
 use Rattle.kan_terms.specs.Tree.{Tm, term_eq}
 use Rattle.kan_model.specs.Stores.Store.{Store, Equation}
+use Rattle.kan_model.specs.Stores.Kept.{is_kept}
 use Rattle.kan_model.specs.declared.prims.Kind.{Kind}
 use Rattle.kan_model.specs.declared.prims.Kind.TheVariants.{Symbol, Number, Text}
 use Rattle.kan_model.specs.Programs.Goals.{Primitive}
@@ -27,6 +28,12 @@ pub record Parts : Type 0 where
 
 abbrev pub AreInStep : Parts → Store → Type 0
 AreInStep parts st = InStep parts.bound parts.types parts.tags parts.lists st
+
+-- what a call makes: nothing where the store isn't kept, and else parts that are known to be in
+-- step with it
+abbrev pub KnownToMake : Store → Option Parts → Type 0
+KnownToMake st None = is_kept st ≡ false
+KnownToMake st (Some parts) = ∥ AreInStep parts st ∥₁
 
 -- two parts say the same
 pub record SameParts (old new : Parts) : Type 0 where
@@ -61,28 +68,24 @@ pub data Equated (old : Parts) (a b : Tm) : Option Parts → Type 0 where
       list_any (is_identical new.bound) old.lists ≡ false → Brought new.bound old.lists new.lists →
       are_watchable new.bound new.lists ≡ true → Equated old a b (Some new)
 
--- disequalities brought up to bindings that were made, beside types and absences; there are none
--- where one of them is false by now
-pub data BroughtUp (bound : Pairs) (types : Types) (tags : TagsOf)
-    (lists : List Disequality) : Option Parts → Type 0 where
-  one_false : list_any (is_identical bound) lists ≡ true → BroughtUp bound types tags lists None
-  all_differ : {new : Parts} → new.bound ≡ bound → new.types ≡ types → new.tags ≡ tags →
-      list_any (is_identical bound) lists ≡ false → Brought bound lists new.lists →
-      are_watchable bound new.lists ≡ true → BroughtUp bound types tags lists (Some new)
+-- disequalities brought up to bindings that were made; there are none where one of them is false by
+-- now
+abbrev pub BroughtUp : Pairs → List Disequality → Option (List Disequality) → Type 0
+BroughtUp bound lists None = list_any (is_identical bound) lists ≡ true
+BroughtUp bound lists (Some new) =
+    (list_any (is_identical bound) lists ≡ false) × Brought bound lists new
+    × (are_watchable bound new ≡ true)
 
--- and absences that went over to the terms of the variables that were bound
-pub data CarriedTags (bound : Pairs) (added : List (Tm × Tm)) (types : Types) (tags : TagsOf)
-    (lists : List Disequality) : Option Parts → Type 0 where
-  tags_clash : TagsMove bound tags added None → CarriedTags bound added types tags lists None
-  tags_moved : {moved : TagsOf} {r : Option Parts} → TagsMove bound tags added (Some moved) →
-      BroughtUp bound types moved lists r → CarriedTags bound added types tags lists r
-
--- and types that did
-pub data CarriedTypes (bound : Pairs) (added : List (Tm × Tm)) (types : Types) (tags : TagsOf)
-    (lists : List Disequality) : Option Parts → Type 0 where
-  types_clash : TypesMove bound types added None → CarriedTypes bound added types tags lists None
-  types_moved : {moved : Types} {r : Option Parts} → TypesMove bound types added (Some moved) →
-      CarriedTags bound added moved tags lists r → CarriedTypes bound added types tags lists r
+-- the parts where types and absences went over from variables that were bound to their terms, and
+-- the disequalities were brought up to the bindings
+pub data Carried (old : Parts) (added : List (Tm × Tm)) : Option Parts → Type 0 where
+  types_clash : TypesMove old.bound old.types added None → Carried old added None
+  tags_clash : TagsMove old.bound old.tags added None → Carried old added None
+  one_same : BroughtUp old.bound old.lists None → Carried old added None
+  carried : {new : Parts} → new.bound ≡ old.bound →
+      TypesMove old.bound old.types added (Some new.types) →
+      TagsMove old.bound old.tags added (Some new.tags) →
+      BroughtUp old.bound old.lists (Some new.lists) → Carried old added (Some new)
 
 -- the parts with a type more
 pub data Typing (old : Parts) (kind : Kind) (t : Tm) : Option Parts → Type 0 where

@@ -1,7 +1,6 @@
 //! The parts of a solved store, and what each kind of primitive makes of them.
 
 ghost use Rattle.std.specs.Prelude.{◌≡◌, ℕ, [], None, true, map, IfOk};
-ghost use Rattle.std.specs.Option.{option_map};
 ghost use Rattle.kan_terms.specs.Terms.{tree};
 ghost use Rattle.kan_model.specs.Stores.Prims.{prim as primitive};
 ghost use Rattle.unify_core.specs.Cycles.{HasNoCycle};
@@ -9,16 +8,17 @@ ghost use Rattle.diseq.specs.Watching.{are_watchable};
 ghost use Rattle.kan_terms.specs.Terms.{sides};
 ghost use Rattle.unify_core.specs.Solutions.{AddedTo};
 ghost use Rattle.unify_core.specs.Walking.{Pairs};
-ghost use Rattle.type_absence.specs.Seen.{types, tags};
+ghost use Rattle.type_absence.specs.Types.{made_if};
 ghost use Rattle.kan_store.specs.Parts.{Adding, Differing, Equated, Keeping, SameParts, Typing};
-ghost use Rattle.kan_store.specs.Parts.{BroughtUp, CarriedTags, CarriedTypes};
+ghost use Rattle.kan_store.specs.Parts.{BroughtUp, Carried};
 ghost use Rattle.kan_store.specs.Held.{parts_of};
 
 use crate::moving::{move_tags, move_types};
 use diseq::Diseqs;
 use kan_model::{Kind, Prim as Asserted};
-use kan_terms::{Bindings, Memory, Term};
+use kan_terms::{Bindings, Memory, Term, TermPairs};
 use std::alloc::Global;
+use std::mem;
 use type_absence::{Absences, Kinds};
 use unify_core::{Unified, unify_owned};
 
@@ -63,204 +63,147 @@ pub fn copied<B: Bindings>(solved: &Solved<B>) -> Result<Solved<B>, Memory>
     })
 }
 
-// Brings disequalities up to bindings that were made, and puts the parts together.
-fn bring_up<B: Bindings>(
+// Brings disequalities up to bindings that were made; false where one of them is false by now.
+fn recheck<B: Bindings>(
     alloc: Global,
-    unified: Unified<B>,
-    kinds: Kinds,
-    absences: Absences,
-    diseqs: Diseqs,
-) -> Result<Option<Solved<B>>, Memory>
-    requires no_cycle { HasNoCycle (B.pairs unified.bindings) }
+    diseqs: &mut Diseqs,
+    added: &TermPairs,
+    bindings: &B,
+) -> Result<bool, Memory>
+    requires no_cycle { HasNoCycle (B.pairs bindings.now) }
     requires older { (older : Pairs) ×
-        AddedTo older (map sides unified.added) (B.pairs unified.bindings) ×
-        (are_watchable older diseqs ≡ true) }
-    ensures { IfOk result (λ made. BroughtUp (B.pairs unified.bindings) (types kinds)
-        (tags absences) diseqs (option_map (parts_of B.pairs) made)) }
+        AddedTo older (map sides added.now) (B.pairs bindings.now) ×
+        (are_watchable older diseqs.old ≡ true) }
+    ensures { IfOk result (λ differ. BroughtUp (B.pairs bindings.now) diseqs.old
+        (made_if differ diseqs.new)) }
 {
-    match diseqs.recheck_owned(alloc, &unified.added, &unified.bindings)? {
-        None => Ok(None),
-        Some(diseqs) => Ok(Some(Solved {
-            bindings: unified.bindings,
-            kinds,
-            absences,
-            diseqs,
-        })),
+    if diseqs.is_untouched() {
+        return Ok(true);
+    }
+    let older = mem::replace(diseqs, Diseqs::empty(alloc));
+    match older.recheck_owned(alloc, added, bindings)? {
+        None => Ok(false),
+        Some(brought) => {
+            *diseqs = brought;
+            Ok(true)
+        }
     }
 }
 
-// Absences go over to the terms of the variables that were bound.
-fn carry_tags<B: Bindings>(
+// What stands on variables that were bound goes over to their terms, and disequalities are brought
+// up to the bindings.
+fn carry<B: Bindings>(
     alloc: Global,
-    unified: Unified<B>,
-    kinds: Kinds,
-    absences: Absences,
-    diseqs: Diseqs,
-) -> Result<Option<Solved<B>>, Memory>
-    requires no_cycle { HasNoCycle (B.pairs unified.bindings) }
+    solved: &mut Solved<B>,
+    added: &TermPairs,
+) -> Result<bool, Memory>
+    requires no_cycle { HasNoCycle (parts_of B.pairs solved.old).bound }
     requires older { (older : Pairs) ×
-        AddedTo older (map sides unified.added) (B.pairs unified.bindings) ×
-        (are_watchable older diseqs ≡ true) }
-    ensures { IfOk result (λ made. CarriedTags (B.pairs unified.bindings)
-        (map sides unified.added) (types kinds) (tags absences) diseqs
-        (option_map (parts_of B.pairs) made)) }
+        AddedTo older (map sides added.now) (parts_of B.pairs solved.old).bound ×
+        (are_watchable older (parts_of B.pairs solved.old).lists ≡ true) }
+    ensures { IfOk result (λ fits. Carried (parts_of B.pairs solved.old) (map sides added.now)
+        (made_if fits (parts_of B.pairs solved.new))) }
 {
-    match move_tags(alloc, absences, &unified.added, &unified.bindings)? {
-        None => Ok(None),
-        Some(absences) => Ok(bring_up(alloc, unified, kinds, absences, diseqs)?),
+    if !move_types(&mut solved.kinds, added, &solved.bindings)? {
+        return Ok(false);
     }
-}
-
-// Types go over to the terms of the variables that were bound.
-fn carry_types<B: Bindings>(
-    alloc: Global,
-    unified: Unified<B>,
-    kinds: Kinds,
-    absences: Absences,
-    diseqs: Diseqs,
-) -> Result<Option<Solved<B>>, Memory>
-    requires no_cycle { HasNoCycle (B.pairs unified.bindings) }
-    requires older { (older : Pairs) ×
-        AddedTo older (map sides unified.added) (B.pairs unified.bindings) ×
-        (are_watchable older diseqs ≡ true) }
-    ensures { IfOk result (λ made. CarriedTypes (B.pairs unified.bindings)
-        (map sides unified.added) (types kinds) (tags absences) diseqs
-        (option_map (parts_of B.pairs) made)) }
-{
-    match move_types(kinds, &unified.added, &unified.bindings)? {
-        None => Ok(None),
-        Some(kinds) => Ok(carry_tags(alloc, unified, kinds, absences, diseqs)?),
+    if !move_tags(alloc, &mut solved.absences, added, &solved.bindings)? {
+        return Ok(false);
     }
+    recheck(alloc, &mut solved.diseqs, added, &solved.bindings)
 }
 
 // Two terms are equal: what stands on the variables that this binds goes over to their terms.
 fn equate<B: Bindings>(
     alloc: Global,
-    solved: Solved<B>,
+    solved: &mut Solved<B>,
     left: &Term,
     right: &Term,
-) -> Result<Option<Solved<B>>, Memory>
-    requires no_cycle { HasNoCycle (parts_of B.pairs solved).bound }
-    requires watchable { are_watchable (parts_of B.pairs solved).bound
-        (parts_of B.pairs solved).lists ≡ true }
-    ensures { IfOk result (λ made. Equated (parts_of B.pairs solved) (tree left.now)
-        (tree right.now) (option_map (parts_of B.pairs) made)) }
+) -> Result<bool, Memory>
+    requires no_cycle { HasNoCycle (parts_of B.pairs solved.old).bound }
+    requires watchable { are_watchable (parts_of B.pairs solved.old).bound
+        (parts_of B.pairs solved.old).lists ≡ true }
+    ensures { IfOk result (λ fits. Equated (parts_of B.pairs solved.old) (tree left.now)
+        (tree right.now) (made_if fits (parts_of B.pairs solved.new))) }
 {
-    let Solved {
-        bindings,
-        kinds,
-        absences,
-        diseqs,
-    } = solved;
+    let bindings = mem::replace(&mut solved.bindings, B::empty(alloc)?);
     match unify_owned(alloc, left, right, bindings)? {
-        None => Ok(None),
-        Some(unified) => Ok(carry_types(alloc, unified, kinds, absences, diseqs)?),
+        None => Ok(false),
+        Some(unified) => {
+            let Unified { bindings, added } = unified;
+            solved.bindings = bindings;
+            carry(alloc, solved, &added)
+        }
     }
 }
 
 // A term is of a type.
-fn add_type<B: Bindings>(
-    solved: Solved<B>,
-    kind: Kind,
-    term: &Term,
-) -> Result<Option<Solved<B>>, Memory>
-    requires { HasNoCycle (parts_of B.pairs solved).bound }
-    ensures { IfOk result (λ made. Typing (parts_of B.pairs solved) kind (tree term.now)
-        (option_map (parts_of B.pairs) made)) }
+fn add_type<B: Bindings>(solved: &mut Solved<B>, kind: Kind, term: &Term) -> Result<bool, Memory>
+    requires { HasNoCycle (parts_of B.pairs solved.old).bound }
+    ensures { IfOk result (λ fits. Typing (parts_of B.pairs solved.old) kind (tree term.now)
+        (made_if fits (parts_of B.pairs solved.new))) }
 {
-    let Solved {
-        bindings,
-        kinds,
-        absences,
-        diseqs,
-    } = solved;
-    match kinds.add_owned(kind, term, &bindings)? {
-        None => Ok(None),
-        Some(kinds) => Ok(Some(Solved {
-            bindings,
-            kinds,
-            absences,
-            diseqs,
-        })),
-    }
+    solved.kinds.put_on(kind, term, &solved.bindings)
 }
 
 // A tag stands nowhere in a term.
 fn add_absence<B: Bindings>(
     alloc: Global,
-    solved: Solved<B>,
+    solved: &mut Solved<B>,
     tag: u32,
     term: &Term,
-) -> Result<Option<Solved<B>>, Memory>
-    requires { HasNoCycle (parts_of B.pairs solved).bound }
-    ensures { IfOk result (λ made. Keeping (parts_of B.pairs solved) tag (tree term.now)
-        (option_map (parts_of B.pairs) made)) }
+) -> Result<bool, Memory>
+    requires { HasNoCycle (parts_of B.pairs solved.old).bound }
+    ensures { IfOk result (λ fits. Keeping (parts_of B.pairs solved.old) tag (tree term.now)
+        (made_if fits (parts_of B.pairs solved.new))) }
 {
-    let Solved {
-        bindings,
-        kinds,
-        absences,
-        diseqs,
-    } = solved;
-    match absences.add_owned(alloc, tag, term, &bindings)? {
-        None => Ok(None),
-        Some(absences) => Ok(Some(Solved {
-            bindings,
-            kinds,
-            absences,
-            diseqs,
-        })),
-    }
+    solved
+        .absences
+        .put_on_all(alloc, tag, term, &solved.bindings)
 }
 
 // Two terms differ.
 fn add_difference<B: Bindings>(
     alloc: Global,
-    solved: Solved<B>,
+    solved: &mut Solved<B>,
     left: &Term,
     right: &Term,
-) -> Result<Option<Solved<B>>, Memory>
-    requires no_cycle { HasNoCycle (parts_of B.pairs solved).bound }
-    requires watchable { are_watchable (parts_of B.pairs solved).bound
-        (parts_of B.pairs solved).lists ≡ true }
-    ensures { IfOk result (λ made. Differing (parts_of B.pairs solved) (tree left.now)
-        (tree right.now) (option_map (parts_of B.pairs) made)) }
+) -> Result<bool, Memory>
+    requires no_cycle { HasNoCycle (parts_of B.pairs solved.old).bound }
+    requires watchable { are_watchable (parts_of B.pairs solved.old).bound
+        (parts_of B.pairs solved.old).lists ≡ true }
+    ensures { IfOk result (λ fits. Differing (parts_of B.pairs solved.old) (tree left.now)
+        (tree right.now) (made_if fits (parts_of B.pairs solved.new))) }
 {
-    let Solved {
-        bindings,
-        kinds,
-        absences,
-        diseqs,
-    } = solved;
-    match diseqs.add_owned(alloc, left, right, &bindings)? {
-        None => Ok(None),
-        Some(diseqs) => Ok(Some(Solved {
-            bindings,
-            kinds,
-            absences,
-            diseqs,
-        })),
+    let older = mem::replace(&mut solved.diseqs, Diseqs::empty(alloc));
+    match older.add_owned(alloc, left, right, &solved.bindings)? {
+        None => Ok(false),
+        Some(made) => {
+            solved.diseqs = made;
+            Ok(true)
+        }
     }
 }
 
-/// The parts with one more primitive; None where it can't be kept with those before.
+/// Makes of the parts those with one more primitive; false where it can't be kept with those
+/// before. Then, and after want of memory, the parts are of no more use.
 pub fn add<B: Bindings>(
     alloc: Global,
-    solved: Solved<B>,
+    solved: &mut Solved<B>,
     prim: &Asserted,
-) -> Result<Option<Solved<B>>, Memory>
-    requires no_cycle { HasNoCycle (parts_of B.pairs solved).bound }
-    requires watchable { are_watchable (parts_of B.pairs solved).bound
-        (parts_of B.pairs solved).lists ≡ true }
-    ensures { IfOk result (λ made. Adding (parts_of B.pairs solved) (primitive prim.now)
-        (option_map (parts_of B.pairs) made)) }
+) -> Result<bool, Memory>
+    requires no_cycle { HasNoCycle (parts_of B.pairs solved.old).bound }
+    requires watchable { are_watchable (parts_of B.pairs solved.old).bound
+        (parts_of B.pairs solved.old).lists ≡ true }
+    ensures { IfOk result (λ fits. Adding (parts_of B.pairs solved.old) (primitive prim.now)
+        (made_if fits (parts_of B.pairs solved.new))) }
 {
     match prim {
-        Asserted::Same(left, right) => Ok(equate(alloc, solved, left, right)?),
-        Asserted::Differ(left, right) => Ok(add_difference(alloc, solved, left, right)?),
-        Asserted::Symbol(term) => Ok(add_type(solved, Kind::Symbol, term)?),
-        Asserted::Number(term) => Ok(add_type(solved, Kind::Number, term)?),
-        Asserted::Text(term) => Ok(add_type(solved, Kind::Text, term)?),
-        Asserted::Absent(tag, term) => Ok(add_absence(alloc, solved, *tag, term)?),
+        Asserted::Same(left, right) => equate(alloc, solved, left, right),
+        Asserted::Differ(left, right) => add_difference(alloc, solved, left, right),
+        Asserted::Symbol(term) => add_type(solved, Kind::Symbol, term),
+        Asserted::Number(term) => add_type(solved, Kind::Number, term),
+        Asserted::Text(term) => add_type(solved, Kind::Text, term),
+        Asserted::Absent(tag, term) => add_absence(alloc, solved, *tag, term),
     }
 }

@@ -8,8 +8,11 @@ ghost use Rattle.kan_model.specs.Programs.Scope.{is_counted};
 ghost use Rattle.kan_model.specs.Stores.Kept.{is_kept};
 ghost use Rattle.kan_model.specs.Stores.Prims.{equation};
 ghost use Rattle.unify_core.specs.Cycles.{HasNoCycle};
+ghost use Rattle.diseq.specs.Watching.{are_watchable};
 ghost use Rattle.kan_model.specs.Stores.Prims.{prim as primitive};
-ghost use Rattle.kan_store.specs.Parts.{AreInStep, Resolved, SameParts};
+ghost use Rattle.kan_model.specs.Stores.Store.{with_prim};
+ghost use Rattle.type_absence.specs.Types.{made_if};
+ghost use Rattle.kan_store.specs.Parts.{Adding, AreInStep, KnownToMake, Resolved, SameParts};
 ghost use Rattle.kan_store.specs.Held.{parts_of, store_of};
 
 use crate::history::{History, Tells};
@@ -67,17 +70,66 @@ fn copied_with<B: Bindings>(held: &Held<B>, counter: u64) -> Result<Held<B>, Mem
     })
 }
 
-// What a pointer holds: itself where nobody else has the pointer, and else a copy.
-fn owned<B: Bindings>(held: Arc<Held<B>>) -> Result<Held<B>, Memory>
-    ensures same { IfOk result
-        (λ own. SameParts (parts_of B.pairs (arc_value held).solved) (parts_of B.pairs own.solved)) }
-    ensures prims { IfOk result (λ own. own.history.prims ≡ (arc_value held).history.prims) }
-    ensures counter { IfOk result (λ own. own.counter ≡ (arc_value held).counter) }
+// Adds a primitive to what is held; false where it can't be kept with those before.
+fn add_held<B: Bindings>(alloc: Global, held: &mut Held<B>, prim: &Asserted) -> Result<bool, Memory>
+    requires no_cycle { HasNoCycle (parts_of B.pairs held.old.solved).bound }
+    requires watchable { are_watchable (parts_of B.pairs held.old.solved).bound
+        (parts_of B.pairs held.old.solved).lists ≡ true }
+    ensures parts { IfOk result (λ fits. Adding (parts_of B.pairs held.old.solved)
+        (primitive prim.now) (made_if fits (parts_of B.pairs held.new.solved))) }
+    ensures store { OnOk result (store_of held.new ≡
+        with_prim (store_of held.old) (primitive prim.now)) }
 {
-    match Arc::try_unwrap(held) {
-        Ok(own) => Ok(own),
-        Err(shared) => copied_with(&*shared, shared.counter),
+    held.history = History::of::<Longer, Behind>(&Longer {
+        older: &held.history,
+        prim,
+    });
+    add(alloc, &mut held.solved, prim)
+}
+
+// Adds a primitive to what is behind a pointer, in place where nobody else has the pointer; false
+// where it can't be kept with those before.
+fn add_behind<B: Bindings>(
+    alloc: Global,
+    held: &mut Arc<Held<B>>,
+    prim: &Asserted,
+) -> Result<bool, Memory>
+    requires { ∥ AreInStep (parts_of B.pairs (arc_value held.old).solved)
+        (store_of (arc_value held.old)) ∥₁ }
+    ensures made { IfOk result (λ fits.
+        KnownToMake (with_prim (store_of (arc_value held.old)) (primitive prim.now))
+        (made_if fits (parts_of B.pairs (arc_value held.new).solved))) }
+    ensures store { OnOk result (store_of (arc_value held.new) ≡
+        with_prim (store_of (arc_value held.old)) (primitive prim.now)) }
+{
+    match Arc::get_mut(held) {
+        Some(own) => add_held(alloc, own, prim),
+        None => {
+            let mut copy = copied_with(&**held, held.counter)?;
+            let fits = add_held(alloc, &mut copy, prim)?;
+            *held = Arc::new(alloc, copy)?;
+            Ok(fits)
+        }
     }
+}
+
+// Sets the counter of what is behind a pointer, in place where nobody else has the pointer.
+fn count_behind<B: Bindings>(
+    alloc: Global,
+    held: &mut Arc<Held<B>>,
+    counter: u64,
+) -> Result<(), Memory>
+    ensures same { OnOk result (SameParts (parts_of B.pairs (arc_value held.old).solved)
+        (parts_of B.pairs (arc_value held.new).solved)) }
+    ensures prims { OnOk result
+        ((arc_value held.new).history.prims ≡ (arc_value held.old).history.prims) }
+    ensures counter { OnOk result ((arc_value held.new).counter ≡ counter) }
+{
+    match Arc::get_mut(held) {
+        Some(own) => own.counter = counter,
+        None => *held = Arc::new(alloc, copied_with(&**held, counter)?)?,
+    }
+    Ok(())
 }
 
 // Adds what was found, if anything was, at the end of a list.
@@ -159,20 +211,11 @@ impl<B: Bindings> Store for SolvedStore<B> {
     }
 
     fn fresh_owned(self, alloc: Global, count: u32) -> Result<SolvedStore<B>, Memory> {
-        let Held {
-            solved,
-            counter,
-            history,
-        } = owned(self.held)?;
-        let counter = counter + u64::from(count);
-        SolvedStore::of(
-            alloc,
-            Held {
-                solved,
-                counter,
-                history,
-            },
-        )
+        let SolvedStore { held } = self;
+        let mut held = held;
+        let counter = held.counter + u64::from(count);
+        count_behind(alloc, &mut held, counter)?;
+        Ok(SolvedStore { held })
     }
 
     fn assert(&self, alloc: Global, prim: &Asserted) -> Result<Option<SolvedStore<B>>, Memory> {
@@ -184,26 +227,12 @@ impl<B: Bindings> Store for SolvedStore<B> {
         alloc: Global,
         prim: &Asserted,
     ) -> Result<Option<SolvedStore<B>>, Memory> {
-        let Held {
-            solved,
-            counter,
-            history,
-        } = owned(self.held)?;
-        let history = History::of::<Longer, Behind>(&Longer {
-            older: &history,
-            prim,
-        });
-        let Some(solved) = add(alloc, solved, prim)? else {
+        let SolvedStore { held } = self;
+        let mut held = held;
+        if !add_behind(alloc, &mut held, prim)? {
             return Ok(None);
-        };
-        Ok(Some(SolvedStore::of(
-            alloc,
-            Held {
-                solved,
-                counter,
-                history,
-            },
-        )?))
+        }
+        Ok(Some(SolvedStore { held }))
     }
 
     fn again(&self, _alloc: Global) -> Result<SolvedStore<B>, Memory> {

@@ -26,7 +26,7 @@ pub both_none : {X : Type 0} (xs ys : List X) → xs ≡ [] → ys ≡ [] → xs
 both_none xs ys h k = rw (h, k) refl
 
 -- the slot of a name is there
-slot_there : (ns : Names) (s i : ℕ) → slot_of ns s ≡ Some i → i < length ns
+pub slot_there : (ns : Names) (s i : ℕ) → slot_of ns s ≡ Some i → i < length ns
 slot_there [] s i e = absurd cc
 slot_there (n ∷ ns) s i e = by_tests (is_named n s) (slot_of ns s) (λ k h. slot_there ns s k h) i e
   where

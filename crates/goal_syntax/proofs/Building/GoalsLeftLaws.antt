@@ -102,13 +102,13 @@ goal_falls t ds ns s old new g smaller waits =
     omega arith
 
 -- a row with no first element is empty
-row-none : (row : Row) (t : Table) (s : Sited) → None ≡ parts s → row_forms row t s ≡ none
+pub row-none : (row : Row) (t : Table) (s : Sited) → None ≡ parts s → row_forms row t s ≡ none
 row-none rows.All t s e = goals-none t s e
 row-none rows.One t s e = goals-none t s e
 row-none rows.Clauses t s e = clauses-none t s e
 
 -- another has a first element and others
-row-more : (row : Row) (t : Table) (s a d : Sited) → Some (a, d) ≡ parts s → row_forms row t s ≡ more (first_form row t a) (row_forms row t d)
+pub row-more : (row : Row) (t : Table) (s a d : Sited) → Some (a, d) ≡ parts s → row_forms row t s ≡ more (first_form row t a) (row_forms row t d)
 row-more rows.All t s a d e = ap (goal_forms t) (parts-is s a d e).1
 row-more rows.One t s a d e = ap (goal_forms t) (parts-is s a d e).1
 row-more rows.Clauses t s a d e = ap (clause_forms t) (parts-is s a d e).1

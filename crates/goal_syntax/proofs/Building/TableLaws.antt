@@ -1,5 +1,5 @@
 -- Tables of drafts as they grow: what stood stays, and what is new.
-use Rattle.std.proofs.Common.{◌≡◌, ℕ, suc, ◌+◌, ◌<◌, ◌^◌, Bool, true, false, List, [], ◌∷◌, ◌++◌, length, refl, sym, ◌∙◌, ap, arith, zero-add, length-append}
+use Rattle.std.proofs.Common.{◌≡◌, ℕ, suc, ◌<◌, Bool, true, false, List, [], ◌∷◌, ◌++◌, length, refl, sym, ◌∙◌, ap, arith, zero-add, length-append}
 use Rattle.std.specs.Prelude.{◌&&◌}
 use Rattle.std.proofs.lemmas.List.Folds.{list_all-append}
 use Rattle.std.proofs.lemmas.Option.{unwrap_or-slice_get}
@@ -10,7 +10,7 @@ use Rattle.kan_model.specs.Programs.Goals.{Template, Goal}
 use Rattle.kan_model.specs.Programs.Calls.{call_there}
 use Rattle.kan_model.specs.Programs.Tables.{TermEntry, GoalEntry, RelationEntry, Tables, template_at, template_of, templates_of, goal_at, goal_of, goals_of, is_grown, with_term, with_argument, with_goal}
 use Rattle.kan_model.proofs.Programs.TableLaws.{templates-more, templates-length, goals-more, goals-length, grown-parts, term-same, goals-with_term, goals-with_argument}
-use Rattle.goal_syntax.specs.Building.GrownTables.{HasTemplate, HasGoal, Grows, HasRoom}
+use Rattle.goal_syntax.specs.Building.GrownTables.{HasTemplate, HasGoal, Grows}
 use Rattle.goal_syntax.specs.Building.CallsThere.{are_there}
 
 -- tables grow from themselves
@@ -100,22 +100,6 @@ term_made ts us e at is place = rw (is, place) (new_template ts e)
 
 pub goal_made : (ts us : Tables) (e : GoalEntry) (at : ℕ) → us ≡ with_goal ts e → at ≡ length ts.goals → HasGoal us at (goal_of (templates_of ts.terms) ts.arguments (goals_of ts) e)
 goal_made ts us e at is place = rw (is, place) (new_goal ts e)
-
--- tables have room for more where the place of the new entry is not the last one
-pub term_room : (ts us : Tables) (e : TermEntry) (at : ℕ) → us ≡ with_term ts e → at ≡ length ts.terms → at + 1 < 2 ^ 24 → HasRoom ts → HasRoom us
-term_room ts us e at is place below room =
-    let size = longer ts.terms e in
-    rw is (record { terms = omega (arith, size, place, below); arguments = room.arguments; goals = room.goals; relations = room.relations })
-
-pub goal_room : (ts us : Tables) (e : GoalEntry) (at : ℕ) → us ≡ with_goal ts e → at ≡ length ts.goals → at + 1 < 2 ^ 24 → HasRoom ts → HasRoom us
-goal_room ts us e at is place below room =
-    let size = longer ts.goals e in
-    rw is (record { terms = room.terms; arguments = room.arguments; goals = omega (arith, size, place, below); relations = room.relations })
-
-pub argument_room : (ts us : Tables) (a at : ℕ) → us ≡ with_argument ts a → at ≡ length ts.arguments → at + 1 < 2 ^ 24 → HasRoom ts → HasRoom us
-argument_room ts us a at is place below room =
-    let size = longer ts.arguments a in
-    rw is (record { terms = room.terms; arguments = omega (arith, size, place, below); goals = room.goals; relations = room.relations })
 
 and_last : (a b : Bool) → (a && (b && true)) ≡ (a && b)
 and_last true true = refl

@@ -1,5 +1,5 @@
 -- The templates that are built of low data are low, and so are all of a table that grows by them.
-use Rattle.std.proofs.Common.{◌≡◌, ℕ, zero, suc, ◌≤◌, max, List, [], ◌∷◌, ◌++◌, length, drop, length-drop, reverse, refl, sym, ap, ◌∙◌, arith}
+use Rattle.std.proofs.Common.{◌≡◌, ℕ, suc, ◌≤◌, max, List, [], ◌∷◌, ◌++◌, length, drop, length-drop, reverse, refl, sym, ap, ◌∙◌, arith}
 use Rattle.std.specs.Prelude.{true, ◌&&◌}
 use Rattle.std.specs.List.{list_all}
 use Rattle.std.proofs.lemmas.Bool.{and_from, and_parts, leb-true, le-leb}
@@ -15,10 +15,10 @@ use Rattle.kan_grammar.specs.Texts.Resolved.{Names, template_in}
 use Rattle.kan_model.proofs.Programs.TableLaws.{templates-more}
 use Rattle.goal_syntax.specs.Building.TermsLeft.{built, paired, finish}
 use Rattle.goal_syntax.specs.Building.GrownTables.{HasTemplate}
-use Rattle.goal_forms.specs.Places.{are_below, kept}
+use Rattle.goal_forms.specs.Places.{are_below}
 use Rattle.kan_grammar.specs.Texts.ProgramText.{slot_list}
 use Rattle.goal_syntax.specs.Building.TermHeights.{all_low, WorksLow}
-use Rattle.goal_forms.specs.Heights.{pairs_high, is_low_datum, AreLow}
+use Rattle.goal_forms.specs.Heights.{AreLow}
 use Rattle.goal_syntax.specs.Building.LowTemplates.{KeepsLow}
 use Rattle.goal_forms.specs.Parts.{site_at}
 use Rattle.goal_forms.specs.TermSteps.{task_form}

@@ -1,7 +1,6 @@
 -- How building templates goes on from one piece of work to the next.
 use Rattle.std.proofs.Common.{◌≡◌, ℕ, suc, zero, ◌+◌, ◌<◌, ◌≤◌, List, [], ◌∷◌, ◌++◌, ◌-◌, length, map, reverse, take, drop, get_or, refl, sym, ◌∙◌, ap, ap₂, arith, append_assoc, length-append, drop-cons}
-use Rattle.std.specs.Prelude.{true, nat_lt, Option, Some, None, Result, IfOk, unwrap_or}
-use Rattle.std.specs.Option.{ok_or, option_to_list}
+use Rattle.std.specs.Prelude.{true, nat_lt, Some, unwrap_or}
 use Rattle.std.proofs.lemmas.Bool.{ltb-true, lt-ltb, and_parts, and_from}
 use Rattle.std.proofs.lemmas.List.{reverse-append, map-append, length-map, take_more}
 use Rattle.std.proofs.Math.Seq.{drop-append_seam, take-length}
@@ -15,7 +14,7 @@ use Rattle.kan_grammar.specs.Texts.GoalForms.{term_forms}
 use Rattle.kan_grammar.specs.Texts.ProgramText.{slot_list}
 use Rattle.kan_grammar.specs.Texts.Resolved.{Names, template_in}
 use Rattle.goal_syntax.specs.Building.TermsLeft.{AddsTerms, with_arguments, built, paired, finish, work_size, works_size}
-use Rattle.goal_syntax.specs.Building.GrownTables.{HasTemplate, HasArguments, Grows, HasRoom}
+use Rattle.goal_syntax.specs.Building.GrownTables.{HasTemplate, HasArguments, Grows}
 use Rattle.goal_forms.specs.Shapes.{parts}
 use Rattle.goal_forms.specs.Places.{are_below}
 use Rattle.goal_forms.specs.TermSteps.{task_size}
@@ -26,11 +25,11 @@ use Rattle.goal_syntax.proofs.Building.TableLaws.{grows_self, grows_on}
 use Rattle.goal_forms.proofs.PlaceLaws.{below-push, below-split}
 
 -- what came to tables by several steps
-pub adds_none : (ts : Tables) → HasRoom ts → AddsTerms ts ts
-adds_none ts room = record { grows = grows_self ts; room = room; same = refl }
+pub adds_none : (ts : Tables) → AddsTerms ts ts
+adds_none ts = record { grows = grows_self ts; same = refl }
 
 pub adds_on : (ts us vs : Tables) → AddsTerms ts us → AddsTerms us vs → AddsTerms ts vs
-adds_on ts us vs first next = record { grows = grows_on ts us vs first.grows next.grows; room = next.room; same = next.same ∙ first.same }
+adds_on ts us vs first next = record { grows = grows_on ts us vs first.grows next.grows; same = next.same ∙ first.same }
 
 -- the top of the stack comes first
 pub built-push : (ts : List Template) (ps : List ℕ) (p : ℕ) → built ts (ps ++ p ∷ []) ≡ template_at ts p ∷ built ts ps
@@ -168,8 +167,8 @@ put_next ts us vs ps i before put within =
     ∙ ap (with_arguments ts) (sym (take_more ps i 0 within))
 
 -- arguments leave the goals as they are
-pub adds_argument : (ts us : Tables) (p : ℕ) → us ≡ with_argument ts p → Grows ts us → HasRoom us → AddsTerms ts us
-adds_argument ts us p is grows room = record { grows = grows; room = room; same = ap (λ u. u.goals) is }
+pub adds_argument : (ts us : Tables) (p : ℕ) → us ≡ with_argument ts p → Grows ts us → AddsTerms ts us
+adds_argument ts us p is grows = record { grows = grows; same = ap (λ u. u.goals) is }
 
 -- what is put behind the arguments is there
 arguments_there : (ts us : Tables) (ps : List ℕ) → us ≡ with_arguments ts ps → HasArguments us (length ts.arguments) (length ps) (map (template_at (templates_of ts.terms)) ps)

@@ -1,6 +1,6 @@
 -- The relations and the runs of top forms, as they are built one after the other, and the widths of goals.
-use Rattle.std.proofs.Common.{◌≡◌, ℕ, zero, suc, ◌+◌, ◌<◌, ◌≤◌, ◌^◌, List, [], ◌∷◌, ◌++◌, length, map, take, get_or, refl, sym, ◌∙◌, ap, ap₂, arith, append_assoc, append-nil, Some, None}
-use Rattle.std.specs.Prelude.{Bool, true, false, ◌&&◌, slice_get, option_map, unwrap_or}
+use Rattle.std.proofs.Common.{◌≡◌, ℕ, zero, suc, ◌+◌, ◌<◌, ◌≤◌, ◌^◌, List, [], ◌∷◌, ◌++◌, length, map, take, get_or, refl, sym, ◌∙◌, ap, arith, append_assoc, append-nil, Some, None}
+use Rattle.std.specs.Prelude.{true, false, slice_get, option_map, unwrap_or}
 use Rattle.std.specs.List.{list_all, flat_map}
 use Rattle.std.proofs.Math.Seq.{take-suc}
 use Rattle.std.proofs.lemmas.Bool.{and_from, ltb-true, lt-ltb, false_from_ne_true}

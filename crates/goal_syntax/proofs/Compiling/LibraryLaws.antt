@@ -1,5 +1,5 @@
 -- Libraries that are accepted by themselves, for those who compile: compiling one by itself shows it.
-use Rattle.std.proofs.Common.{◌≡◌, ℕ, List, [], ◌∷◌, ◌++◌, map, length, refl, sym, ◌∙◌, ap, ap₂}
+use Rattle.std.proofs.Common.{◌≡◌, ℕ, List, [], ◌∷◌, ◌++◌, length, refl, sym, ◌∙◌, ap, ap₂}
 use Rattle.std.specs.Prelude.{Option, Some, None, is_some, if◌then◌else◌}
 use Rattle.kan_terms.specs.Table.{Table, number_of, interned}
 use Rattle.kan_terms.proofs.TableLaws.{number_of-push, number_of-interned}

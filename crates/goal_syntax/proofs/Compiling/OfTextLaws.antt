@@ -1,5 +1,5 @@
 -- Data of texts, and libraries that are accepted by themselves, for those who compile.
-use Rattle.std.proofs.Common.{◌≡◌, ◌≤◌, ◌<◌, ◌+◌, ◌^◌, ℕ, List, [], map, length, refl, arith}
+use Rattle.std.proofs.Common.{◌≡◌, ◌≤◌, ◌<◌, ◌+◌, ◌^◌, ℕ, List, [], map, length, refl, arith, ◌*◌, ap}
 use Rattle.std.proofs.lemmas.List.{length-map}
 use Rattle.std.specs.Prelude.{None, Ok}
 use Rattle.std.specs.Str.{is_utf8, chars}
@@ -12,6 +12,15 @@ use Rattle.kan_grammar.specs.declared.dialect.Dialect.{Dialect}
 use Rattle.kan_grammar.specs.Texts.TextNames.{GoesOn, with_prefixes}
 use Rattle.kan_grammar.proofs.Texts.NameLaws.{extends_prefixes, goes_on_further}
 use Rattle.sexpr.specs.Reads.{Reads}
+use Rattle.kan_grammar.specs.Texts.Sited.{with_sites}
+use Rattle.goal_forms.specs.Flattening.{meaning}
+use Rattle.goal_forms.specs.Sizes.{parts_in}
+use Rattle.goal_forms.proofs.DataPlaces.{map-meaning}
+use Rattle.goal_forms.proofs.SizeLaws.{text_parts}
+use Rattle.goal_syntax.specs.Building.Widths.{forms_width}
+use Rattle.goal_syntax.proofs.Building.FormWidthLaws.{forms_narrow}
+use Rattle.goal_syntax.specs.Building.Entries.{forms_size}
+use Rattle.goal_syntax.proofs.Building.FormEntryLaws.{forms_small}
 use Rattle.kan_grammar.proofs.Data.CountLaws.{few_data}
 use Rattle.sexpr.specs.Seen.{as_kept, written}
 use Rattle.sexpr.specs.declared.data.Datum.{Datum}
@@ -59,3 +68,41 @@ pub few_of_both : (names : Table) (library text : List Datum) → AreOfText name
     AreOfText names text → length library + length text < 2 ^ 32
 few_of_both names library text ls ds =
     omega (arith, few_of_text names library ls, few_of_text names text ds)
+
+-- data of a text have at most four parts a byte, so few entries are made of them
+pub parts_of_text : (old new : Table) (ds : List Datum) → new ≡ with_prefixes old → AreOfText (with_prefixes old) ds → parts_in (map (meaning new) ds) + 3 * length ds ≤ 2 ^ 22
+parts_of_text old new ds is of =
+    let table = with_prefixes old in
+    rw is (
+    omega (
+      arith,
+      text_parts table of.bytes (map (written table) ds) of.are,
+      ap parts_in (map-meaning table ds),
+      length-map ds (written table),
+      of.few,
+    )
+    )
+
+pub forms_of_data : (names : Table) (ds : List Datum) → forms_size names (map (with_sites names) (map (written names) ds)) ≤ parts_in (map (meaning names) ds) + 3 * length ds
+forms_of_data names ds =
+    omega (
+      arith,
+      forms_small names (map (with_sites names) (map (written names) ds)),
+      ap parts_in (map-meaning names ds),
+      length-map (map (written names) ds) (with_sites names),
+      length-map ds (written names),
+    )
+
+-- and their goals are narrow
+pub narrow_data : (names : Table) (ds : List Datum) → parts_in (map (meaning names) ds) + 3 * length ds ≤ 2 ^ 22 → forms_width names (map (with_sites names) (map (written names) ds)) < 2 ^ 21
+narrow_data names ds few =
+    forms_narrow names (map (with_sites names) (map (written names) ds))
+    (
+    omega (
+      arith,
+      few,
+      ap parts_in (map-meaning names ds),
+      length-map (map (written names) ds) (with_sites names),
+      length-map ds (written names),
+    )
+    )

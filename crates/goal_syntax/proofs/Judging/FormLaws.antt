@@ -1,15 +1,11 @@
 -- The relations before a top form, and the faults of the forms that are left.
-use Rattle.std.proofs.Common.{◌≡◌, ℕ, suc, ◌+◌, ◌<◌, ◌≤◌, List, [], ◌∷◌, ◌++◌, map, take, drop, length, get_or, sym, ◌∙◌, ap, append_assoc, arith, length-append, drop-cons, Option, Some, None, Bool, true, false}
-use Rattle.std.specs.Prelude.{if◌then◌else◌}
+use Rattle.std.proofs.Common.{◌≡◌, ℕ, suc, ◌+◌, ◌<◌, ◌≤◌, List, ◌∷◌, ◌++◌, map, take, drop, length, get_or, sym, ◌∙◌, ap, append_assoc, arith, length-append, drop-cons, Option}
 use Rattle.std.proofs.Math.Seq.{take-append_seam, take-append-add}
-use Rattle.std.proofs.lemmas.List.{length-take-le, length-map}
-use Rattle.goal_forms.specs.DefinedRelations.{related}
-use Rattle.goal_forms.specs.declared.relations.Defined.{Defined as Row}
+use Rattle.std.proofs.lemmas.List.{length-take-le}
 use Rattle.kan_terms.specs.Table.{Table}
-use Rattle.kan_grammar.specs.Texts.Sited.{Sited, elements}
+use Rattle.kan_grammar.specs.Texts.Sited.{Sited}
 use Rattle.kan_grammar.specs.Data.Faults.{Fault}
-use Rattle.kan_grammar.specs.Texts.TopForms.{Defined, form, definitions, definitions_of, definitions_of_head}
-use Rattle.kan_grammar.specs.Texts.Language.{Word, word, head_word, is_other}
+use Rattle.kan_grammar.specs.Texts.TopForms.{Defined, form, definitions, definitions_of}
 use Rattle.std.proofs.lemmas.Grind.{flat_map-append}
 use Rattle.kan_grammar.specs.Texts.TextFaults.{form_faults, forms_faults, faults_of, least}
 use Rattle.goal_forms.specs.Parts.{site_at}

@@ -13,6 +13,9 @@ use Rattle.kan_model.specs.Programs.Tables.{GoalEntry}
 use Rattle.goal_forms.specs.Parts.{site_at}
 use Rattle.goal_forms.specs.TermSteps.{site_size}
 use Rattle.goal_syntax.specs.Building.GoalsBuilt.{Built, with_goal}
+use Rattle.goal_forms.specs.GoalSteps.{step_goal}
+use Rattle.goal_syntax.specs.Building.Widths.{goal_width, goals_width}
+use Rattle.goal_syntax.specs.Building.Entries.{goal_size, goals_size, sides_size}
 use Rattle.goal_forms.specs.declared.goal.Goal as opened
 use Rattle.goal_forms.specs.declared.goal.Goal.TheVariants.{Fresh, AllOf, OneOf, Clauses}
 use Rattle.kan_grammar.specs.declared.dialect.Dialect.TheVariants.{Book, All}
@@ -127,6 +130,39 @@ work_size ds w = 1
 abbrev pub works_size : List Sited → List Work → ℕ
 works_size ds [] = 0
 works_size ds (w ∷ ws) = work_size ds w + works_size ds ws
+
+-- how many entries at most are made of a piece of work, with the names that it binds, and of all
+-- that is left
+abbrev pub work_entries : Table → List Sited → Work → ℕ
+work_entries t ds (works.Goal p) = goal_size (goal_form t (site_at ds p))
+work_entries t ds (works.Clause p) = goal_size (clause_form t (site_at ds p))
+work_entries t ds (works.Row row p) = goals_size (row_forms row t (site_at ds p))
+work_entries t ds (works.Leave n) = 0
+work_entries t ds w = 1
+
+abbrev pub works_entries : Table → List Sited → List Work → ℕ
+works_entries t ds [] = 0
+works_entries t ds (w ∷ ws) = work_entries t ds w + works_entries t ds ws
+
+-- those of the node of a goal that has no goals in it, with its terms
+abbrev pub own_size : Table → List Sited → opened.Goal → ℕ
+own_size t ds (Fresh b gs) = 0
+own_size t ds (AllOf gs) = 0
+own_size t ds (OneOf gs) = 0
+own_size t ds (Clauses cs) = 0
+own_size t ds g = 1 + sides_size (step_goal ds t g)
+
+-- how wide the goals of a piece of work are, and those of all that is left
+abbrev pub work_width : Table → List Sited → Work → ℕ
+work_width t ds (works.Goal p) = goal_width (goal_form t (site_at ds p))
+work_width t ds (works.Clause p) = goal_width (clause_form t (site_at ds p))
+work_width t ds (works.Row row p) = goals_width (row_forms row t (site_at ds p))
+work_width t ds (works.Fresh k) = k
+work_width t ds w = 0
+
+abbrev pub works_width : Table → List Sited → List Work → ℕ
+works_width t ds [] = 0
+works_width t ds (w ∷ ws) = work_width t ds w + works_width t ds ws
 
 -- the work that a goal leaves, the last on top
 abbrev pub inner_works : Table → List Sited → Names → opened.Goal → List Work

@@ -1,5 +1,6 @@
 -- What the forms in a context are built to.
-use Rattle.std.specs.Prelude.{ℕ, List, ◌∷◌, [], Option, map}
+use Rattle.std.specs.Prelude.{ℕ, List, ◌∷◌, Option, map}
+use Rattle.kan_terms.specs.Tree.{size}
 use Rattle.kan_model.specs.Programs.Goals as model
 use Rattle.kan_model.specs.Programs.Goals.{Goal, Template}
 use Rattle.kan_model.specs.Programs.Drafts.{tables}
@@ -8,7 +9,7 @@ use Rattle.kan_grammar.specs.Texts.Resolved.{Names, conjunction, goals_in, templ
 use Rattle.kan_grammar.specs.Texts.ProgramText.{relations_in, queries_in, relations_of, queries_of}
 use Rattle.kan_grammar.specs.Texts.TopForms.{form}
 use Rattle.goal_forms.specs.Contexts.{data_of, datum_at, data_at, defined_in, binder_at, head_at}
-use Rattle.goal_forms.specs.Contexts.{goals_at, term_at, terms_at, form_of}
+use Rattle.goal_forms.specs.Contexts.{goals_at, terms_at, form_of}
 use Rattle.goal_forms.specs.TermSteps.{task_form}
 use Rattle.goal_forms.specs.declared.context.Context.{Context}
 use Rattle.goal_forms.specs.declared.form.Form as parsed
@@ -17,9 +18,14 @@ use Rattle.goal_forms.specs.declared.term.Task.{Task}
 use Rattle.goal_syntax.specs.Building.FormsBuilt.{asked_fresh, asked_list, relation_meant, names_in}
 use Rattle.goal_syntax.specs.Building.FormsBuilt.{relation_names}
 use Rattle.goal_syntax.specs.Building.GoalsBuilt.{Built, own_goal}
-use Rattle.goal_syntax.specs.Building.GoalsLeft.{finish}
+use Rattle.goal_syntax.specs.Building.GoalsLeft.{finish, work_entries, work_width, works_entries}
+use Rattle.goal_syntax.specs.Building.GoalsLeft.{works_width}
+use Rattle.goal_syntax.specs.Building.Widths.{goals_width, forms_width}
+use Rattle.goal_syntax.specs.Building.TermsLeft as TermsLeft
+use Rattle.goal_syntax.specs.Building.Entries.{goals_size, forms_size}
 use Rattle.goal_syntax.specs.Building.LowTemplates.{KeepsLow}
 use Rattle.goal_syntax.specs.declared.build_goal.Work.{Work}
+use Rattle.goal_syntax.specs.declared.build_term.Work as terms
 
 -- the template of a task's term, and those of the terms in a list, where these names are in scope
 abbrev pub task_template : Context → Names → Task → Template
@@ -104,3 +110,37 @@ forms_names context places = relation_names context.names.now (data_at context p
 -- templates that came to a draft are low where the data are
 abbrev pub KeepsLowIn : Context → Draft → Draft → Type 0
 KeepsLowIn context old new = KeepsLow (data_of context) (tables old) (tables new)
+
+-- how many entries are made of a task's term, and of the terms in a list as arguments; of all work
+-- that is left on terms, and on goals; and of the goals in a list, and top forms at places
+abbrev pub task_entries : Context → Task → ℕ
+task_entries context task = size (task_form (data_of context) context.names.now task)
+
+abbrev pub terms_entries : Context → List terms.Work → ℕ
+terms_entries context works = TermsLeft.works_entries (data_of context) context.names.now works
+
+abbrev pub goals_entries : Context → List Work → ℕ
+goals_entries context works = works_entries context.names.now (data_of context) works
+
+abbrev pub next_entries : Context → Work → ℕ
+next_entries context work = work_entries context.names.now (data_of context) work
+
+abbrev pub list_entries : Context → ℕ → ℕ
+list_entries context place = goals_size (goals_at context place)
+
+abbrev pub forms_entries : Context → List ℕ → ℕ
+forms_entries context places = forms_size context.names.now (data_at context places)
+
+-- how wide the goals of a piece of work are, of all work that is left, and of a list; and the
+-- widest of the top forms at places
+abbrev pub next_width : Context → Work → ℕ
+next_width context work = work_width context.names.now (data_of context) work
+
+abbrev pub left_width : Context → List Work → ℕ
+left_width context works = works_width context.names.now (data_of context) works
+
+abbrev pub list_width : Context → ℕ → ℕ
+list_width context place = goals_width (goals_at context place)
+
+abbrev pub widest_form : Context → List ℕ → ℕ
+widest_form context places = forms_width context.names.now (data_at context places)

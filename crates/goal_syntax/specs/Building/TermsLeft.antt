@@ -1,21 +1,20 @@
 -- What is made of the terms that are left to be built.
 use Rattle.std.specs.Prelude.{◌≡◌, ℕ, ◌+◌, true, List, [], ◌∷◌, ◌++◌, length, map}
-use Rattle.kan_terms.specs.Tree.{Tree}
+use Rattle.kan_terms.specs.Tree.{Tree, size}
 use Rattle.kan_terms.specs.Table.{Table}
 use Rattle.kan_model.specs.Programs.Goals.{Template}
 use Rattle.kan_grammar.specs.Texts.Sited.{Sited}
 use Rattle.kan_model.specs.Programs.Tables.{Tables, template_at, templates_of}
 use Rattle.kan_grammar.specs.Texts.Resolved.{Names, template_in}
-use Rattle.goal_syntax.specs.Building.GrownTables.{Grows, HasRoom}
+use Rattle.goal_syntax.specs.Building.GrownTables.{Grows}
 use Rattle.goal_forms.specs.Places.{are_below}
 use Rattle.goal_forms.specs.TermSteps.{task_form, task_size}
 use Rattle.goal_syntax.specs.declared.build_term.Work.{Work}
 use Rattle.goal_syntax.specs.declared.build_term.Work.TheVariants.{Term, Pair}
 
--- templates and arguments came to tables, and room for more is left
+-- templates and arguments came to tables
 pub record AddsTerms (ts us : Tables) : Type 0 where
   pub grows : Grows ts us
-  pub room : HasRoom us
   pub same : us.goals ≡ ts.goals
 
 -- the templates at places
@@ -53,3 +52,12 @@ work_size ds Pair = 1
 abbrev pub works_size : List Sited → List Work → ℕ
 works_size ds [] = 0
 works_size ds (w ∷ ws) = work_size ds w + works_size ds ws
+
+-- how many entries are made of a piece of work, and of all that is left
+abbrev pub work_entries : List Sited → Table → Work → ℕ
+work_entries ds t (Term task) = size (task_form ds t task)
+work_entries ds t Pair = 1
+
+abbrev pub works_entries : List Sited → Table → List Work → ℕ
+works_entries ds t [] = 0
+works_entries ds t (w ∷ ws) = work_entries ds t w + works_entries ds t ws

@@ -1,10 +1,12 @@
-use Rattle.std.proofs.Common.{◌≡◌, [], reverse, length, true}
+use Rattle.std.proofs.Common.{◌≡◌, ◌≤◌, ◌+◌, [], reverse, length, true}
 use Rattle.kan_model.specs.Programs.Drafts.{tables}
 use Rattle.kan_grammar.specs.Texts.GoalForms.{goal_forms}
 use Rattle.kan_grammar.specs.Texts.Resolved.{conjunction, goals_in}
 use Rattle.goal_syntax.specs.Building.GoalsBuilt.{built, with_goal}
-use Rattle.goal_syntax.specs.Building.GrownTables.{Grows, HasRoom}
-use Rattle.goal_syntax.specs.Building.GoalsLeft.{finish, works_size}
+use Rattle.goal_syntax.specs.Building.GrownTables.{Grows}
+use Rattle.goal_syntax.specs.Building.GoalsLeft.{finish, works_entries, works_size, works_width}
+use Rattle.goal_syntax.specs.Building.Widths.{Widens, goals_width, made_width}
+use Rattle.goal_syntax.specs.Building.Entries.{entries, goals_size}
 use Rattle.goal_syntax.specs.Building.LowTemplates.{KeepsLow}
 use Rattle.goal_forms.specs.Parts.{sites, site_at}
 use Rattle.goal_forms.specs.RelationTables.{relations}
@@ -18,7 +20,13 @@ invariant-loop-work l = record {
       ≡ with_goal (conjunction (goals_in l.context.dialect (relations l.context.relations.now) l.fn.scope.items (goal_forms l.context.names.now (site_at (sites l.context.flat.now) l.fn.place)))) (built (tables l.fn.draft) []);
   below : are_below (length (tables l.draft).goals) l.places.items ≡ true;
   grows : Grows (tables l.fn.draft) (tables l.draft);
-  room : HasRoom (tables l.draft);
+  room : entries (tables l.draft) + works_entries l.context.names.now (sites l.context.flat.now) l.works.items
+      ≤ entries (tables l.fn.draft) + goals_size (goal_forms l.context.names.now (site_at (sites l.context.flat.now) l.fn.place));
+  few : length l.scope.items + works_entries l.context.names.now (sites l.context.flat.now) l.works.items
+      ≤ length l.fn.scope.items + goals_size (goal_forms l.context.names.now (site_at (sites l.context.flat.now) l.fn.place));
+  wide : made_width (built (tables l.draft) l.places.items) + works_width l.context.names.now (sites l.context.flat.now) l.works.items
+      ≤ goals_width (goal_forms l.context.names.now (site_at (sites l.context.flat.now) l.fn.place));
+  narrow : Widens (goals_width (goal_forms l.context.names.now (site_at (sites l.context.flat.now) l.fn.place))) (tables l.fn.draft) (tables l.draft);
   low : KeepsLow (sites l.context.flat.now) (tables l.fn.draft) (tables l.draft);
 }
 

@@ -12,14 +12,15 @@ add_term-requires-in-loop-slot-2-clause-there c =
 pub loop-slot-preserved : goal.loop-slot-preserved
 loop-slot-preserved c =
     let first : AddsTerms (tables c.loop-slot.draft) (tables c.add_term-in-loop-slot.new.draft) =
-    record { grows = c.in_ok-first.ensures.grows; room = c.in_ok-first.ensures.room; same = c.in_ok-first.ensures.same } in
+    record { grows = c.in_ok-first.ensures.grows; same = c.in_ok-first.ensures.same } in
     let next : AddsTerms (tables c.add_term-in-loop-slot.new.draft) (tables c.add_term-in-loop-slot-2.new.draft) =
-    record { grows = c.in_ok-list-2.ensures.grows; room = c.in_ok-list-2.ensures.room; same = c.in_ok-list-2.ensures.same } in
+    record { grows = c.in_ok-list-2.ensures.grows; same = c.in_ok-list-2.ensures.same } in
     let made = slots_next (tables c.loop-slot.draft) (tables c.add_term-in-loop-slot.new.draft) _ c.args.bound.now c.loop-slot.slot _ _ _ c.loop-slot-test.true c.loop-slot.invariant.within
     c.loop-slot.invariant.made c.in_ok-first.ensures.made c.in_ok-first.ensures.grows c.in_ok-list-2.ensures.made in
     record {
       within = omega arith;
       made = made;
+      few = omega (arith, c.loop-slot.invariant.few, c.loop-slot-test.true, c.in_ok-first.ensures.room, c.in_ok-list-2.ensures.room);
       adds = adds_on (tables c.args.draft.now) (tables c.loop-slot.draft) _ c.loop-slot.invariant.adds (adds_on (tables c.loop-slot.draft) (tables c.add_term-in-loop-slot.new.draft) _ first next);
       low = λ short there. c.in_ok-list-2.ensures.low (slots_low _ _ _ c.args.bound.now _ _ c.in_ok-list-2.ensures.made made short) (c.in_ok-first.ensures.low refl (c.loop-slot.invariant.low short there));
     }

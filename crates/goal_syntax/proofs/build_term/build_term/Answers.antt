@@ -8,6 +8,8 @@ use Rattle.goal_syntax.proofs.Building.TermHeightLaws.{first_low, first_made, fi
 use Rattle.goal_syntax.proofs.Building.TermsLeftLaws.{adds_none}
 use Rattle.kan_model.specs.Programs.Drafts.{templates}
 use Rattle.goal_syntax.specs.declared.build_term.Work.TheVariants.{Term}
+use Rattle.goal_syntax.proofs.Building.EntryLaws.{term_pushed}
+use Rattle.goal_syntax.specs.Building.TermsLeft as terms
 use Rattle.goal_syntax.proofs.build_term.build_term.Goals as goal
 
 pub loop-work-smaller : goal.loop-work-smaller
@@ -18,6 +20,12 @@ loop-work-preserved c = record {
   made = work_done (sites c.args.context.now.flat.now) c.args.context.now.names.now c.args.scope.now _ _ c.build_work.new.works.items c.in-Some.work _ _ _ c.in-Some.ensures.items c.in_ok-build_work.ensures.made c.loop-work.invariant.made;
   below = c.in_ok-build_work.ensures.below;
   adds = adds_on (tables c.args.draft.now) (tables c.loop-work.draft) _ c.loop-work.invariant.adds c.in_ok-build_work.ensures.adds;
+  few = omega (
+    arith,
+    term_pushed (sites c.args.context.now.flat.now) c.args.context.now.names.now _ c.loop-work.works.items c.in-Some.work c.in-Some.ensures.items,
+    c.in_ok-build_work.ensures.room,
+    c.loop-work.invariant.few,
+  );
   low = λ data_low there.
       work_low (sites c.args.context.now.flat.now) c.args.context.now.names.now c.args.scope.now _ _ c.build_work.new.works.items c.in-Some.work _ _ _ _ c.in-Some.ensures.items c.in_ok-build_work.ensures.low
       (c.loop-work.invariant.low data_low there);
@@ -36,6 +44,16 @@ loop-work-init c =
     record {
       made = first_made ds names c.args.scope.now c.args.task c.push.new.self.items (templates c.args.draft.now) c.new-places.result.items started c.new-places.ensures.items;
       below = first_below _ c.new-places.result.items c.new-places.ensures.items;
-      adds = adds_none (tables c.args.draft.now) c.requires.room;
+      adds = adds_none (tables c.args.draft.now);
+      few = omega (arith, term_pushed ds names c.new-works.result.items _ (Term c.args.task) c.in_ok-push.ensures.items, ap (terms.works_entries ds names) c.new-works.ensures.items);
       low = first_low ds names c.args.scope.now c.args.task c.push.new.self.items (templates c.args.draft.now) c.new-places.result.items started c.new-places.ensures.items;
     }
+
+pub build_work-requires-clause-room : goal.build_work-requires-clause-room
+build_work-requires-clause-room c =
+    omega (
+      arith,
+      term_pushed (sites c.args.context.now.flat.now) c.args.context.now.names.now _ c.loop-work.works.items c.in-Some.work c.in-Some.ensures.items,
+      c.loop-work.invariant.few,
+      c.requires.room,
+    )

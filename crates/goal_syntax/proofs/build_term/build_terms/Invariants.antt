@@ -1,9 +1,10 @@
-use Rattle.std.proofs.Common.{◌≡◌, ◌++◌, map, length, true}
+use Rattle.std.proofs.Common.{◌≡◌, ◌≤◌, ◌+◌, ◌++◌, map, length, true}
 use Rattle.kan_model.specs.Programs.Drafts.{tables, templates}
 use Rattle.kan_grammar.specs.Texts.GoalForms.{term_forms}
 use Rattle.kan_grammar.specs.Texts.Resolved.{template_in}
 use Rattle.kan_model.specs.Programs.Tables.{template_at}
 use Rattle.goal_syntax.specs.Building.TermsLeft.{AddsTerms}
+use Rattle.goal_syntax.specs.Building.Entries.{entries, terms_size}
 use Rattle.goal_syntax.specs.Building.LowTemplates.{KeepsLow}
 use Rattle.goal_forms.specs.Parts.{sites, site_at}
 use Rattle.goal_forms.specs.Places.{are_below}
@@ -15,6 +16,8 @@ invariant-loop-first l = record {
   are : map (template_at (templates l.draft)) l.places.items ++ map (template_in l.scope) (term_forms l.context.names.now (site_at (sites l.context.flat.now) l.place))
       ≡ map (template_in l.scope) (term_forms l.context.names.now (site_at (sites l.context.flat.now) l.fn.place));
   below : are_below (length (tables l.draft).terms) l.places.items ≡ true;
+  few : entries (tables l.draft) + terms_size (term_forms l.context.names.now (site_at (sites l.context.flat.now) l.place))
+      ≤ entries (tables l.fn.draft) + terms_size (term_forms l.context.names.now (site_at (sites l.context.flat.now) l.fn.place));
   adds : AddsTerms (tables l.fn.draft) (tables l.draft);
   low : KeepsLow (sites l.context.flat.now) (tables l.fn.draft) (tables l.draft);
 }

@@ -15,4 +15,4 @@ returns-clause-put c =
 
 pub returns-clause-adds : goal.returns-clause-adds
 returns-clause-adds c =
-    adds_on (tables c.args.draft.now) (tables c.add_argument.new.draft) _ (adds_argument (tables c.args.draft.now) _ _ c.in_ok-at.ensures.put c.in_ok-at.ensures.grows c.in_ok-at.ensures.room) c.in_ok-put_behind.ensures.adds
+    adds_on (tables c.args.draft.now) (tables c.add_argument.new.draft) _ (adds_argument (tables c.args.draft.now) _ _ c.in_ok-at.ensures.put c.in_ok-at.ensures.grows) c.in_ok-put_behind.ensures.adds

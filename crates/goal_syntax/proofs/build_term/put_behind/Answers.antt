@@ -1,3 +1,4 @@
+use Rattle.std.proofs.Common.{arith}
 use Rattle.kan_model.specs.Programs.Drafts.{tables}
 use Rattle.goal_syntax.proofs.Building.TermsLeftLaws.{adds_on, adds_argument, below_within, put_next}
 use Rattle.goal_syntax.proofs.build_term.put_behind.Goals as goal
@@ -9,5 +10,6 @@ pub loop-term-preserved : goal.loop-term-preserved
 loop-term-preserved c = record {
   put = put_next (tables c.args.draft.now) (tables c.loop-term.draft) _ c.args.terms.now c.loop-term.term-index c.loop-term.invariant.put c.in_ok-add_argument.ensures.put c.loop-term-test.true;
   adds = adds_on (tables c.args.draft.now) (tables c.loop-term.draft) _ c.loop-term.invariant.adds
-      (adds_argument (tables c.loop-term.draft) _ _ c.in_ok-add_argument.ensures.put c.in_ok-add_argument.ensures.grows c.in_ok-add_argument.ensures.room);
+      (adds_argument (tables c.loop-term.draft) _ _ c.in_ok-add_argument.ensures.put c.in_ok-add_argument.ensures.grows);
+  few = omega (arith, c.in_ok-add_argument.ensures.room, c.loop-term.invariant.few);
 }

@@ -5,6 +5,9 @@ use Rattle.goal_forms.specs.Parts.{sites}
 use Rattle.goal_forms.specs.RelationTables.{relations}
 use Rattle.goal_syntax.proofs.Compiling.CompilingLaws.{names_next, library_means}
 use Rattle.goal_syntax.proofs.Building.CallsThereLaws.{library_closed}
+use Rattle.goal_syntax.proofs.Building.FormEntryLaws.{forms_front, forms_next}
+use Rattle.std.proofs.Common.{◌+◌}
+use Rattle.goal_syntax.proofs.Building.FormWidthLaws.{widest_front, widest_next}
 use Rattle.goal_syntax.proofs.compiler.build_library.Goals as goal
 
 pub loop-place-preserved : goal.loop-place-preserved
@@ -16,10 +19,28 @@ loop-place-preserved c =
       means = library_means c.args.context.now.dialect t rules ds c.args.forms.now c.loop-place.place-index (tables c.args.draft.now) (tables c.loop-place.draft) (tables c.build_library_form.new.draft) (omega arith)
           c.loop-place.invariant.means c.in_ok-build_library_form.ensures.means;
       names = names_next t ds c.args.forms.now c.loop-place.place-index (tables c.args.draft.now) (tables c.loop-place.draft) (tables c.build_library_form.new.draft) (omega arith) c.loop-place.invariant.names c.in_ok-build_library_form.ensures.names;
-      room = c.in_ok-build_library_form.ensures.room;
+      room = omega (arith, forms_next t ds c.args.forms.now c.loop-place.place-index c.loop-place-test.true, c.in_ok-build_library_form.ensures.room, c.loop-place.invariant.room);
+      narrow = omega (arith, widest_next t ds c.args.forms.now c.loop-place.place-index c.loop-place-test.true, c.in_ok-build_library_form.ensures.narrow, c.loop-place.invariant.narrow);
       closed = library_closed c.args.context.now.dialect t rules ds c.args.forms.now c.loop-place.place-index (tables c.args.draft.now) (tables c.loop-place.draft) (tables c.build_library_form.new.draft) (omega arith)
           c.loop-place.invariant.closed c.in_ok-build_library_form.ensures.closed;
     }
 
 pub returns-clause-means : goal.returns-clause-means
 returns-clause-means c = λ qs rs asked means. rw (take_all c.loop-place.place-index c.args.forms.now (omega arith)) at (c.loop-place.invariant.means qs rs asked means)
+
+pub build_library_form-requires : goal.build_library_form-requires
+build_library_form-requires c = record {
+  room = omega (
+    arith,
+    forms_next c.args.context.now.names.now (sites c.args.context.now.flat.now) c.args.forms.now c.loop-place.place-index c.loop-place-test.true,
+    forms_front c.args.context.now.names.now (sites c.args.context.now.flat.now) c.args.forms.now (c.loop-place.place-index + 1),
+    c.loop-place.invariant.room,
+    c.requires.room,
+  );
+}
+
+pub returns-clause-room : goal.returns-clause-room
+returns-clause-room c = omega (arith, forms_front c.args.context.now.names.now (sites c.args.context.now.flat.now) c.args.forms.now c.loop-place.place-index, c.loop-place.invariant.room)
+
+pub returns-clause-narrow : goal.returns-clause-narrow
+returns-clause-narrow c = omega (arith, widest_front c.args.context.now.names.now (sites c.args.context.now.flat.now) c.args.forms.now c.loop-place.place-index, c.loop-place.invariant.narrow)

@@ -1,11 +1,11 @@
-use Rattle.std.proofs.Common.{◌≡◌, ◌++◌, List, map, take}
-use Rattle.std.specs.Prelude.{◌&&◌}
+use Rattle.std.proofs.Common.{◌++◌, List, map, take}
 use Rattle.kan_model.specs.Programs.Drafts.{tables}
 use Rattle.kan_model.specs.Programs.Goals as model
 use Rattle.kan_grammar.specs.Texts.ProgramText.{relations_of, queries_of}
 use Rattle.goal_syntax.specs.Building.FormsBuilt.{AddsNames, Means, relation_names}
 use Rattle.goal_syntax.specs.Building.CallsThere.{KeepsClosed, all_named}
-use Rattle.goal_syntax.specs.Building.GrownTables.{HasRoom}
+use Rattle.goal_syntax.specs.Building.Widths.{Widens, forms_width}
+use Rattle.goal_syntax.specs.Building.Entries.{Adds, forms_size}
 use Rattle.goal_forms.specs.Parts.{sites, site_at}
 use Rattle.goal_forms.specs.RelationTables.{relations}
 use Rattle.goal_syntax.proofs.compiler.build_text.Given as goal
@@ -18,7 +18,8 @@ invariant-loop-place l = record {
       (rs ++ relations_of l.context.dialect l.context.names.now (relations l.context.relations.now) (map (site_at (sites l.context.flat.now)) (take l.place-index l.forms)))
       (asked ++ queries_of l.context.dialect l.context.names.now (relations l.context.relations.now) (map (site_at (sites l.context.flat.now)) (take l.place-index l.forms)));
   names : AddsNames (tables l.fn.draft) (tables l.draft) (relation_names l.context.names.now (map (site_at (sites l.context.flat.now)) (take l.place-index l.forms)));
-  room : HasRoom (tables l.draft);
+  room : Adds (forms_size l.context.names.now (map (site_at (sites l.context.flat.now)) (take l.place-index l.forms))) (tables l.fn.draft) (tables l.draft);
+  narrow : Widens (forms_width l.context.names.now (map (site_at (sites l.context.flat.now)) (take l.place-index l.forms))) (tables l.fn.draft) (tables l.draft);
   closed : KeepsClosed (sites l.context.flat.now) (tables l.fn.draft) (tables l.draft) (all_named (relations_of l.context.dialect l.context.names.now (relations l.context.relations.now) (map (site_at (sites l.context.flat.now)) (take l.place-index l.forms)))
       (queries_of l.context.dialect l.context.names.now (relations l.context.relations.now) (map (site_at (sites l.context.flat.now)) (take l.place-index l.forms))));
 }

@@ -4,6 +4,10 @@ use Rattle.kan_grammar.specs.Texts.TextFaults.{faults_of}
 use Rattle.goal_forms.specs.Heights.{is_low_datum}
 use Rattle.goal_forms.specs.Parts.{sites, site_at}
 use Rattle.goal_forms.proofs.DataPlaces.{places_made, split_places}
+use Rattle.goal_syntax.specs.Building.Entries.{forms_size}
+use Rattle.goal_syntax.proofs.Compiling.OfTextLaws.{forms_of_data}
+use Rattle.goal_syntax.proofs.Compiling.OfTextLaws.{narrow_data}
+use Rattle.goal_syntax.specs.Building.Widths.{forms_width}
 use Rattle.goal_syntax.proofs.compiler.compile_data.Goals as goal
 
 pub split_at-requires : goal.split_at-requires
@@ -30,3 +34,32 @@ returns c =
     let parts = split_places (sites c.turn_both.new.table) c.as_slice.result.now c.split_at.result.0.now c.split_at.result.1.now c.args.names.now c.args.library.now c.args.text.now
     (ap (map (site_at (sites c.turn_both.new.table))) c.as_slice.ensures.value ∙ c.in_ok-places.ensures.made) c.split_at.ensures.front c.split_at.ensures.back in
     rw (parts.0, parts.1) at c.compile_forms.ensures
+
+pub turn_both-requires-clause-room : goal.turn_both-requires-clause-room
+turn_both-requires-clause-room c = omega (arith, ap length c.new-table.ensures, c.requires.library_parts, c.requires.text_parts)
+
+pub compile_forms-requires-clause-room : goal.compile_forms-requires-clause-room
+compile_forms-requires-clause-room c =
+    let parts = split_places (sites c.turn_both.new.table) c.as_slice.result.now c.split_at.result.0.now c.split_at.result.1.now c.args.names.now c.args.library.now c.args.text.now
+    (ap (map (site_at (sites c.turn_both.new.table))) c.as_slice.ensures.value ∙ c.in_ok-places.ensures.made) c.split_at.ensures.front c.split_at.ensures.back in
+    omega (
+      arith,
+      ap (forms_size c.args.names.now) parts.0,
+      ap (forms_size c.args.names.now) parts.1,
+      forms_of_data c.args.names.now c.args.library.now,
+      forms_of_data c.args.names.now c.args.text.now,
+      c.requires.library_parts,
+      c.requires.text_parts,
+    )
+
+pub compile_forms-requires-clause-narrow_library : goal.compile_forms-requires-clause-narrow_library
+compile_forms-requires-clause-narrow_library c =
+    let parts = split_places (sites c.turn_both.new.table) c.as_slice.result.now c.split_at.result.0.now c.split_at.result.1.now c.args.names.now c.args.library.now c.args.text.now
+    (ap (map (site_at (sites c.turn_both.new.table))) c.as_slice.ensures.value ∙ c.in_ok-places.ensures.made) c.split_at.ensures.front c.split_at.ensures.back in
+    omega (arith, ap (forms_width c.args.names.now) parts.0, narrow_data c.args.names.now c.args.library.now c.requires.library_parts)
+
+pub compile_forms-requires-clause-narrow_text : goal.compile_forms-requires-clause-narrow_text
+compile_forms-requires-clause-narrow_text c =
+    let parts = split_places (sites c.turn_both.new.table) c.as_slice.result.now c.split_at.result.0.now c.split_at.result.1.now c.args.names.now c.args.library.now c.args.text.now
+    (ap (map (site_at (sites c.turn_both.new.table))) c.as_slice.ensures.value ∙ c.in_ok-places.ensures.made) c.split_at.ensures.front c.split_at.ensures.back in
+    omega (arith, ap (forms_width c.args.names.now) parts.1, narrow_data c.args.names.now c.args.text.now c.requires.text_parts)

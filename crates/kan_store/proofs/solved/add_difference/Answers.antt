@@ -1,4 +1,4 @@
-use Rattle.std.proofs.Common.{◌∷◌, [], subst}
+use Rattle.std.proofs.Common.{◌≡◌, ◌∷◌, [], rules, subst}
 use Rattle.std.specs.Option.{IfSome}
 use Rattle.kan_terms.specs.Terms.{tree}
 use Rattle.unify_core.specs.Solutions.{equation}
@@ -12,5 +12,7 @@ returns-in-None g c = Differing.identical (only_true _ (c.in_ok-add_owned.ensure
 
 pub returns-in-Some : goal.returns-in-Some
 returns-in-Some g c =
-    let adds = subst (λ o. IfSome o (λ made. Adds (g.B.Bindings.pairs c.args.solved.bindings) (equation (tree c.args.left.now) (tree c.args.right.now) ∷ []) c.args.solved.diseqs made)) c.in-Some.is c.in_ok-add_owned.ensures.added in
-    Differing.differs (only_false _ (none_identical c.in_ok-add_owned.field-0 c.in-Some.diseqs _ c.in-Some.is c.in_ok-add_owned.ensures.none)) adds.brought (adds.watchable c.requires.watchable)
+    let same : c.replace-older.result ≡ c.args.solved.now.diseqs = search rules in
+    let adds = subst (λ ds. Adds (g.B.Bindings.pairs c.args.solved.now.bindings) (equation (tree c.args.left.now) (tree c.args.right.now) ∷ []) ds c.in-Some.made) same
+    (subst (λ o. IfSome o (λ made. Adds (g.B.Bindings.pairs c.args.solved.now.bindings) (equation (tree c.args.left.now) (tree c.args.right.now) ∷ []) c.replace-older.result made)) c.in-Some.is c.in_ok-add_owned.ensures.added) in
+    Differing.differs (only_false _ (none_identical c.in_ok-add_owned.field-0 c.in-Some.made _ c.in-Some.is c.in_ok-add_owned.ensures.none)) adds.brought (adds.watchable c.requires.watchable)
