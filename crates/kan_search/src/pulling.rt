@@ -94,7 +94,8 @@ pub(crate) fn pull<N: Nodes<St>, St: Store>(
         made.heads.items made.tail
         ≡ running.force (programs.meaning program.now) ((N.table nodes.old).tree id)) }
     ensures belong { IfOk result (λ made. IfSome made.tail (N.table nodes.new).belongs) }
-    ensures room { IfOk result (λ made. IfSome made.tail (λ next. top ((N.table nodes.new).tree next)
+    ensures room { IfOk result (λ made. IfSome made.tail
+        (λ next. top ((N.table nodes.new).tree next)
         ≤ top ((N.table nodes.old).tree id) + 2 ^ 21)) }
     ensures grows { Grows (N.table nodes.old) (N.table nodes.new) }
 {
