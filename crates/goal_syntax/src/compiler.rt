@@ -26,7 +26,6 @@ ghost use Rattle.goal_syntax.specs.Building.CallsThere.{KeepsClosed, all_named, 
 ghost use Rattle.goal_syntax.specs.Compiling.CompiledForms.{CompilesForms, IsMeant};
 ghost use Rattle.goal_syntax.specs.Compiling.Compiles.{AreOfText, Compiles, IsAcceptedAlone};
 ghost use Rattle.goal_syntax.specs.Compiling.Compiles.{TableAfter};
-ghost use Rattle.goal_syntax.specs.Building.GrownTables.{HasRoom};
 ghost use Rattle.goal_syntax.specs.Building.Entries.{Adds, HasRoomFor, form_size, forms_size};
 ghost use Rattle.goal_syntax.specs.Building.InContext.{forms_entries};
 ghost use Rattle.goal_forms.specs.Sizes.{parts_in};
