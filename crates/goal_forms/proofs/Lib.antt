@@ -9,5 +9,6 @@ pub mod FlatHeightLaws
 pub mod DataPlaces
 pub mod HeightLaws
 pub mod SizeLaws
+pub mod UnnamedLaws
 pub mod DefinedLaws
 pub mod PrefixLaws

@@ -12,4 +12,5 @@ pub mod Flattening
 pub mod FlatHeights
 pub mod Heights
 pub mod Sizes
+pub mod Unnamed
 pub mod Contexts

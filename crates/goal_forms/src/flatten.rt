@@ -1,7 +1,7 @@
 //! Data turned into a table of their parts.
 
 ghost use Rattle.std.specs.Prelude.{◌≡◌, ◌+◌, ◌<◌, ◌≤◌, ◌^◌, ◌++◌, ◌∷◌, [], length, reverse, List};
-ghost use Rattle.std.specs.Prelude.{ℕ, true};
+ghost use Rattle.std.specs.Prelude.{ℕ, true, max};
 ghost use Rattle.std.specs.Prelude.{IfOk, OnOk, map};
 ghost use Rattle.kan_grammar.specs.Data.Printed.{prefix_name};
 ghost use Rattle.kan_grammar.specs.Texts.Sited.{Sited, with_sites, atom_with_site, symbol_number};
@@ -20,6 +20,8 @@ ghost use Rattle.goal_forms.specs.TermSteps.{site_size};
 ghost use Rattle.goal_forms.specs.declared.flatten.Work.TheVariants as works_of;
 ghost use Rattle.std.specs.Option.{option_copied};
 ghost use Rattle.goal_forms.specs.Places.{are_below, kept, joined, prefixed_last};
+ghost use Rattle.goal_forms.specs.Unnamed.{AreNamed, site_unnamed, sites_unnamed};
+ghost use Rattle.goal_forms.specs.Unnamed.{symbol_unnamed, work_unnamed, works_unnamed};
 
 use crate::flat_data::{FlatData, FlatPart, Part};
 use crate::prefixes::Prefixes;
@@ -60,6 +62,8 @@ fn symbol_part(names: &Names, symbol: u32) -> Part
     ensures part { (ds : List Sited) → (at : ℕ) → part_site ds at result
         ≡ atom_with_site names.now at (symbol_atom (name_of names.now.symbols symbol)) }
     ensures there { (n : ℕ) → is_there n result ≡ true }
+    ensures named { (ds : List Sited) → (at : ℕ) →
+        site_unnamed names.now (part_site ds at result) ≡ 0 }
 {
     match names.name(symbol) {
         Some(_) => Part::Name(symbol),
@@ -72,6 +76,8 @@ fn text_part(names: &Names, text: u32) -> Part
     ensures part { (ds : List Sited) → (at : ℕ) → part_site ds at result
         ≡ atom_with_site names.now at (string_atom (name_of names.now.strings text)) }
     ensures there { (n : ℕ) → is_there n result ≡ true }
+    ensures named { (ds : List Sited) → (at : ℕ) →
+        site_unnamed names.now (part_site ds at result) ≡ 0 }
 {
     match names.string(text) {
         Some(_) => Part::Text(text),
@@ -91,6 +97,8 @@ fn join(at: u32, table: &mut FlatData, places: &mut Vec<u32>) -> Result<(), Memo
         (list_all is_low_datum (joined at (kept (sites table.old) places.old.items))
         ≡ true → AreLow (sites table.old) → AreLow (sites table.new)) }
     ensures parts { OnOk result (length (sites table.new) ≤ length (sites table.old) + 1) }
+    ensures named { OnOk result ((names : Table) →
+        sites_unnamed names (sites table.new) ≤ sites_unnamed names (sites table.old)) }
 {
     let Some(rest) = places.pop() else {
         return Ok(());
@@ -114,6 +122,9 @@ fn prefix(at: u32, symbol: u32, table: &mut FlatData, places: &mut Vec<u32>) -> 
         (list_all is_low_datum (prefixed_last at symbol (kept (sites table.old) places.old.items))
         ≡ true → AreLow (sites table.old) → AreLow (sites table.new)) }
     ensures parts { OnOk result (length (sites table.new) ≤ length (sites table.old) + 4) }
+    ensures named { OnOk result ((names : Table) →
+        sites_unnamed names (sites table.new)
+        ≤ max (sites_unnamed names (sites table.old)) (symbol_unnamed names symbol)) }
 {
     let Some(datum) = places.pop() else {
         return Ok(());
@@ -139,6 +150,10 @@ fn make(at: u32, part: Part, table: &mut FlatData, places: &mut Vec<u32>) -> Res
         (is_low_datum (part_site (sites table.old) at part)
         ≡ true → AreLow (sites table.old) → AreLow (sites table.new)) }
     ensures parts { OnOk result (length (sites table.new) ≤ length (sites table.old) + 1) }
+    ensures named { OnOk result ((names : Table) →
+        sites_unnamed names (sites table.new)
+        ≤ max (sites_unnamed names (sites table.old))
+        (site_unnamed names (part_site (sites table.old) at part))) }
 {
     put(at, part, table, places)?;
     Ok(())
@@ -156,8 +171,10 @@ fn lent(last: &Option<Boxed<Datum>>) -> Option<&Datum>
 
 // The number of the symbol that a prefix stands for.
 fn prefix_symbol(prefixes: &Prefixes, prefix: Prefix) -> u32
-    ensures { (names : Table) → AreNumbered names prefixes.now →
+    ensures number { (names : Table) → AreNumbered names prefixes.now →
         symbol_number names (prefix_name (prefix_of prefix)) ≡ result }
+    ensures named { (names : Table) → AreNamed names prefixes.now →
+        symbol_unnamed names result ≡ 0 }
 {
     match prefix {
         Prefix::Quote => prefixes.quote,
@@ -179,6 +196,7 @@ fn turn_datum<'a>(
     requires below { are_below (length (sites table.old)) places.old.items ≡ true }
     requires room { length (sites table.old)
         + work_parts names.now (works_of.Datum datum) ≤ 2 ^ 32 }
+    requires prefixed { AreNamed names.now prefixes.now }
     ensures made { OnOk result
         (finish names.now (reverse works.new.items) (kept (sites table.new) places.new.items)
         ≡ finish names.now (works_of.Datum datum.entry ∷ reverse works.old.items)
@@ -196,6 +214,10 @@ fn turn_datum<'a>(
         ≤ length (sites table.old)
         + (work_parts names.now (works_of.Datum datum.entry)
         + works_parts names.now works.old.items)) }
+    ensures named { OnOk result
+        (max (sites_unnamed names.now (sites table.new)) (works_unnamed names.now works.new.items)
+        ≤ max (sites_unnamed names.now (sites table.old)) (works_unnamed names.now
+        works.old.items)) }
 {
     match &datum.kind {
         DatumKind::Symbol(symbol) => make(datum.at, symbol_part(names, *symbol), table, places)?,
@@ -246,6 +268,10 @@ fn turn_rest<'a>(
         ≤ length (sites table.old)
         + (work_parts names.now (works_of.Rest items.entry last.entry at)
         + works_parts names.now works.old.items)) }
+    ensures named { OnOk result
+        (max (sites_unnamed names.now (sites table.new)) (works_unnamed names.now works.new.items)
+        ≤ max (sites_unnamed names.now (sites table.old)) (works_unnamed names.now
+        works.old.items)) }
 {
     if let Some((first, rest)) = items.split_first() {
         works.push(Work::Pair(at))?;
@@ -272,6 +298,7 @@ fn turn_work<'a>(
     requires numbered { AreNumbered names.now prefixes.now }
     requires below { are_below (length (sites table.old)) places.old.items ≡ true }
     requires room { length (sites table.old) + work_parts names.now work ≤ 2 ^ 32 }
+    requires prefixed { AreNamed names.now prefixes.now }
     ensures made { OnOk result
         (finish names.now (reverse works.new.items) (kept (sites table.new) places.new.items)
         ≡ finish names.now (work.entry ∷ reverse works.old.items)
@@ -288,6 +315,10 @@ fn turn_work<'a>(
         (length (sites table.new) + works_parts names.now works.new.items
         ≤ length (sites table.old)
         + (work_parts names.now work.entry + works_parts names.now works.old.items)) }
+    ensures named { OnOk result
+        (max (sites_unnamed names.now (sites table.new)) (works_unnamed names.now works.new.items)
+        ≤ max (sites_unnamed names.now (sites table.old)) (max
+        (work_unnamed names.now work.entry) (works_unnamed names.now works.old.items))) }
 {
     match work {
         Work::Datum(datum) => turn_datum(datum, names, prefixes, table, places, works)?,
@@ -311,6 +342,7 @@ fn turn_one(
     requires below { are_below (length (sites table.old)) places.old.items ≡ true }
     requires room { length (sites table.old) + site_size (meaning names.now datum.now)
         ≤ 2 ^ 32 }
+    requires prefixed { AreNamed names.now prefixes.now }
     ensures made { OnOk result (kept (sites table.new) places.new.items
         ≡ with_sites names.now (written names.now datum.now)
         ∷ kept (sites table.old) places.old.items) }
@@ -321,6 +353,8 @@ fn turn_one(
         ≡ true → AreLow (sites table.old) → AreLow (sites table.new)) }
     ensures parts { OnOk result (length (sites table.new)
         ≤ length (sites table.old) + site_size (meaning names.now datum.now)) }
+    ensures named { OnOk result
+        (sites_unnamed names.now (sites table.new) ≤ sites_unnamed names.now (sites table.old)) }
 {
     let mut works = Vec::new(alloc);
     works.push(Work::Datum(datum))?;
@@ -343,6 +377,7 @@ fn turn(
     requires below { are_below (length (sites table.old)) places.old.items ≡ true }
     requires room { length (sites table.old) + parts_in (map (meaning names.now) forms.now)
         ≤ 2 ^ 32 }
+    requires prefixed { AreNamed names.now prefixes.now }
     ensures made { OnOk result (kept (sites table.new) places.new.items
         ≡ reverse (map (meaning names.now) forms.now) ++ kept (sites table.old) places.old.items) }
     ensures below { OnOk result (are_below (length (sites table.new)) places.new.items ≡ true) }
@@ -352,6 +387,8 @@ fn turn(
         ≡ true → AreLow (sites table.old) → AreLow (sites table.new)) }
     ensures parts { OnOk result (length (sites table.new)
         ≤ length (sites table.old) + parts_in (map (meaning names.now) forms.now)) }
+    ensures named { OnOk result
+        (sites_unnamed names.now (sites table.new) ≤ sites_unnamed names.now (sites table.old)) }
 {
     for datum in forms {
         turn_one(alloc, datum, names, prefixes, table, places)?;
@@ -372,12 +409,15 @@ pub fn turn_both(
     requires numbered { AreNumbered names.now prefixes.now }
     requires room { length (sites table.old) + (parts_in (map (meaning names.now) library.now)
         + parts_in (map (meaning names.now) text.now)) ≤ 2 ^ 32 }
+    requires prefixed { AreNamed names.now prefixes.now }
     ensures made { IfOk result
         (λ places. map (site_at (sites table.new)) places.items
         ≡ map (meaning names.now) library.now ++ map (meaning names.now) text.now) }
     ensures low { OnOk result
         (AreLow (map (meaning names.now) library.now) → AreLow (map (meaning names.now) text.now) →
         AreLow (sites table.old) → AreLow (sites table.new)) }
+    ensures named { OnOk result
+        (sites_unnamed names.now (sites table.new) ≤ sites_unnamed names.now (sites table.old)) }
 {
     let mut places = Vec::new(alloc);
     turn(alloc, library, names, prefixes, table, &mut places)?;

@@ -3,6 +3,7 @@
 ghost use Rattle.std.specs.Prelude.{◌≡◌, ◌+◌, ◌<◌, ◌^◌, length, IfOk, OnOk};
 ghost use Rattle.kan_grammar.specs.Texts.TextNames.{Extends, with_prefixes};
 ghost use Rattle.goal_forms.specs.Flattening.{AreNumbered};
+ghost use Rattle.goal_forms.specs.Unnamed.{AreNamed};
 
 use kan_terms::{Memory, Names};
 
@@ -20,6 +21,7 @@ pub fn number_prefixes(names: &mut Names) -> Result<Prefixes, Memory>
     ensures numbered { IfOk result (λ prefixes. AreNumbered names.new prefixes) }
     ensures table { OnOk result (names.new ≡ with_prefixes names.old) }
     ensures names { Extends 3 names.old names.new }
+    ensures named { IfOk result (λ prefixes. AreNamed names.new prefixes) }
 {
     let quote = names.intern("quote")?;
     let quasiquote = names.intern("quasiquote")?;

@@ -7,6 +7,7 @@ pub mod TermHeightLaws
 pub mod GoalsBuiltLaws
 pub mod GoalsLeftLaws
 pub mod WidthLaws
+pub mod NamedLaws
 pub mod FormWidthLaws
 pub mod FormsBuiltLaws
 pub mod CallsThereLaws

@@ -3,6 +3,7 @@ pub mod GrownTables
 pub mod Entries
 pub mod TermsLeft
 pub mod TermHeights
+pub mod Named
 pub mod GoalsBuilt
 pub mod Widths
 pub mod GoalsLeft

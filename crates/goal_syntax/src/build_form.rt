@@ -22,6 +22,9 @@ ghost use Rattle.goal_forms.specs.FormSteps.{limit_at};
 ghost use Rattle.goal_forms.specs.Parts.{sites, site_at};
 ghost use Rattle.goal_syntax.specs.Building.Widths.{Widens, form_width};
 ghost use Rattle.goal_syntax.specs.Building.InContext.{list_width};
+ghost use Rattle.goal_syntax.specs.Building.Named.{Lacks, relation_unnamed};
+ghost use Rattle.kan_terms.specs.Table.{Table};
+ghost use Rattle.goal_syntax.specs.Building.InContext.{NamesIn};
 
 use crate::build_goal::build_goals;
 use crate::build_run::{build_list, build_one};
@@ -38,6 +41,9 @@ fn add_relation(draft: &mut Draft, relation: Relation) -> Result<(), Memory>
         (tables draft.new ≡ with_relation (tables draft.old) (relation_entry relation)) }
     ensures room { OnOk result (Adds 1 (tables draft.old) (tables draft.new)) }
     ensures narrow { OnOk result (Widens 0 (tables draft.old) (tables draft.new)) }
+    ensures named { OnOk result ((names : Table) →
+        Lacks names (relation_unnamed names (relation_entry relation)) (tables draft.old)
+        (tables draft.new)) }
 {
     draft.relation(relation)?;
     Ok(())
@@ -73,6 +79,7 @@ fn build_body(
         (λ rows. calls_named rows (list_goal context.now (within [] params.now) goals))) }
     ensures narrow { OnOk result
         (Widens (list_width context.now goals) (tables draft.old) (tables draft.new)) }
+    ensures named { OnOk result (NamesIn context.now draft.old draft.new) }
 {
     let mut scope = Vec::new(context.alloc);
     enter(params, &mut scope)?;
@@ -103,6 +110,7 @@ pub(crate) fn build_relation(
         (bodies_named (relation_at context.now head goals ∷ []))) }
     ensures narrow { OnOk result
         (Widens (list_width context.now goals) (tables draft.old) (tables draft.new)) }
+    ensures named { OnOk result (NamesIn context.now draft.old draft.new) }
 {
     let bound = head_params(context.alloc, context.flat, head)?;
     let params = bound.len() as u32;
@@ -158,6 +166,7 @@ pub(crate) fn build_form(
         (all_named (relations_parsed context.now form) (queries_parsed context.now form))) }
     ensures narrow { OnOk result
         (Widens (form_width (form_of context.now form)) (tables draft.old) (tables draft.new)) }
+    ensures named { OnOk result (NamesIn context.now draft.old draft.new) }
 {
     match form {
         Form::Relation(head, goals) => build_relation(context, head, goals, draft)?,

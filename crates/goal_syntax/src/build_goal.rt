@@ -22,6 +22,7 @@ ghost use Rattle.goal_forms.specs.Shapes.{parts};
 ghost use Rattle.goal_forms.specs.Places.{are_below};
 ghost use Rattle.goal_syntax.specs.Building.Widths.{Widens, made_width};
 ghost use Rattle.goal_syntax.specs.Building.InContext.{left_width, list_width, next_width};
+ghost use Rattle.goal_syntax.specs.Building.InContext.{NamesIn};
 
 use crate::build_node::build_node;
 use crate::join_goal::{Row, add_slots, join_two, make, suspend};
@@ -73,6 +74,7 @@ fn build_own(
     ensures narrow { OnOk result (Widens
         (made_width (built (tables draft.new) places.new.items))
         (tables draft.old) (tables draft.new)) }
+    ensures named { OnOk result (NamesIn context.now draft.old draft.new) }
 {
     if let Some(node) = build_node(context, scope, goal, draft)? {
         make(node, draft, places)?;
@@ -174,6 +176,7 @@ fn build_goal(
     ensures narrow { OnOk result (Widens
         (made_width (built (tables draft.new) places.new.items))
         (tables draft.old) (tables draft.new)) }
+    ensures named { OnOk result (NamesIn context.now draft.old draft.new) }
 {
     let goal = parse_goal(context.flat, context.names, place);
     build_own(context, scope, goal, draft, places)?;
@@ -252,6 +255,7 @@ fn build_row(
     ensures narrow { OnOk result (Widens
         (made_width (built (tables draft.new) places.new.items))
         (tables draft.old) (tables draft.new)) }
+    ensures named { OnOk result (NamesIn context.now draft.old draft.new) }
 {
     if let Some((first, rest)) = pair_parts(context.flat, place) {
         wait_for_others(context, row, rest, works)?;
@@ -302,6 +306,7 @@ fn build_clause(
     ensures narrow { OnOk result (Widens
         (made_width (built (tables draft.new) places.new.items))
         (tables draft.old) (tables draft.new)) }
+    ensures named { OnOk result (NamesIn context.now draft.old draft.new) }
 {
     if is_proper(context.flat, clause) {
         works.push(Work::Row(Row::All, clause))?;
@@ -351,6 +356,7 @@ fn build_next(
     ensures narrow { OnOk result (Widens
         (made_width (built (tables draft.new) places.new.items))
         (tables draft.old) (tables draft.new)) }
+    ensures named { OnOk result (NamesIn context.now draft.old draft.new) }
 {
     match work {
         Work::Goal(place) => build_goal(context, place, scope, draft, places, works)?,
@@ -386,6 +392,7 @@ pub(crate) fn build_goals(
         && calls_named rows (list_goal context.now scope.items place))) }
     ensures narrow { OnOk result
         (Widens (list_width context.now place) (tables draft.old) (tables draft.new)) }
+    ensures named { OnOk result (NamesIn context.now draft.old draft.new) }
 {
     let mut places = Vec::new(context.alloc);
     let mut works = Vec::new(context.alloc);

@@ -1,7 +1,7 @@
 //! Building goals that have no goals in them.
 
 ghost use Rattle.goal_syntax.specs.Building.InContext.{goal_alone, KeepsLowIn};
-ghost use Rattle.std.specs.Prelude.{◌≡◌, ◌+◌, ◌<◌, ◌^◌, length, IfOk, OnOk};
+ghost use Rattle.std.specs.Prelude.{◌≡◌, ◌+◌, ◌<◌, ◌≤◌, ◌^◌, length, IfOk, OnOk};
 ghost use Rattle.kan_grammar.specs.Texts.Binders.{tag as tag_of};
 ghost use Rattle.kan_grammar.specs.Texts.Resolved.{template_in};
 ghost use Rattle.kan_model.specs.Programs.Drafts.{tables};
@@ -12,6 +12,8 @@ ghost use Rattle.goal_syntax.specs.Building.Entries.{Adds, HasRoomFor, sides_siz
 ghost use Rattle.goal_forms.specs.GoalSteps.{step_goal};
 ghost use Rattle.kan_terms.specs.Tree.{size};
 ghost use Rattle.goal_forms.specs.RelationTables.{relations};
+ghost use Rattle.goal_syntax.specs.Building.Named.{data_unnamed, node_unnamed};
+ghost use Rattle.goal_syntax.specs.Building.InContext.{NamesIn};
 
 use crate::build_term::{build_arguments, build_term};
 use goal_forms::{Context, Goal, Task, quoted_symbol};
@@ -41,6 +43,7 @@ fn build_two(
         (tables draft.old) (tables draft.new)) }
     ensures low { OnOk result (KeepsLowIn context.now draft.old draft.new) }
     ensures same { OnOk result ((tables draft.new).goals ≡ (tables draft.old).goals) }
+    ensures named { OnOk result (NamesIn context.now draft.old draft.new) }
 {
     let first = build_term(context, scope, Task::Term(left), draft)?;
     let second = build_term(context, scope, Task::Term(right), draft)?;
@@ -73,6 +76,9 @@ pub(crate) fn build_node(
         (tables draft.old) (tables draft.new)) }
     ensures low { OnOk result (KeepsLowIn context.now draft.old draft.new) }
     ensures same { OnOk result ((tables draft.new).goals ≡ (tables draft.old).goals) }
+    ensures named { OnOk result (NamesIn context.now draft.old draft.new) }
+    ensures tag { IfOk result (λ node. node_unnamed context.now.names.now node
+        ≤ data_unnamed context.now.names.now (data_of context.now)) }
 {
     match goal {
         Goal::Succeed => Ok(Some(GoalNode::Succeed)),

@@ -23,6 +23,9 @@ ghost use Rattle.goal_syntax.specs.Building.InContext.{list_width};
 ghost use Rattle.kan_model.specs.Programs.Scope.{width};
 ghost use Rattle.kan_model.specs.Programs.Tables.{goal_at};
 ghost use Rattle.kan_model.specs.Programs.Drafts.{goals as model_goals};
+ghost use Rattle.goal_syntax.specs.Building.Named.{Lacks};
+ghost use Rattle.kan_terms.specs.Table.{Table};
+ghost use Rattle.goal_syntax.specs.Building.InContext.{NamesIn};
 
 use crate::build_goal::build_goals;
 use crate::build_term::build_slots;
@@ -51,6 +54,7 @@ pub(crate) fn build_one(
         (λ rows. calls_named rows (list_goal context.now (within [] (symbol ∷ [])) goals))) }
     ensures narrow { OnOk result
         (Widens (list_width context.now goals) (tables draft.old) (tables draft.new)) }
+    ensures named { OnOk result (NamesIn context.now draft.old draft.new) }
 {
     let mut scope = Vec::new(context.alloc);
     scope.push(Some(symbol))?;
@@ -72,6 +76,8 @@ fn build_equation(bound: &[u32], draft: &mut Draft) -> Result<u32, Memory>
         ((rows : List RelationEntry) → are_there rows (tables draft.new).goals
         ≡ are_there rows (tables draft.old).goals) }
     ensures narrow { OnOk result (Widens 0 (tables draft.old) (tables draft.new)) }
+    ensures named { OnOk result ((names : Table) →
+        Lacks names 0 (tables draft.old) (tables draft.new)) }
 {
     let list = build_slots(bound, draft)?;
     let asked = add_term(draft, TermNode::Slot(0))?;
@@ -101,6 +107,7 @@ fn build_behind(
     ensures narrow { OnOk result (Widens
         (width (goal_at (model_goals draft.old) first) + list_width context.now goals)
         (tables draft.old) (tables draft.new)) }
+    ensures named { OnOk result (NamesIn context.now draft.old draft.new) }
 {
     if pair_parts(context.flat, goals).is_none() {
         return Ok(first);
@@ -129,6 +136,7 @@ fn build_fresh(context: &Context, binder: u32, goals: u32, draft: &mut Draft) ->
     ensures narrow { OnOk result (Widens
         (length (binder_at context.now binder).value + list_width context.now goals)
         (tables draft.old) (tables draft.new)) }
+    ensures named { OnOk result (NamesIn context.now draft.old draft.new) }
 {
     let bound = binder_names(context.alloc, context.flat, binder)?;
     let count = bound.len() as u32;
@@ -152,6 +160,8 @@ fn suspend_at(dialect: Dialect, goal: u32, draft: &mut Draft) -> Result<u32, Mem
     ensures called { OnOk result ((rows : List RelationEntry) →
         are_there rows (tables draft.new).goals ≡ are_there rows (tables draft.old).goals) }
     ensures narrow { OnOk result (Widens 0 (tables draft.old) (tables draft.new)) }
+    ensures named { OnOk result ((names : Table) →
+        Lacks names 0 (tables draft.old) (tables draft.new)) }
 {
     match dialect {
         Dialect::Book => Ok(goal),
@@ -186,6 +196,7 @@ pub(crate) fn build_list(
     ensures narrow { OnOk result (Widens
         (length (binder_at context.now binder).value + list_width context.now goals)
         (tables draft.old) (tables draft.new)) }
+    ensures named { OnOk result (NamesIn context.now draft.old draft.new) }
 {
     let fresh = build_fresh(context, binder, goals, draft)?;
     let goal = suspend_at(context.dialect, fresh, draft)?;

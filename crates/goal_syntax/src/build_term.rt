@@ -22,6 +22,9 @@ ghost use Rattle.goal_syntax.specs.Building.Entries.{terms_size};
 ghost use Rattle.goal_syntax.specs.Building.InContext.{task_entries, terms_entries};
 ghost use Rattle.goal_forms.specs.TermSteps.{step_form, step_size};
 ghost use Rattle.goal_forms.specs.Places.{are_below};
+ghost use Rattle.goal_syntax.specs.Building.Named.{Lacks, term_unnamed, tree_unnamed};
+ghost use Rattle.kan_terms.specs.Table.{Table};
+ghost use Rattle.goal_syntax.specs.Building.InContext.{NamesIn};
 
 use crate::drafting::{add_argument, add_term};
 use goal_forms::{Context, Step, Task, pair_parts, parse_task, slot_of};
@@ -54,6 +57,8 @@ fn put(node: TermNode, draft: &mut Draft, places: &mut Vec<u32>) -> Result<(), M
         ≡ true → list_all is_low (templates draft.old)
         ≡ true → list_all is_low (templates draft.new) ≡ true) }
     ensures room { OnOk result (Adds 1 (tables draft.old) (tables draft.new)) }
+    ensures named { OnOk result ((names : Table) →
+        Lacks names (term_unnamed names (term_entry node)) (tables draft.old) (tables draft.new)) }
 {
     let place = add_term(draft, node)?;
     places.push(place)?;
@@ -75,6 +80,8 @@ fn join(draft: &mut Draft, places: &mut Vec<u32>) -> Result<(), Memory>
         ≡ true → list_all is_low (templates draft.old)
         ≡ true → list_all is_low (templates draft.new) ≡ true) }
     ensures room { OnOk result (Adds 1 (tables draft.old) (tables draft.new)) }
+    ensures named { OnOk result ((names : Table) →
+        Lacks names 0 (tables draft.old) (tables draft.new)) }
 {
     let Some(rest) = places.pop() else {
         return Ok(());
@@ -134,6 +141,10 @@ fn build_step(
         ≤ entries (tables draft.old)
         + (size (step_form (data_of context.now) context.now.names.now step)
         + terms_entries context.now works.old.items)) }
+    ensures named { OnOk result
+        (Lacks context.now.names.now (tree_unnamed context.now.names.now
+        (step_form (data_of context.now) context.now.names.now step))
+        (tables draft.old) (tables draft.new)) }
 {
     match step {
         Step::Variable(_, symbol) => {
@@ -187,6 +198,7 @@ fn build_work(
         ≤ entries (tables draft.old)
         + (work_entries (data_of context.now) context.now.names.now work
         + terms_entries context.now works.old.items)) }
+    ensures named { OnOk result (NamesIn context.now draft.old draft.new) }
 {
     match work {
         Work::Term(task) => {
@@ -214,6 +226,7 @@ pub(crate) fn build_term(
         (Adds (task_entries context.now task) (tables draft.old) (tables draft.new)) }
     ensures same { OnOk result ((tables draft.new).goals ≡ (tables draft.old).goals) }
     ensures low { OnOk result (KeepsLowIn context.now draft.old draft.new) }
+    ensures named { OnOk result (NamesIn context.now draft.old draft.new) }
 {
     let mut places = Vec::new(context.alloc);
     let mut works = Vec::new(context.alloc);
@@ -243,6 +256,7 @@ fn build_terms(
     ensures low { OnOk result (KeepsLowIn context.now draft.old draft.new) }
     ensures room { OnOk result
         (Adds (terms_size (terms_at context.now place)) (tables draft.old) (tables draft.new)) }
+    ensures named { OnOk result (NamesIn context.now draft.old draft.new) }
 {
     let mut places = Vec::new(context.alloc);
     while let Some((first, rest)) = pair_parts(context.flat, place) {
@@ -261,6 +275,8 @@ fn put_behind(terms: &[u32], draft: &mut Draft) -> Result<(), Memory>
     ensures adds { OnOk result (AddsTerms (tables draft.old) (tables draft.new)) }
     ensures terms { OnOk result ((tables draft.new).terms ≡ (tables draft.old).terms) }
     ensures room { OnOk result (Adds (length terms.now) (tables draft.old) (tables draft.new)) }
+    ensures named { OnOk result ((names : Table) →
+        Lacks names 0 (tables draft.old) (tables draft.new)) }
 {
     for term in terms {
         add_argument(draft, *term)?;
@@ -278,6 +294,8 @@ fn put_arguments(terms: &[u32], draft: &mut Draft) -> Result<u32, Memory>
     ensures adds { OnOk result (AddsTerms (tables draft.old) (tables draft.new)) }
     ensures terms { OnOk result ((tables draft.new).terms ≡ (tables draft.old).terms) }
     ensures room { OnOk result (Adds (length terms.now) (tables draft.old) (tables draft.new)) }
+    ensures named { OnOk result ((names : Table) →
+        Lacks names 0 (tables draft.old) (tables draft.new)) }
 {
     let Some((first, rest)) = terms.split_first() else {
         return Ok(0);
@@ -306,6 +324,7 @@ pub(crate) fn build_arguments(
         (Adds (arguments_size (terms_at context.now place)) (tables draft.old) (tables draft.new)) }
     ensures same { OnOk result ((tables draft.new).goals ≡ (tables draft.old).goals) }
     ensures low { OnOk result (KeepsLowIn context.now draft.old draft.new) }
+    ensures named { OnOk result (NamesIn context.now draft.old draft.new) }
 {
     let terms = build_terms(context, scope, place, draft)?;
     let at = put_arguments(&terms, draft)?;
@@ -323,6 +342,8 @@ pub(crate) fn build_slots(bound: &[u32], draft: &mut Draft) -> Result<u32, Memor
     ensures low { OnOk result
         (length bound.now ≤ 2048 → list_all is_low (templates draft.old)
         ≡ true → list_all is_low (templates draft.new) ≡ true) }
+    ensures named { OnOk result ((names : Table) →
+        Lacks names 0 (tables draft.old) (tables draft.new)) }
 {
     let mut slot = bound.len() as u32;
     let mut list = add_term(draft, TermNode::Nil)?;

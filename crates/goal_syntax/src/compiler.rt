@@ -26,7 +26,6 @@ ghost use Rattle.goal_syntax.specs.Building.CallsThere.{KeepsClosed, all_named, 
 ghost use Rattle.goal_syntax.specs.Compiling.CompiledForms.{CompilesForms, IsMeant};
 ghost use Rattle.goal_syntax.specs.Compiling.Compiles.{AreOfText, Compiles, IsAcceptedAlone};
 ghost use Rattle.goal_syntax.specs.Compiling.Compiles.{TableAfter};
-ghost use Rattle.goal_syntax.specs.Building.GrownTables.{HasRoom};
 ghost use Rattle.goal_syntax.specs.Building.Entries.{Adds, HasRoomFor, form_size, forms_size};
 ghost use Rattle.goal_syntax.specs.Building.InContext.{forms_entries};
 ghost use Rattle.goal_forms.specs.Sizes.{parts_in};
@@ -37,10 +36,12 @@ ghost use Rattle.goal_forms.specs.RelationTables.{relations};
 ghost use Rattle.goal_forms.specs.Flattening.{AreNumbered, meaning};
 ghost use Rattle.goal_syntax.specs.Building.Widths.{Widens, form_width, forms_width, widest_in};
 ghost use Rattle.goal_syntax.specs.Building.InContext.{widest_form};
+ghost use Rattle.goal_syntax.specs.Building.Named.{data_unnamed};
+ghost use Rattle.goal_syntax.specs.Building.InContext.{NamesIn};
+ghost use Rattle.goal_forms.specs.Unnamed.{AreNamed};
 
 use crate::build_form::{build_form, build_relation};
 use crate::judge_text::first_of_forms;
-use crate::named::are_named;
 use crate::refusal::SyntaxError;
 use goal_forms::{
     Context, FlatData, Form, Prefixes, define, number_prefixes, parse_form, turn_both,
@@ -80,6 +81,7 @@ fn build_library_form(context: &Context, place: u32, draft: &mut Draft) -> Resul
     ensures narrow { OnOk result (Widens
         (form_width (form context.now.names.now (datum_at context.now place)))
         (tables draft.old) (tables draft.new)) }
+    ensures named { OnOk result (NamesIn context.now draft.old draft.new) }
 {
     if let Form::Relation(head, goals) = parse_form(context.flat, context.names, place) {
         build_relation(context, head, goals, draft)?;
@@ -101,6 +103,7 @@ fn build_library(context: &Context, forms: &[u32], draft: &mut Draft) -> Result<
         (bodies_named (forms_relations context.now forms.now))) }
     ensures narrow { OnOk result
         (Widens (widest_form context.now forms.now) (tables draft.old) (tables draft.new)) }
+    ensures named { OnOk result (NamesIn context.now draft.old draft.new) }
 {
     for place in forms {
         build_library_form(context, *place, draft)?;
@@ -129,6 +132,7 @@ fn build_text(
         (all_named (forms_relations context.now forms.now) (forms_queries context.now forms.now))) }
     ensures narrow { OnOk result
         (Widens (widest_form context.now forms.now) (tables draft.old) (tables draft.new)) }
+    ensures named { OnOk result (NamesIn context.now draft.old draft.new) }
 {
     for place in forms {
         build_form(
@@ -141,27 +145,19 @@ fn build_text(
     Ok(())
 }
 
-// Closes a draft with the goals of runs, in which nothing is open. Where a symbol has no name,
-// there is no memory for it; no text comes to that.
-fn close(draft: Draft, queries: Queries, names: &Names) -> Result<Compiled, Memory>
-    requires room { HasRoom (tables draft) }
+// Closes a draft with the goals of runs, in which nothing is open.
+fn close(draft: Draft, queries: Queries) -> Compiled
     requires narrow { widest_in (tables draft) < 2 ^ 21 }
     requires closed { are_closed (tables draft) (map goal_place queries) ≡ true }
-    ensures tables { IfOk result (λ made. programs.tables made.program ≡ tables draft) }
-    ensures queries { IfOk result (λ made. made.queries ≡ queries) }
-    ensures closed { IfOk result
-        (λ made. are_closed (tables draft) (map goal_place queries) ≡ true) }
-    ensures small { IfOk result (λ made. is_small (programs.meaning made.program) ≡ true) }
-    ensures named { IfOk result
-        (λ made. are_named names.now (programs.tables made.program) ≡ true) }
+    ensures tables { programs.tables result.program ≡ tables draft }
+    ensures queries { result.queries ≡ queries }
+    ensures closed { are_closed (tables draft) (map goal_place queries) ≡ true }
+    ensures small { is_small (programs.meaning result.program) ≡ true }
 {
     let Ok(program) = draft.close(queries.items()) else {
         unreachable!()
     };
-    if !are_named(names, &program) {
-        return Err(Memory);
-    }
-    Ok(Compiled { program, queries })
+    Compiled { program, queries }
 }
 
 // Builds the program and the runs of a text behind a library.
@@ -177,6 +173,7 @@ fn build_program(context: &Context, library: &[u32], forms: &[u32]) -> Result<Co
         + forms_entries context.now forms.now < 2 ^ 24 }
     requires narrow_library { widest_form context.now library.now < 2 ^ 21 }
     requires narrow_text { widest_form context.now forms.now < 2 ^ 21 }
+    requires named { data_unnamed context.now.names.now (data_of context.now) ≡ 0 }
     ensures meant { IfOk result
         (λ made. IsMeant (text_meaning context.now.dialect context.now.names.now
         (data_at context.now library.now)
@@ -191,7 +188,7 @@ fn build_program(context: &Context, library: &[u32], forms: &[u32]) -> Result<Co
     let mut queries = ListOf::new(context.alloc);
     build_library(context, library, &mut draft)?;
     build_text(context, forms, &mut draft, &mut queries)?;
-    let compiled = close(draft, queries, context.names)?;
+    let compiled = close(draft, queries);
     Ok(compiled)
 }
 
@@ -213,6 +210,7 @@ fn compile_forms(
         < 2 ^ 21 }
     requires narrow_text { forms_width names.now (map (site_at (sites flat.now)) forms.now)
         < 2 ^ 21 }
+    requires named { data_unnamed names.now (sites flat.now) ≡ 0 }
     ensures { CompilesForms dialect names.now (map (site_at (sites flat.now)) library.now)
         (map (site_at (sites flat.now)) forms.now) result }
 {
@@ -249,6 +247,7 @@ fn compile_data(
     requires low_library { AreLow (map (meaning names.now) library.now) }
     requires low_text { AreLow (map (meaning names.now) text.now) }
     requires alone { IsAccepted names.now [] (map (written names.now) library.now) }
+    requires prefixed { AreNamed names.now prefixes.now }
     ensures { CompilesForms dialect names.now
         (map (with_sites names.now) (map (written names.now) library.now))
         (map (with_sites names.now) (map (written names.now) text.now)) result }

@@ -13,6 +13,8 @@ ghost use Rattle.goal_syntax.specs.Building.GrownTables.{HasTemplate, HasGoal, G
 ghost use Rattle.goal_syntax.specs.Building.Entries.{Adds, HasRoomFor};
 ghost use Rattle.goal_syntax.specs.Building.Widths.{Widens};
 ghost use Rattle.kan_model.specs.Programs.Scope.{width};
+ghost use Rattle.goal_syntax.specs.Building.Named.{Lacks, goal_unnamed, term_unnamed};
+ghost use Rattle.kan_terms.specs.Table.{Table};
 
 use kan_model::{Draft, GoalNode, TermNode};
 use kan_terms::Memory;
@@ -31,6 +33,8 @@ pub(crate) fn add_term(draft: &mut Draft, node: TermNode) -> Result<u32, Memory>
         (is_low (template_of (templates draft.old) (term_entry node))
         ≡ true → list_all is_low (templates draft.old)
         ≡ true → list_all is_low (templates draft.new) ≡ true) }
+    ensures named { OnOk result ((names : Table) →
+        Lacks names (term_unnamed names (term_entry node)) (tables draft.old) (tables draft.new)) }
 {
     let at = draft.term(node)?;
     Ok(at)
@@ -44,6 +48,8 @@ pub(crate) fn add_argument(draft: &mut Draft, term: u32) -> Result<u32, Memory>
     ensures place { IfOk result (λ at. at ≡ length (tables draft.old).arguments) }
     ensures grows { OnOk result (Grows (tables draft.old) (tables draft.new)) }
     ensures room { OnOk result (Adds 1 (tables draft.old) (tables draft.new)) }
+    ensures named { OnOk result ((names : Table) →
+        Lacks names 0 (tables draft.old) (tables draft.new)) }
 {
     let at = draft.argument(term)?;
     Ok(at)
@@ -67,6 +73,8 @@ pub(crate) fn add_goal(draft: &mut Draft, node: GoalNode) -> Result<u32, Memory>
     ensures narrow { OnOk result (Widens
         (width (goal_of (templates draft.old) (tables draft.old).arguments (goals draft.old)
         (goal_entry node))) (tables draft.old) (tables draft.new)) }
+    ensures named { OnOk result ((names : Table) →
+        Lacks names (goal_unnamed names (goal_entry node)) (tables draft.old) (tables draft.new)) }
 {
     let at = draft.goal(node)?;
     Ok(at)

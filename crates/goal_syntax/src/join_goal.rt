@@ -11,6 +11,8 @@ ghost use Rattle.goal_syntax.specs.Building.GoalsLeft.{empty_entry, freshened, j
 ghost use Rattle.goal_syntax.specs.Building.GoalsLeft.{suspended};
 ghost use Rattle.goal_forms.specs.Places.{are_below};
 ghost use Rattle.goal_syntax.specs.Building.Widths.{Widens, made_width};
+ghost use Rattle.goal_syntax.specs.Building.Named.{Lacks, goal_unnamed};
+ghost use Rattle.kan_terms.specs.Table.{Table};
 
 use crate::drafting::add_goal;
 use kan_grammar::Dialect;
@@ -70,6 +72,8 @@ pub(crate) fn make(node: GoalNode, draft: &mut Draft, places: &mut Vec<u32>) -> 
     ensures narrow { OnOk result (Widens
         (made_width (built (tables draft.new) places.new.items))
         (tables draft.old) (tables draft.new)) }
+    ensures named { OnOk result ((names : Table) →
+        Lacks names (goal_unnamed names (goal_entry node)) (tables draft.old) (tables draft.new)) }
 {
     let place = add_goal(draft, node)?;
     places.push(place)?;
@@ -91,6 +95,8 @@ pub(crate) fn join_two(row: Row, draft: &mut Draft, places: &mut Vec<u32>) -> Re
     ensures narrow { OnOk result (Widens
         (made_width (built (tables draft.new) places.new.items))
         (tables draft.old) (tables draft.new)) }
+    ensures named { OnOk result ((names : Table) →
+        Lacks names 0 (tables draft.old) (tables draft.new)) }
 {
     let Some(right) = places.pop() else {
         return Ok(());
@@ -117,6 +123,8 @@ pub(crate) fn add_slots(count: u32, draft: &mut Draft, places: &mut Vec<u32>) ->
     ensures narrow { OnOk result (Widens
         (made_width (built (tables draft.new) places.new.items))
         (tables draft.old) (tables draft.new)) }
+    ensures named { OnOk result ((names : Table) →
+        Lacks names 0 (tables draft.old) (tables draft.new)) }
 {
     let Some(goal) = places.pop() else {
         return Ok(());
@@ -140,6 +148,8 @@ fn add_later(draft: &mut Draft, places: &mut Vec<u32>) -> Result<(), Memory>
     ensures narrow { OnOk result (Widens
         (made_width (built (tables draft.new) places.new.items))
         (tables draft.old) (tables draft.new)) }
+    ensures named { OnOk result ((names : Table) →
+        Lacks names 0 (tables draft.old) (tables draft.new)) }
 {
     let Some(goal) = places.pop() else {
         return Ok(());
@@ -167,6 +177,8 @@ pub(crate) fn suspend(
     ensures narrow { OnOk result (Widens
         (made_width (built (tables draft.new) places.new.items))
         (tables draft.old) (tables draft.new)) }
+    ensures named { OnOk result ((names : Table) →
+        Lacks names 0 (tables draft.old) (tables draft.new)) }
 {
     match dialect {
         Dialect::Book => Ok(()),

@@ -16,7 +16,6 @@ mod judge_form;
 mod judge_goal;
 mod judge_term;
 mod judge_text;
-mod named;
 mod refusal;
 
 pub use compiler::{Compiled, Queries, compile};

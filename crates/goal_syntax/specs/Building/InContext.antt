@@ -20,6 +20,7 @@ use Rattle.goal_syntax.specs.Building.FormsBuilt.{relation_names}
 use Rattle.goal_syntax.specs.Building.GoalsBuilt.{Built, own_goal}
 use Rattle.goal_syntax.specs.Building.GoalsLeft.{finish, work_entries, work_width, works_entries}
 use Rattle.goal_syntax.specs.Building.GoalsLeft.{works_width}
+use Rattle.goal_syntax.specs.Building.Named.{Lacks, data_unnamed}
 use Rattle.goal_syntax.specs.Building.Widths.{goals_width, forms_width}
 use Rattle.goal_syntax.specs.Building.TermsLeft as TermsLeft
 use Rattle.goal_syntax.specs.Building.Entries.{goals_size, forms_size}
@@ -144,3 +145,9 @@ list_width context place = goals_width (goals_at context place)
 
 abbrev pub widest_form : Context → List ℕ → ℕ
 widest_form context places = forms_width context.names.now (data_at context places)
+
+-- entries that came to a draft have names where the data have
+abbrev pub NamesIn : Context → Draft → Draft → Type 0
+NamesIn context old new =
+    Lacks context.names.now (data_unnamed context.names.now (data_of context))
+    (tables old) (tables new)

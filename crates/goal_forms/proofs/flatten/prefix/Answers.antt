@@ -1,6 +1,9 @@
 use Rattle.goal_forms.proofs.PlaceLaws.{prefix_made, prefix_below, put_below}
 use Rattle.goal_forms.specs.Parts.{sites}
 use Rattle.goal_forms.proofs.FlatHeightLaws.{prefix_low}
+use Rattle.std.proofs.Common.{arith}
+use Rattle.goal_forms.proofs.UnnamedLaws.{put_unnamed}
+use Rattle.kan_grammar.specs.Texts.Sited.{Sited}
 use Rattle.goal_forms.proofs.flatten.prefix.Goals as goal
 
 pub join-requires-clause-below : goal.join-requires-clause-below
@@ -20,3 +23,13 @@ returns-clause-low c = λ low there.
     c.args.places.now.items _ _ _ c.put-2.new.places.items c.join.new.places.items c.in-Some.datum
     c.in-Some.ensures.items c.requires.below c.in_ok-put.ensures.table c.in_ok-put.ensures.places c.in_ok-push.ensures.items c.in_ok-put-2.ensures.table c.in_ok-put-2.ensures.places c.in_ok-join.ensures.made
     c.in_ok-join.ensures.low c.in_ok-join-2.ensures.low low there
+
+pub returns-clause-named : goal.returns-clause-named
+returns-clause-named c = λ names.
+    omega (
+      arith,
+      put_unnamed names (sites c.args.table.now) (sites c.put.new.table) (Sited.name c.args.at c.args.symbol) c.in_ok-put.ensures.table,
+      put_unnamed names (sites c.put.new.table) (sites c.put-2.new.table) (Sited.nil c.args.at) c.in_ok-put-2.ensures.table,
+      c.in_ok-join.ensures.named names,
+      c.in_ok-join-2.ensures.named names,
+    )

@@ -12,6 +12,7 @@ loop-datum-preserved c = record {
   low = λ data_low made there.
       next_low c.args.names.now c.args.forms.now c.loop-datum.datum-index _ (kept (sites c.loop-datum.table) c.loop-datum.places.items) _ (sites c.loop-datum.table) (sites c.turn_one.new.table)
       c.loop-datum-test.true c.datum-item.is c.in_ok-turn_one.ensures.made c.in_ok-turn_one.ensures.low data_low (c.loop-datum.invariant.low data_low made there);
+  named = omega (arith, c.in_ok-turn_one.ensures.named, c.loop-datum.invariant.named);
   parts = omega (arith, next_parts c.args.names.now c.args.forms.now c.loop-datum.datum-index _ c.loop-datum-test.true c.datum-item.is, c.in_ok-turn_one.ensures.parts, c.loop-datum.invariant.parts);
 }
 

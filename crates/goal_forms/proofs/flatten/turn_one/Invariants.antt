@@ -1,4 +1,4 @@
-use Rattle.std.proofs.Common.{◌≡◌, ◌∷◌, ◌+◌, ◌≤◌, reverse, length, true}
+use Rattle.std.proofs.Common.{◌≡◌, ◌∷◌, ◌+◌, ◌≤◌, reverse, length, max, true}
 use Rattle.kan_grammar.specs.Texts.Sited.{with_sites}
 use Rattle.sexpr.specs.Seen.{written}
 use Rattle.std.specs.List.{list_all}
@@ -7,6 +7,7 @@ use Rattle.goal_forms.specs.FlatHeights.{WorksLow}
 use Rattle.goal_forms.specs.Parts.{sites}
 use Rattle.goal_forms.specs.Places.{are_below, kept}
 use Rattle.goal_forms.specs.TermSteps.{site_size}
+use Rattle.goal_forms.specs.Unnamed.{sites_unnamed, works_unnamed}
 use Rattle.goal_forms.specs.Sizes.{works_parts}
 use Rattle.goal_forms.specs.Flattening.{finish, works_size}
 use Rattle.goal_forms.proofs.flatten.turn_one.Given as goal
@@ -18,6 +19,7 @@ invariant-loop-work l = record {
   below : are_below (length (sites l.table)) l.places.items ≡ true;
   low : is_low_datum (with_sites l.names (written l.names l.datum)) ≡ true → list_all is_low_datum (kept (sites l.fn.table) l.fn.places.items) ≡ true → AreLow (sites l.fn.table) →
       WorksLow l.names (reverse l.works.items) (sites l.table) l.places.items;
+  named : max (sites_unnamed l.names (sites l.table)) (works_unnamed l.names l.works.items) ≤ sites_unnamed l.names (sites l.fn.table);
   parts : length (sites l.table) + works_parts l.names l.works.items ≤ length (sites l.fn.table) + site_size (with_sites l.names (written l.names l.datum));
 }
 

@@ -2,6 +2,8 @@ use Rattle.goal_forms.proofs.FlatteningLaws.{rest_falls, last_falls}
 use Rattle.std.proofs.Common.{arith}
 use Rattle.goal_forms.proofs.SizeLaws.{rest_parts, last_parts}
 use Rattle.goal_forms.proofs.FlatHeightLaws.{rest_low}
+use Rattle.goal_forms.proofs.UnnamedLaws.{pushed_unnamed}
+use Rattle.goal_forms.specs.declared.flatten.Work.TheVariants as works
 use Rattle.goal_forms.proofs.flatten.turn_rest.Goals as goal
 
 pub returns-in-Some-clause-falls : goal.returns-in-Some-clause-falls
@@ -24,3 +26,15 @@ returns-in-Some-clause-parts c =
 pub returns-in_ok-push-in-Some-last-clause-parts : goal.returns-in_ok-push-in-Some-last-clause-parts
 returns-in_ok-push-in-Some-last-clause-parts c =
     let fewer = last_parts c.args.names.now c.args.items c.in-Some-last.datum c.args.last c.args.at c.args.works.now.items _ c.in_default.ensures.cases c.in-Some-last.is c.in_ok-push-in-Some-last.ensures.items in omega (arith, fewer)
+
+pub returns-in-Some-clause-named : goal.returns-in-Some-clause-named
+returns-in-Some-clause-named c =
+    omega (
+      arith,
+      pushed_unnamed c.args.names.now c.args.works.now.items _ (works.Pair c.args.at) c.in_ok-push.ensures.items,
+      pushed_unnamed c.args.names.now c.push.new.self.items c.push-in-Some.new.self.items (works.Rest c.in-Some.rest c.args.last c.args.at) c.in_ok-push-2.ensures.items,
+      pushed_unnamed c.args.names.now c.push-in-Some.new.self.items c.push-in-Some-2.new.self.items (works.Datum c.in-Some.first) c.in_ok-push-3.ensures.items,
+    )
+
+pub returns-in_ok-push-in-Some-last-clause-named : goal.returns-in_ok-push-in-Some-last-clause-named
+returns-in_ok-push-in-Some-last-clause-named c = omega (arith, pushed_unnamed c.args.names.now c.args.works.now.items _ (works.Datum c.in-Some-last.datum) c.in_ok-push-in-Some-last.ensures.items)

@@ -20,6 +20,7 @@ loop-work-preserved c = record {
       c.in-Some.ensures.items c.in_ok-build_next.ensures.made c.loop-work.invariant.made;
   below = c.in_ok-build_next.ensures.below;
   grows = grows_on _ _ _ c.loop-work.invariant.grows c.in_ok-build_next.ensures.grows;
+  named = omega (arith, c.in_ok-build_next.ensures.named, c.loop-work.invariant.named);
   room = omega (arith, one_pushed c.args.context.now.names.now (sites c.args.context.now.flat.now) _ c.loop-work.works.items c.in-Some.work c.in-Some.ensures.items, c.in_ok-build_next.ensures.room, c.loop-work.invariant.room);
   few = omega (arith, one_pushed c.args.context.now.names.now (sites c.args.context.now.flat.now) _ c.loop-work.works.items c.in-Some.work c.in-Some.ensures.items, c.in_ok-build_next.ensures.few, c.loop-work.invariant.few);
   wide = omega (arith, one_widens c.args.context.now.names.now (sites c.args.context.now.flat.now) _ c.loop-work.works.items c.in-Some.work c.in-Some.ensures.items, c.in_ok-build_next.ensures.wide, c.loop-work.invariant.wide);

@@ -11,6 +11,7 @@ use Rattle.goal_syntax.specs.Building.LowTemplates.{KeepsLow}
 use Rattle.goal_forms.specs.Parts.{sites, site_at}
 use Rattle.goal_forms.specs.RelationTables.{relations}
 use Rattle.goal_forms.specs.Places.{are_below}
+use Rattle.goal_syntax.specs.Building.Named.{Lacks, data_unnamed}
 use Rattle.goal_syntax.proofs.build_goal.build_goals.Given as goal
 
 -- what is made once all work is done is the goal of the list, and the tables grew from those before
@@ -20,6 +21,7 @@ invariant-loop-work l = record {
       ≡ with_goal (conjunction (goals_in l.context.dialect (relations l.context.relations.now) l.fn.scope.items (goal_forms l.context.names.now (site_at (sites l.context.flat.now) l.fn.place)))) (built (tables l.fn.draft) []);
   below : are_below (length (tables l.draft).goals) l.places.items ≡ true;
   grows : Grows (tables l.fn.draft) (tables l.draft);
+  named : Lacks l.context.names.now (data_unnamed l.context.names.now (sites l.context.flat.now)) (tables l.fn.draft) (tables l.draft);
   room : entries (tables l.draft) + works_entries l.context.names.now (sites l.context.flat.now) l.works.items
       ≤ entries (tables l.fn.draft) + goals_size (goal_forms l.context.names.now (site_at (sites l.context.flat.now) l.fn.place));
   few : length l.scope.items + works_entries l.context.names.now (sites l.context.flat.now) l.works.items

@@ -8,6 +8,8 @@ use Rattle.goal_syntax.proofs.Building.TableLaws.{grows_on}
 use Rattle.std.proofs.Common.{arith}
 use Rattle.goal_syntax.proofs.Building.EntryLaws.{own_node, sides_few}
 use Rattle.goal_syntax.proofs.Building.WidthLaws.{widest_kept}
+use Rattle.std.proofs.Common.{ap}
+use Rattle.goal_syntax.specs.Building.Named.{node_unnamed}
 use Rattle.goal_syntax.proofs.build_goal.build_own.Goals as goal
 
 pub returns-in_ok-make-clause-made : goal.returns-in_ok-make-clause-made
@@ -53,3 +55,7 @@ returns-in_ok-make-clause-narrow c = omega (arith, widest_kept (tables c.args.dr
 
 pub returns-in_default-clause-narrow : goal.returns-in_default-clause-narrow
 returns-in_default-clause-narrow c = omega (arith, widest_kept (tables c.args.draft.now) (tables c.build_node.new.draft) c.in_ok-node.ensures.grows c.in_ok-node.ensures.same)
+
+pub returns-in_ok-make-clause-named : goal.returns-in_ok-make-clause-named
+returns-in_ok-make-clause-named c =
+    omega (arith, ap (node_unnamed c.args.context.now.names.now) c.in-Some.is, c.in_ok-node.ensures.tag, c.in_ok-node.ensures.named, c.in_ok-make.ensures.named c.args.context.now.names.now)

@@ -12,6 +12,7 @@ use Rattle.goal_syntax.proofs.Building.EntryLaws.{empty_entries, row_entries}
 use Rattle.std.proofs.Common.{ap}
 use Rattle.goal_syntax.proofs.Building.WidthLaws.{empty_wide, row_wide}
 use Rattle.goal_syntax.specs.Building.Widths.{made_width}
+use Rattle.goal_syntax.proofs.Building.NamedLaws.{empty_named}
 use Rattle.goal_syntax.proofs.build_goal.build_row.Goals as goal
 
 pub returns-in_ok-push-clause-made : goal.returns-in_ok-push-clause-made
@@ -54,3 +55,6 @@ returns-in_ok-push-clause-wide c =
 
 pub returns-in_ok-make-clause-wide : goal.returns-in_ok-make-clause-wide
 returns-in_ok-make-clause-wide c = omega (arith, ap made_width c.in_ok-make.ensures.made, empty_wide (tables c.args.draft.now) c.args.row _ c.empty.ensures)
+
+pub returns-in_ok-make-clause-named : goal.returns-in_ok-make-clause-named
+returns-in_ok-make-clause-named c = omega (arith, empty_named c.args.context.now.names.now c.args.row _ c.empty.ensures, c.in_ok-make.ensures.named c.args.context.now.names.now)

@@ -20,6 +20,7 @@ loop-slot-preserved c =
     record {
       within = omega arith;
       made = made;
+      named = λ names. omega (arith, c.in_ok-first.ensures.named names, c.in_ok-list-2.ensures.named names, c.loop-slot.invariant.named names);
       few = omega (arith, c.loop-slot.invariant.few, c.loop-slot-test.true, c.in_ok-first.ensures.room, c.in_ok-list-2.ensures.room);
       adds = adds_on (tables c.args.draft.now) (tables c.loop-slot.draft) _ c.loop-slot.invariant.adds (adds_on (tables c.loop-slot.draft) (tables c.add_term-in-loop-slot.new.draft) _ first next);
       low = λ short there. c.in_ok-list-2.ensures.low (slots_low _ _ _ c.args.bound.now _ _ c.in_ok-list-2.ensures.made made short) (c.in_ok-first.ensures.low refl (c.loop-slot.invariant.low short there));

@@ -20,6 +20,7 @@ loop-work-preserved c = record {
   made = work_done (sites c.args.context.now.flat.now) c.args.context.now.names.now c.args.scope.now _ _ c.build_work.new.works.items c.in-Some.work _ _ _ c.in-Some.ensures.items c.in_ok-build_work.ensures.made c.loop-work.invariant.made;
   below = c.in_ok-build_work.ensures.below;
   adds = adds_on (tables c.args.draft.now) (tables c.loop-work.draft) _ c.loop-work.invariant.adds c.in_ok-build_work.ensures.adds;
+  named = omega (arith, c.in_ok-build_work.ensures.named, c.loop-work.invariant.named);
   few = omega (
     arith,
     term_pushed (sites c.args.context.now.flat.now) c.args.context.now.names.now _ c.loop-work.works.items c.in-Some.work c.in-Some.ensures.items,
@@ -45,6 +46,7 @@ loop-work-init c =
       made = first_made ds names c.args.scope.now c.args.task c.push.new.self.items (templates c.args.draft.now) c.new-places.result.items started c.new-places.ensures.items;
       below = first_below _ c.new-places.result.items c.new-places.ensures.items;
       adds = adds_none (tables c.args.draft.now);
+      named = omega arith;
       few = omega (arith, term_pushed ds names c.new-works.result.items _ (Term c.args.task) c.in_ok-push.ensures.items, ap (terms.works_entries ds names) c.new-works.ensures.items);
       low = first_low ds names c.args.scope.now c.args.task c.push.new.self.items (templates c.args.draft.now) c.new-places.result.items started c.new-places.ensures.items;
     }

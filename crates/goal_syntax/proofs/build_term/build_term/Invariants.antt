@@ -11,6 +11,7 @@ use Rattle.goal_forms.specs.Heights.{AreLow}
 use Rattle.goal_forms.specs.Parts.{sites}
 use Rattle.goal_forms.specs.TermSteps.{task_form}
 use Rattle.goal_forms.specs.Places.{are_below}
+use Rattle.goal_syntax.specs.Building.Named.{Lacks, data_unnamed}
 use Rattle.goal_syntax.proofs.build_term.build_term.Given as goal
 
 -- what is built once all work is done is the task's template alone
@@ -18,6 +19,7 @@ abbrev pub invariant-loop-work : goal.invariant-loop-work
 invariant-loop-work l = record {
   made : finish (sites l.context.flat.now) l.context.names.now l.scope (reverse l.works.items) (built (templates l.draft) l.places.items) ≡ template_in l.scope (task_form (sites l.context.flat.now) l.context.names.now l.fn.task) ∷ [];
   below : are_below (length (tables l.draft).terms) l.places.items ≡ true;
+  named : Lacks l.context.names.now (data_unnamed l.context.names.now (sites l.context.flat.now)) (tables l.fn.draft) (tables l.draft);
   few : entries (tables l.draft) + works_entries (sites l.context.flat.now) l.context.names.now l.works.items ≤ entries (tables l.fn.draft) + size (task_form (sites l.context.flat.now) l.context.names.now l.fn.task);
   adds : AddsTerms (tables l.fn.draft) (tables l.draft);
   low : AreLow (sites l.context.flat.now) → list_all is_low (templates l.fn.draft) ≡ true →

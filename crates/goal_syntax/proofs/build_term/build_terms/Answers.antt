@@ -16,6 +16,7 @@ loop-first-preserved c =
           (terms_of_pair c.args.scope.now c.args.context.now.names.now (site_at (sites c.args.context.now.flat.now) c.loop-first.place) _ _ c.in-Some.ensures.parts) c.loop-first.invariant.are;
       below = put_below (tables c.loop-first.draft) (tables c.build_term.new.draft) c.loop-first.places.items _ _ _ c.in_ok-push.ensures.items made.made made.grows c.loop-first.invariant.below;
       adds = adds_on (tables c.args.draft.now) (tables c.loop-first.draft) _ c.loop-first.invariant.adds more;
+      named = omega (arith, c.loop-first.invariant.named, c.in_ok-term.ensures.named);
       few = omega (
         arith,
         terms_more c.args.context.now.names.now (site_at (sites c.args.context.now.flat.now) c.loop-first.place) _ _ c.in-Some.ensures.parts,

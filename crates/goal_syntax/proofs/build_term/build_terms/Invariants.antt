@@ -8,6 +8,7 @@ use Rattle.goal_syntax.specs.Building.Entries.{entries, terms_size}
 use Rattle.goal_syntax.specs.Building.LowTemplates.{KeepsLow}
 use Rattle.goal_forms.specs.Parts.{sites, site_at}
 use Rattle.goal_forms.specs.Places.{are_below}
+use Rattle.goal_syntax.specs.Building.Named.{Lacks, data_unnamed}
 use Rattle.goal_syntax.proofs.build_term.build_terms.Given as goal
 
 -- the templates so far and those of the terms that are left are all
@@ -16,6 +17,7 @@ invariant-loop-first l = record {
   are : map (template_at (templates l.draft)) l.places.items ++ map (template_in l.scope) (term_forms l.context.names.now (site_at (sites l.context.flat.now) l.place))
       ≡ map (template_in l.scope) (term_forms l.context.names.now (site_at (sites l.context.flat.now) l.fn.place));
   below : are_below (length (tables l.draft).terms) l.places.items ≡ true;
+  named : Lacks l.context.names.now (data_unnamed l.context.names.now (sites l.context.flat.now)) (tables l.fn.draft) (tables l.draft);
   few : entries (tables l.draft) + terms_size (term_forms l.context.names.now (site_at (sites l.context.flat.now) l.place))
       ≤ entries (tables l.fn.draft) + terms_size (term_forms l.context.names.now (site_at (sites l.context.flat.now) l.fn.place));
   adds : AddsTerms (tables l.fn.draft) (tables l.draft);

@@ -11,5 +11,6 @@ loop-term-preserved c = record {
   put = put_next (tables c.args.draft.now) (tables c.loop-term.draft) _ c.args.terms.now c.loop-term.term-index c.loop-term.invariant.put c.in_ok-add_argument.ensures.put c.loop-term-test.true;
   adds = adds_on (tables c.args.draft.now) (tables c.loop-term.draft) _ c.loop-term.invariant.adds
       (adds_argument (tables c.loop-term.draft) _ _ c.in_ok-add_argument.ensures.put c.in_ok-add_argument.ensures.grows);
+  named = λ names. omega (arith, c.in_ok-add_argument.ensures.named names, c.loop-term.invariant.named names);
   few = omega (arith, c.in_ok-add_argument.ensures.room, c.loop-term.invariant.few);
 }

@@ -19,6 +19,7 @@ loop-place-preserved c =
       means = library_means c.args.context.now.dialect t rules ds c.args.forms.now c.loop-place.place-index (tables c.args.draft.now) (tables c.loop-place.draft) (tables c.build_library_form.new.draft) (omega arith)
           c.loop-place.invariant.means c.in_ok-build_library_form.ensures.means;
       names = names_next t ds c.args.forms.now c.loop-place.place-index (tables c.args.draft.now) (tables c.loop-place.draft) (tables c.build_library_form.new.draft) (omega arith) c.loop-place.invariant.names c.in_ok-build_library_form.ensures.names;
+      named = omega (arith, c.in_ok-build_library_form.ensures.named, c.loop-place.invariant.named);
       room = omega (arith, forms_next t ds c.args.forms.now c.loop-place.place-index c.loop-place-test.true, c.in_ok-build_library_form.ensures.room, c.loop-place.invariant.room);
       narrow = omega (arith, widest_next t ds c.args.forms.now c.loop-place.place-index c.loop-place-test.true, c.in_ok-build_library_form.ensures.narrow, c.loop-place.invariant.narrow);
       closed = library_closed c.args.context.now.dialect t rules ds c.args.forms.now c.loop-place.place-index (tables c.args.draft.now) (tables c.loop-place.draft) (tables c.build_library_form.new.draft) (omega arith)

@@ -21,6 +21,7 @@ loop-place-preserved c =
       means = text_means c.args.context.now.dialect t rules ds c.args.forms.now c.loop-place.place-index (tables c.args.draft.now) (tables c.loop-place.draft) (tables c.build_form.new.draft) c.args.queries.now c.loop-place.queries c.build_form.new.queries (omega arith)
           c.loop-place.invariant.means (rw c.parse_form.ensures at c.in_ok-build_form.ensures.means);
       names = names_next t ds c.args.forms.now c.loop-place.place-index (tables c.args.draft.now) (tables c.loop-place.draft) (tables c.build_form.new.draft) (omega arith) c.loop-place.invariant.names (rw c.parse_form.ensures at c.in_ok-build_form.ensures.names);
+      named = omega (arith, c.in_ok-build_form.ensures.named, c.loop-place.invariant.named);
       room = omega (arith, forms_next t ds c.args.forms.now c.loop-place.place-index c.loop-place-test.true, c.in_ok-build_form.ensures.room, c.loop-place.invariant.room, ap (form_size) c.parse_form.ensures);
       narrow = omega (arith, widest_next t ds c.args.forms.now c.loop-place.place-index c.loop-place-test.true, c.in_ok-build_form.ensures.narrow, c.loop-place.invariant.narrow, ap form_width c.parse_form.ensures);
       closed = text_closed c.args.context.now.dialect t rules ds c.args.forms.now c.loop-place.place-index (tables c.args.draft.now) (tables c.loop-place.draft) (tables c.build_form.new.draft) (omega arith)

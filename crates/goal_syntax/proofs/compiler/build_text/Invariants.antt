@@ -8,6 +8,7 @@ use Rattle.goal_syntax.specs.Building.Widths.{Widens, forms_width}
 use Rattle.goal_syntax.specs.Building.Entries.{Adds, forms_size}
 use Rattle.goal_forms.specs.Parts.{sites, site_at}
 use Rattle.goal_forms.specs.RelationTables.{relations}
+use Rattle.goal_syntax.specs.Building.Named.{Lacks, data_unnamed}
 use Rattle.goal_syntax.proofs.compiler.build_text.Given as goal
 
 -- the relations and the runs of the forms so far were added
@@ -18,6 +19,7 @@ invariant-loop-place l = record {
       (rs ++ relations_of l.context.dialect l.context.names.now (relations l.context.relations.now) (map (site_at (sites l.context.flat.now)) (take l.place-index l.forms)))
       (asked ++ queries_of l.context.dialect l.context.names.now (relations l.context.relations.now) (map (site_at (sites l.context.flat.now)) (take l.place-index l.forms)));
   names : AddsNames (tables l.fn.draft) (tables l.draft) (relation_names l.context.names.now (map (site_at (sites l.context.flat.now)) (take l.place-index l.forms)));
+  named : Lacks l.context.names.now (data_unnamed l.context.names.now (sites l.context.flat.now)) (tables l.fn.draft) (tables l.draft);
   room : Adds (forms_size l.context.names.now (map (site_at (sites l.context.flat.now)) (take l.place-index l.forms))) (tables l.fn.draft) (tables l.draft);
   narrow : Widens (forms_width l.context.names.now (map (site_at (sites l.context.flat.now)) (take l.place-index l.forms))) (tables l.fn.draft) (tables l.draft);
   closed : KeepsClosed (sites l.context.flat.now) (tables l.fn.draft) (tables l.draft) (all_named (relations_of l.context.dialect l.context.names.now (relations l.context.relations.now) (map (site_at (sites l.context.flat.now)) (take l.place-index l.forms)))

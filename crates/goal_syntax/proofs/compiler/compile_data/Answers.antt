@@ -8,6 +8,8 @@ use Rattle.goal_syntax.specs.Building.Entries.{forms_size}
 use Rattle.goal_syntax.proofs.Compiling.OfTextLaws.{forms_of_data}
 use Rattle.goal_syntax.proofs.Compiling.OfTextLaws.{narrow_data}
 use Rattle.goal_syntax.specs.Building.Widths.{forms_width}
+use Rattle.goal_syntax.proofs.Building.NamedLaws.{first_named}
+use Rattle.goal_forms.specs.Unnamed.{sites_unnamed}
 use Rattle.goal_syntax.proofs.compiler.compile_data.Goals as goal
 
 pub split_at-requires : goal.split_at-requires
@@ -63,3 +65,12 @@ compile_forms-requires-clause-narrow_text c =
     let parts = split_places (sites c.turn_both.new.table) c.as_slice.result.now c.split_at.result.0.now c.split_at.result.1.now c.args.names.now c.args.library.now c.args.text.now
     (ap (map (site_at (sites c.turn_both.new.table))) c.as_slice.ensures.value ∙ c.in_ok-places.ensures.made) c.split_at.ensures.front c.split_at.ensures.back in
     omega (arith, ap (forms_width c.args.names.now) parts.1, narrow_data c.args.names.now c.args.text.now c.requires.text_parts)
+
+pub compile_forms-requires-clause-named : goal.compile_forms-requires-clause-named
+compile_forms-requires-clause-named c =
+    omega (
+      arith,
+      first_named c.args.names.now c.args.prefixes.now.quote c.requires.prefixed.quote,
+      ap (sites_unnamed c.args.names.now) c.new-table.ensures,
+      c.in_ok-places.ensures.named,
+    )

@@ -4,6 +4,7 @@ use Rattle.goal_syntax.proofs.Building.TableLaws.{goal_made, goal_called, grows_
 use Rattle.std.proofs.Common.{arith}
 use Rattle.goal_syntax.proofs.Building.EntryLaws.{goal_adds}
 use Rattle.goal_syntax.proofs.Building.WidthLaws.{goal_widens}
+use Rattle.goal_syntax.proofs.Building.NamedLaws.{goal_named}
 use Rattle.goal_syntax.proofs.drafting.add_goal.Goals as goal
 
 pub returns-clause-made : goal.returns-clause-made
@@ -23,3 +24,6 @@ goal-requires-clause-room c = omega (arith, c.requires.room)
 
 pub returns-clause-narrow : goal.returns-clause-narrow
 returns-clause-narrow c = omega (arith, goal_widens (tables c.args.draft.now) _ (goal_entry c.args.node) c.in_ok-at.ensures.added)
+
+pub returns-clause-named : goal.returns-clause-named
+returns-clause-named c = λ names. omega (arith, goal_named names (tables c.args.draft.now) _ (goal_entry c.args.node) c.in_ok-at.ensures.added)

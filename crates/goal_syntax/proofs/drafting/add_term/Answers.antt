@@ -4,6 +4,7 @@ use Rattle.goal_syntax.proofs.Building.TableLaws.{term_made, grows_term, grows_t
 use Rattle.goal_syntax.proofs.Building.TermHeightLaws.{term_low}
 use Rattle.std.proofs.Common.{arith}
 use Rattle.goal_syntax.proofs.Building.EntryLaws.{term_adds}
+use Rattle.goal_syntax.proofs.Building.NamedLaws.{term_named}
 use Rattle.goal_syntax.proofs.drafting.add_term.Goals as goal
 
 pub returns-clause-made : goal.returns-clause-made
@@ -20,3 +21,6 @@ returns-clause-room c = omega (arith, term_adds (tables c.args.draft.now) _ (ter
 
 pub term-requires-clause-room : goal.term-requires-clause-room
 term-requires-clause-room c = omega (arith, c.requires.room)
+
+pub returns-clause-named : goal.returns-clause-named
+returns-clause-named c = λ names. omega (arith, term_named names (tables c.args.draft.now) _ (term_entry c.args.node) c.in_ok-at.ensures.added)

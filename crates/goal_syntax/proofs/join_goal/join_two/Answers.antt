@@ -3,6 +3,8 @@ use Rattle.kan_model.specs.Programs.Drafts.{tables}
 use Rattle.kan_model.specs.Programs.Nodes.{goal_entry}
 use Rattle.goal_syntax.proofs.Building.GoalsBuiltLaws.{top_two, join_grown}
 use Rattle.goal_syntax.proofs.Building.GoalsBuiltLaws.{two_joined}
+use Rattle.std.proofs.Common.{arith}
+use Rattle.goal_syntax.proofs.Building.NamedLaws.{join_named}
 use Rattle.goal_syntax.proofs.join_goal.join_two.Goals as goal
 
 pub make-requires-clause-there : goal.make-requires-clause-there
@@ -16,3 +18,6 @@ make-requires-clause-below c = (top_two (length (tables c.args.draft.now).goals)
 pub returns-clause-made : goal.returns-clause-made
 returns-clause-made c =
     two_joined (tables c.args.draft.now) c.args.row c.args.places.now.items _ _ _ _ (goal_entry c.join.result) _ c.in-Some.ensures.items c.in-Some-pop.ensures.items c.join.ensures c.in_ok-make.ensures.made
+
+pub returns-clause-named : goal.returns-clause-named
+returns-clause-named c = λ names. omega (arith, join_named names c.args.row _ _ (goal_entry c.join.result) c.join.ensures, c.in_ok-make.ensures.named names)
