@@ -4,7 +4,7 @@ use Rattle.std.specs.Coded.{Coded-set, ×_prop, coded_ℕ, coded_list}
 use Rattle.kan_model.specs.Stores.Store as facts
 use Rattle.kan_model.specs.Streams.Running.{force}
 use Rattle.stream_core.specs.Suspensions.{going_on}
-use Rattle.susp_cells.specs.Sketches.{program_code, stream_code}
+use Rattle.stream_words.specs.Codes.{program_code, stream_code}
 use Rattle.susp_cells.specs.Places.{Place, label_tree, label_program, IsBeside}
 
 -- stores and a tail are the force of what a suspension stands for

@@ -1,5 +1,3 @@
-pub mod Words
-pub mod Spelled
 pub mod Sketches
 pub mod Places
 pub mod Placed

@@ -1,15 +1,13 @@
 -- Sketches: a program and a suspension of it as numbers, and how deep suspensions stand in one
 -- another.
 use Rattle.std.specs.Prelude.{◌≡◌, ℕ, suc, max, List, []}
-use Rattle.std.specs.Coded.{Coded, code_by, coded_ℕ, coded_list}
 use Rattle.std.proofs.Common.{ap, ◌∙◌}
 use Rattle.kan_model.specs.Programs.Goals.{Program}
 use Rattle.kan_model.specs.Stores.Store.{bare}
 use Rattle.kan_model.specs.Streams.Stream.{Stream, Thunk}
-use Rattle.susp_cells.specs.Words.{Word, nothing, node, first, word_of, numbers_of, word-back}
-use Rattle.susp_cells.specs.Spelled.{of_program, to_program, program-back}
-use Rattle.susp_cells.specs.Spelled.{of_thunk, to_thunk, thunk-back}
-use Rattle.susp_cells.specs.Spelled.{of_stream, to_stream, stream-back}
+use Rattle.stream_words.specs.Words.{Word, nothing, node, first, word_of, numbers_of, word-back}
+use Rattle.stream_words.specs.Spelled.{of_program, to_program, program-back}
+use Rattle.stream_words.specs.Spelled.{of_thunk, to_thunk, thunk-back}
 
 abbrev left_part : Word → Word
 left_part (node k v w) = v
@@ -44,17 +42,6 @@ tree-read p t =
 -- the sketch of a program alone
 abbrev pub program_sketch : Program → List ℕ
 program_sketch p = sketch p (Thunk.call 0 [] (bare 0))
-
--- programs and streams are stored as the numbers of their words
-pub program_code : Coded Program
-program_code =
-    code_by (List ℕ) (coded_list coded_ℕ) (λ p. numbers_of (of_program p))
-    (λ ns. to_program (word_of ns)) (λ p. ap to_program (word-back (of_program p)) ∙ program-back p)
-
-pub stream_code : Coded Stream
-stream_code =
-    code_by (List ℕ) (coded_list coded_ℕ) (λ s. numbers_of (of_stream s))
-    (λ ns. to_stream (word_of ns)) (λ s. ap to_stream (word-back (of_stream s)) ∙ stream-back s)
 
 -- how many suspensions stand in one another, also in the streams that wait in them
 abbrev mutual

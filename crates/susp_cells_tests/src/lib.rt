@@ -7,8 +7,6 @@ mod calls;
 #[cfg(test)]
 mod chains;
 #[cfg(test)]
-mod nodes;
-#[cfg(test)]
 mod programs;
 #[cfg(test)]
 mod races;
