@@ -1,5 +1,5 @@
 -- What each call makes of a store whose parts are in step with it, which is known behind a truncation.
-use Rattle.std.proofs.Common.{◌≡◌, ℕ, ◌+◌, List, [], ◌∷◌, ◌++◌, Bool, true, false, Option, Some, None, sym, ap₂, subst, refl, ◌∙◌, ltb-true, lt-ltb, arith}
+use Rattle.std.proofs.Common.{◌≡◌, ℕ, ◌+◌, List, [], ◌∷◌, ◌++◌, Bool, true, Option, None, sym, ap₂, subst, refl, ◌∙◌, ltb-true, lt-ltb, arith}
 use Rattle.std.proofs.Math.Logic.{∥∥₁_map}
 use Rattle.std.specs.List.{list_all}
 use Rattle.std.proofs.lemmas.Bool.{and_parts, and_from}
@@ -91,9 +91,6 @@ adding_makes old st step (Primitive.absent tag t) r d = keeping_makes bringing_g
 pub adding_known : (old : Parts) (st : Store) → Known old st → (p : Primitive Tm) (r : Option Parts) → Adding old p r → KnownToMake (with_prim st p) r
 adding_known old st step p r d = known-to (with_prim st p) r (∥∥₁_map step (λ i. adding_makes old st i p r d))
 
-pub added_known : (new : Parts) (st now : Store) (p : Primitive Tm) → KnownToMake (with_prim st p) (Some new) → now.prims ≡ st.prims ++ p ∷ [] → now.counter ≡ st.counter → Known new now
-added_known new st now p step prims counter = subst (λ s. Known new s) (sym (same_store (with_prim st p) now prims counter)) step
-
 -- what a store shows
 pub walk_told : (parts : Parts) (st : Store) → Known parts st → (t found : Tm) → found ≡ walked parts.bound t → WalksTo (answer st) t found
 walk_told parts st step t found is = subst (λ f. WalksTo (answer st) t f) (sym is) (walk_known parts st step t)
@@ -111,6 +108,3 @@ seen_known pairs shown held st is step = subst (λ h. Known (parts_of pairs h.so
 -- what a pointer has after a primitive was added behind it
 pub longer_known : (parts : Parts) (st now : Store) (p : Primitive Tm) (fits : Bool) → fits ≡ true → KnownToMake (with_prim st p) (made_if fits parts) → now ≡ with_prim st p → Known parts now
 longer_known parts st now p fits on made is = subst (λ s. Known parts s) (sym is) (subst (λ f. KnownToMake (with_prim st p) (made_if f parts)) on made)
-
-pub refused_known : (parts : Parts) (st : Store) (p : Primitive Tm) (fits : Bool) → fits ≡ false → KnownToMake (with_prim st p) (made_if fits parts) → is_kept (with_prim st p) ≡ false
-refused_known parts st p fits off made = subst (λ f. KnownToMake (with_prim st p) (made_if f parts)) off made
