@@ -1,3 +1,4 @@
+pub mod Crossing
 pub mod EachLaws
 pub mod KeepingLaws
 pub mod LookingLaws

@@ -1,5 +1,5 @@
 use denote.Param.Send.{sendable}
-use Rattle.susp_cells_tests.proofs.Crossing.{plain_send, plain_sync}
+use Rattle.kan_plain.proofs.Crossing.{plain_send, plain_sync}
 use Rattle.susp_cells_tests.proofs.races.one_race.Goals as goal
 
 pub raced-requires-send-St : goal.raced-requires-send-St

@@ -1,5 +1,5 @@
 use denote.Param.Send.{sendable}
-use Rattle.worker_tests.proofs.Crossing.{plain_send, plain_sync}
+use Rattle.kan_plain.proofs.Crossing.{plain_send, plain_sync}
 use Rattle.worker_tests.proofs.workers.one_worker.Goals as goal
 
 pub worked-requires-send-St : goal.worked-requires-send-St

@@ -1,15 +1,20 @@
--- What may go to another thread.
-use denote.RattleType.{RattleType}
+-- A plain store may go to another thread.
 use denote.Param.Send.{IsSend, IsSync, sendable}
 use denote.Param.SendFields.{declared_send, declared_sync, variants_send, variants_sync}
 use denote.Hole.{as_row}
 use denote.Struct.Field.{u32-field, u64-field}
 use Rattle.std.proofs.Crossing.{crosses}
+use Rattle.kan_terms.proofs.terms.PairParts.TheLaws.TheKnot as term_knot
 use Rattle.kan_terms.specs.contracts.terms.Term as Term
 use Rattle.kan_model.specs.contracts.prims.Asserted as Asserted
 use Rattle.kan_solving.specs.contracts.solving.Replaced as Replaced
 use Rattle.kan_plain.specs.contracts.plain.PlainStore as PlainStore
-use Rattle.susp_cells.proofs.Crossing.{term_send, term_sync}
+
+term_send : IsSend Term.the_row
+term_send = search (sendable, crosses, term_knot.crosses) depth 40
+
+term_sync : IsSync Term.the_row
+term_sync = search (sendable, crosses, term_knot.crosses) depth 40
 
 two : {A B : Type 0} → A → B → A × (B × Unit {0})
 two a b = (a, (b, tt))
