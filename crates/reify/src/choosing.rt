@@ -6,7 +6,7 @@ ghost use Rattle.kan_solving.specs.Solving.{replaced_by};
 ghost use Rattle.reify.specs.Keeping.{form_of};
 ghost use Rattle.reify.specs.Choosing.{is_new, is_stronger, made_equal};
 
-use kan_model::same_terms;
+use crate::comparing::are_same;
 use kan_solving::{Replaced, apply};
 use kan_terms::{Memory, Term};
 use std::alloc::Global;
@@ -18,7 +18,7 @@ fn makes_equal(alloc: Global, form: &[Replaced], pair: &Replaced) -> Result<bool
 {
     let left = apply(alloc, form, &Term::Var(pair.var))?;
     let right = apply(alloc, form, &pair.by)?;
-    let equal = same_terms(alloc, &left, &right)?;
+    let equal = are_same(alloc, &left, &right)?;
     Ok(equal)
 }
 
@@ -42,8 +42,11 @@ fn is_stronger(alloc: Global, other: &[Replaced], form: &[Replaced]) -> Result<b
         ≡ is_stronger (map replaced_by form.now) (map replaced_by other.now)) }
 {
     let implied = implies(alloc, other, form)?;
+    if !implied {
+        return Ok(false);
+    }
     let back = implies(alloc, form, other)?;
-    Ok(implied & !back)
+    Ok(!back)
 }
 
 // Whether one of the forms is stronger than a form.
@@ -64,8 +67,11 @@ fn is_weaker(alloc: Global, forms: &[Vec<Replaced>], form: &[Replaced]) -> Resul
 fn is_same_pair(alloc: Global, one: &Replaced, other: &Replaced) -> Result<bool, Memory>
     ensures { IfOk result (λ same. same ≡ same_pair (replaced_by one.now) (replaced_by other.now)) }
 {
-    let same = same_terms(alloc, &one.by, &other.by)?;
-    Ok((one.var == other.var) & same)
+    if one.var != other.var {
+        return Ok(false);
+    }
+    let same = are_same(alloc, &one.by, &other.by)?;
+    Ok(same)
 }
 
 // Whether two forms are the same.

@@ -6,6 +6,7 @@ mod absences;
 mod answering;
 mod answers;
 mod choosing;
+mod comparing;
 mod constraints;
 mod fitting;
 mod forms;
