@@ -2,7 +2,7 @@
 use Rattle.std.proofs.Common.{◌≡◌, ℕ, List, length, ◌∙◌, ap, arith, Some}
 use Rattle.std.specs.Prelude.{unwrap_or}
 use Rattle.kan_terms.specs.Table.{Table, number_of, with_symbol}
-use Rattle.kan_terms.proofs.TableLaws.{number_of-interned}
+use Rattle.kan_terms.proofs.TableLaws.{number_of-with_text}
 use Rattle.kan_grammar.specs.Data.Printed.{prefix_name}
 use Rattle.kan_grammar.specs.Data.Words.{quote, quasiquote, unquote}
 use Rattle.kan_grammar.specs.Texts.Sited.{symbol_number}
@@ -11,7 +11,7 @@ use Rattle.kan_grammar.proofs.Texts.NameLaws.{extends_same, extends_further, ext
 
 -- a text keeps its number
 pub keeps_number : (table new : Table) (other text : List ℕ) (n : ℕ) → new ≡ with_symbol table other → number_of table.symbols text ≡ Some n → number_of new.symbols text ≡ Some n
-keeps_number table new other text n grown number = ap (λ (t : Table). number_of t.symbols text) grown ∙ number_of-interned table.symbols other text n number
+keeps_number table new other text n grown number = ap (λ (t : Table). number_of t.symbols text) grown ∙ number_of-with_text table.symbols other text n number
 
 pub numbered : (table : Table) (text : List ℕ) (n : ℕ) → number_of table.symbols text ≡ Some n → symbol_number table text ≡ n
 numbered table text n number = ap (λ r. unwrap_or r (length table.symbols)) number

@@ -5,13 +5,13 @@ use Rattle.std.specs.declared.alloc.Global.{Global}
 use Rattle.kan_base.specs.InMemory.{NamedFile, file_of}
 
 -- a name with the bytes of its file
-abbrev pub named : String Global × Vec ℕ Global → NamedFile
-named file = record { name = string_bytes file.0; bytes = file.1.items }
+abbrev pub named_file : String Global × Vec ℕ Global → NamedFile
+named_file file = record { name = string_bytes file.0; bytes = file.1.items }
 
 -- every name with the bytes of its file
 abbrev pub all_named : List (String Global × Vec ℕ Global) → List NamedFile
 all_named [] = []
-all_named (file ∷ files) = named file ∷ all_named files
+all_named (file ∷ files) = named_file file ∷ all_named files
 
 -- the bytes of the file at a place; none where there is no file
 abbrev pub bytes_at : List (String Global × Vec ℕ Global) → ℕ → List ℕ

@@ -4,7 +4,7 @@ use Rattle.kan_terms.specs.Tree.{Tree, Tm, Gd, leaves, has_symbol, ground_eq, oc
 use Rattle.kan_terms.specs.Greatest.{greatest_in}
 use Rattle.kan_terms.specs.Valuations.{value}
 use Rattle.kan_terms.specs.Bound.{bound_to}
-use Rattle.kan_terms.specs.Table.{number_of, interned, no_names, with_symbol, with_string, is_string_text}
+use Rattle.kan_terms.specs.Table.{number_of, with_text, no_names, with_symbol, with_string, is_string_text}
 use Rattle.kan_terms.specs.Spelling.{spelling}
 use Rattle.kan_terms.specs.Reading.{tree_of}
 use Rattle.kan_terms.specs.declared.marks.Mark.TheVariants.{Pair, Sym, Nil}
@@ -39,8 +39,8 @@ example-tree_of = refl
 example-number_of : number_of (codes "cat" ∷ codes "dog" ∷ []) (codes "dog") ≡ Some 1
 example-number_of = refl
 
-example-interned : interned (codes "cat" ∷ []) (codes "dog") ≡ codes "cat" ∷ codes "dog" ∷ []
-example-interned = refl
+example-with_text : with_text (codes "cat" ∷ []) (codes "dog") ≡ codes "cat" ∷ codes "dog" ∷ []
+example-with_text = refl
 
 -- the newest pair counts
 example-bound_to : bound_to 3 ((3, Tree.nil) ∷ (3, two) ∷ []) ≡ Some Tree.nil

@@ -8,7 +8,7 @@ use Rattle.std.proofs.lemmas.Slice.Eq.{bytes_eq-Decides}
 use Rattle.std.proofs.lemmas.List.Quantifiers.{all_pairs_push}
 use Rattle.std.proofs.lemmas.List.{length-map, length_push, map-append}
 use Rattle.std.proofs.lemmas.Option.{slice_get_within, get_or_from_slice_get}
-use Rattle.kan_terms.specs.Table.{number_of, name_of, IsDistinct, interned}
+use Rattle.kan_terms.specs.Table.{number_of, name_of, IsDistinct, with_text}
 
 -- a number below another, each one higher
 suc-below : (n len : ℕ) → nat_lt (1 + n) (suc len) ≡ nat_lt n len
@@ -119,10 +119,10 @@ number_of-name_of (first ∷ rest) text (suc n) distinct e =
     rw (fails, later) refl
 
 -- interning makes no doubles
-pub IsDistinct-interned : (table : List (List ℕ)) (text : List ℕ) → IsDistinct table → IsDistinct (interned table text)
-IsDistinct-interned table text distinct = by (number_of table text) refl
+pub IsDistinct-with_text : (table : List (List ℕ)) (text : List ℕ) → IsDistinct table → IsDistinct (with_text table text)
+IsDistinct-with_text table text distinct = by (number_of table text) refl
   where
-    by : (r : Option ℕ) → number_of table text ≡ r → IsDistinct (interned table text)
+    by : (r : Option ℕ) → number_of table text ≡ r → IsDistinct (with_text table text)
     by (Some n) e = rw e distinct
     by None e = rw e (IsDistinct-push table text distinct e)
 
@@ -134,8 +134,8 @@ number_of-append (first ∷ rest) more text (suc n) e =
     let split = some-split (bytes_eq text first) (number_of rest text) n e in
     rw (split.0, number_of-append rest more text n split.1) refl
 
-pub number_of-interned : (table : List (List ℕ)) (new text : List ℕ) (n : ℕ) → number_of table text ≡ Some n → number_of (interned table new) text ≡ Some n
-number_of-interned table new text n e = by (is_some (number_of table new))
+pub number_of-with_text : (table : List (List ℕ)) (new text : List ℕ) (n : ℕ) → number_of table text ≡ Some n → number_of (with_text table new) text ≡ Some n
+number_of-with_text table new text n e = by (is_some (number_of table new))
   where
     by : (b : Bool) → number_of (if b then table else table ++ new ∷ []) text ≡ Some n
     by true = e
@@ -147,17 +147,17 @@ name_of-append [] more text n e = cc
 name_of-append (first ∷ rest) more text zero e = e
 name_of-append (first ∷ rest) more text (suc n) e = name_of-append rest more text n e
 
-pub name_of-interned : (table : List (List ℕ)) (new text : List ℕ) (n : ℕ) → name_of table n ≡ Some text → name_of (interned table new) n ≡ Some text
-name_of-interned table new text n e = by (is_some (number_of table new))
+pub name_of-with_text : (table : List (List ℕ)) (new text : List ℕ) (n : ℕ) → name_of table n ≡ Some text → name_of (with_text table new) n ≡ Some text
+name_of-with_text table new text n e = by (is_some (number_of table new))
   where
     by : (b : Bool) → name_of (if b then table else table ++ new ∷ []) n ≡ Some text
     by true = e
     by false = name_of-append table (new ∷ []) text n e
 
--- the keys of a set after an insertion are the table in which the text is interned
-interned-keys : {K : Type 0} (bytes : K → List ℕ) (keys : List K) (owned : K)
-    → map bytes (if list_any (λ k. bytes_eq (bytes owned) (bytes k)) keys then keys else keys ++ owned ∷ []) ≡ interned (map bytes keys) (bytes owned)
-interned-keys {K} bytes keys owned =
+-- the keys of a set after an insertion are the table with the text
+with_text-keys : {K : Type 0} (bytes : K → List ℕ) (keys : List K) (owned : K)
+    → map bytes (if list_any (λ k. bytes_eq (bytes owned) (bytes k)) keys then keys else keys ++ owned ∷ []) ≡ with_text (map bytes keys) (bytes owned)
+with_text-keys {K} bytes keys owned =
     choose (list_any (λ k. bytes_eq (bytes owned) (bytes k)) keys)
     ∙ ap (λ b. if b then map bytes keys else map bytes keys ++ bytes owned ∷ []) (list_any-number_of bytes keys (bytes owned))
   where
@@ -177,13 +177,13 @@ pushed-number {K} bytes (key ∷ keys) text =
     choose true n = refl
     choose false n = ap Some (omega arith)
 
--- a table without a text, interned
-interned-new : (table : List (List ℕ)) (text : List ℕ) → number_of table text ≡ None → interned table text ≡ table ++ text ∷ []
-interned-new table text none = rw none refl
+-- a table without a text gets it at its end
+with_text-new : (table : List (List ℕ)) (text : List ℕ) → number_of table text ≡ None → with_text table text ≡ table ++ text ∷ []
+with_text-new table text none = rw none refl
 
 -- what the insertion of a new text in a set of texts does to the table
 pub record Inserts {K : Type 0} (bytes : K → List ℕ) (keys new : List K) (text : List ℕ) (number : ℕ) : Type 0 where
-  pub table : map bytes new ≡ interned (map bytes keys) text
+  pub table : map bytes new ≡ with_text (map bytes keys) text
   pub number_is : number_of (map bytes new) text ≡ Some number
   pub distinct : IsDistinct (map bytes keys) → IsDistinct (map bytes new)
   pub longer : length new ≡ length keys + 1
@@ -194,13 +194,13 @@ pub Inserts-full : {K : Type 0} (bytes : K → List ℕ) (keys new : List K) (ow
     → number ≡ position_or_len (λ k. bytes_eq (bytes owned) (bytes k)) keys
     → Inserts bytes keys new text number
 Inserts-full {K} bytes keys new owned text number same none is_new is_number =
-    let table : map bytes new ≡ interned (map bytes keys) text =
-    ap (map bytes) is_new ∙ interned-keys bytes keys owned ∙ ap (interned (map bytes keys)) same in
-    let pushed : map bytes new ≡ map bytes keys ++ text ∷ [] = table ∙ interned-new (map bytes keys) text none in
+    let table : map bytes new ≡ with_text (map bytes keys) text =
+    ap (map bytes) is_new ∙ with_text-keys bytes keys owned ∙ ap (with_text (map bytes keys)) same in
+    let pushed : map bytes new ≡ map bytes keys ++ text ∷ [] = table ∙ with_text-new (map bytes keys) text none in
     let at : number ≡ position_or_len (λ k. bytes_eq text (bytes k)) keys = is_number ∙ ap (λ t. position_or_len (λ k. bytes_eq t (bytes k)) keys) same in
     record {
       table = table;
       number_is = rw (pushed, at) (pushed-number bytes keys text);
-      distinct = λ d. rw table (IsDistinct-interned (map bytes keys) text d);
+      distinct = λ d. rw table (IsDistinct-with_text (map bytes keys) text d);
       longer = omega (arith, length-map new bytes, length-map keys bytes, ap length pushed, length_push (map bytes keys) text);
     }

@@ -29,15 +29,15 @@ abbrev pub IsDistinct : List (List ℕ) → Type 0
 IsDistinct texts = AllPairs (λ first second. first ≢ second) texts
 
 -- texts with one among them: the same where it is there, else with it at their end
-abbrev pub interned : List (List ℕ) → List ℕ → List (List ℕ)
-interned texts text = if is_some (number_of texts text) then texts else texts ++ text ∷ []
+abbrev pub with_text : List (List ℕ) → List ℕ → List (List ℕ)
+with_text texts text = if is_some (number_of texts text) then texts else texts ++ text ∷ []
 
 -- a table with the text of a symbol, or of a string, in it
 abbrev pub with_symbol : Table → List ℕ → Table
-with_symbol table text = record table { symbols = interned table.symbols text }
+with_symbol table text = record table { symbols = with_text table.symbols text }
 
 abbrev pub with_string : Table → List ℕ → Table
-with_string table text = record table { strings = interned table.strings text }
+with_string table text = record table { strings = with_text table.strings text }
 
 -- a byte may stand in a string: no control character of ASCII but tab, line feed and carriage
 -- return

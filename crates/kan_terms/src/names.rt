@@ -4,7 +4,7 @@ ghost use Rattle.std.specs.Prelude.{◌≡◌, ◌-◌, ◌^◌, ◌<◌, [], le
 ghost use Rattle.std.specs.Prelude.{IsTrue, IfOk, OnOk, OnErr};
 ghost use Rattle.std.specs.List.{list_all};
 ghost use Rattle.std.specs.Option.{option_copied};
-ghost use Rattle.kan_terms.specs.Table.{IsDistinct, interned, is_string_text, name_of, number_of};
+ghost use Rattle.kan_terms.specs.Table.{IsDistinct, with_text, is_string_text, name_of, number_of};
 ghost use Rattle.kan_terms.specs.Table.{no_names, with_string, with_symbol};
 
 use crate::terms::Memory;
@@ -44,7 +44,7 @@ impl Texts {
     /// The number of a text, which is put at the end where it isn't there.
     fn intern(&mut self, text: &str) -> Result<u32, Memory>
         requires { length self.old < 2 ^ 32 - 1 }
-        ensures table { OnOk result (self.new ≡ interned self.old text.now) }
+        ensures table { OnOk result (self.new ≡ with_text self.old text.now) }
         ensures number { IfOk result (λ number. number_of self.new text.now ≡ Some number) }
         ensures distinct { IsDistinct self.new }
         ensures unchanged { OnErr result (self.new ≡ self.old) }

@@ -1,8 +1,8 @@
 -- Libraries that are accepted by themselves, for those who compile: compiling one by itself shows it.
 use Rattle.std.proofs.Common.{◌≡◌, ℕ, List, [], ◌∷◌, ◌++◌, length, refl, sym, ◌∙◌, ap, ap₂}
 use Rattle.std.specs.Prelude.{Option, Some, None, is_some, if◌then◌else◌}
-use Rattle.kan_terms.specs.Table.{Table, number_of, interned}
-use Rattle.kan_terms.proofs.TableLaws.{number_of-push, number_of-interned}
+use Rattle.kan_terms.specs.Table.{Table, number_of, with_text}
+use Rattle.kan_terms.proofs.TableLaws.{number_of-push, number_of-with_text}
 use Rattle.kan_model.specs.Programs.Goals.{Query}
 use Rattle.kan_grammar.specs.declared.dialect.Dialect.{Dialect}
 use Rattle.kan_grammar.specs.Data.Printed.{prefix_name}
@@ -16,7 +16,7 @@ use Rattle.goal_syntax.specs.declared.compiler.Compiled.{Compiled}
 use Rattle.goal_syntax.specs.Compiling.Compiles.{IsAcceptedAlone, IsCompiled, sites_of}
 
 -- a text that came to a list is there
-interned_there : (texts : List (List ℕ)) (text : List ℕ) → (n : ℕ) × (number_of (interned texts text) text ≡ Some n)
+interned_there : (texts : List (List ℕ)) (text : List ℕ) → (n : ℕ) × (number_of (with_text texts text) text ≡ Some n)
 interned_there texts text = by_number (number_of texts text) refl
   where
     by_number : (r : Option ℕ) → number_of texts text ≡ r → (n : ℕ) × (number_of (if is_some r then texts else texts ++ text ∷ []) text ≡ Some n)
@@ -24,7 +24,7 @@ interned_there texts text = by_number (number_of texts text) refl
     by_number (Some n) e = (n, e)
 
 -- the symbol of a prefix that is there comes not again
-prefix_again : (table : Table) (text : List ℕ) (n : ℕ) → number_of table.symbols text ≡ Some n → interned table.symbols text ≡ table.symbols
+prefix_again : (table : Table) (text : List ℕ) (n : ℕ) → number_of table.symbols text ≡ Some n → with_text table.symbols text ≡ table.symbols
 prefix_again table text n e = ap (λ r. if is_some r then table.symbols else table.symbols ++ text ∷ []) e
 
 abbrev with_symbols : Table → List (List ℕ) → Table
@@ -39,8 +39,8 @@ prefixes_again table =
     let first = interned_there table.symbols (prefix_name quote) in
     let second = interned_there one.symbols (prefix_name quasiquote) in
     let third = interned_there two.symbols (prefix_name unquote) in
-    let quoted = number_of-interned two.symbols (prefix_name unquote) (prefix_name quote) first.0 (number_of-interned one.symbols (prefix_name quasiquote) (prefix_name quote) first.0 first.1) in
-    let quasiquoted = number_of-interned two.symbols (prefix_name unquote) (prefix_name quasiquote) second.0 second.1 in
+    let quoted = number_of-with_text two.symbols (prefix_name unquote) (prefix_name quote) first.0 (number_of-with_text one.symbols (prefix_name quasiquote) (prefix_name quote) first.0 first.1) in
+    let quasiquoted = number_of-with_text two.symbols (prefix_name unquote) (prefix_name quasiquote) second.0 second.1 in
     ap (λ l. with_prefix (with_prefix (with_symbols all l) quasiquote) unquote) (prefix_again all (prefix_name quote) first.0 quoted)
     ∙ ap (λ l. with_prefix (with_symbols all l) unquote) (prefix_again all (prefix_name quasiquote) second.0 quasiquoted)
     ∙ ap (with_symbols all) (prefix_again all (prefix_name unquote) third.0 third.1)
