@@ -103,10 +103,10 @@ pub names_begun : (start : List ℕ) → LeftNames start [] start
 names_begun start ns more all is = (ns, refl, all, is)
 
 pub names_go_on : (start made grown rest left behind : List ℕ) (n : ℕ) → begins 95 rest ≡ true →
-    ((m : ℕ) (u : List ℕ) → m < 2 ^ 32 → ends u ≡ true → rest ≡ name_text m ++ u → (n ≡ m) × (left ≡ u)) → grown ≡ made ++ n ∷ [] → behind ≡ past_space left →
+    ((m : ℕ) (u : List ℕ) → m < 2 ^ 64 → ends u ≡ true → rest ≡ name_text m ++ u → (n ≡ m) × (left ≡ u)) → grown ≡ made ++ n ∷ [] → behind ≡ past_space left →
     LeftNames start made rest → LeftNames start grown behind
 names_go_on start made grown rest left behind n some read add past held ns more all is =
-    listed_next name_text is_short ns made grown rest left behind more n 95 refl some (λ m u short. read m u (let low : m < 2 ^ 32 = grind (arith, nat_tests) in low)) add past (held ns more all is)
+    listed_next name_text is_short ns made grown rest left behind more n 95 refl some (λ m u short. read m u (let low : m < 2 ^ 64 = grind (arith, nat_tests) in low)) add past (held ns more all is)
 
 pub names_end : (start made rest : List ℕ) → begins 95 rest ≡ false → LeftNames start made rest → GetsNames start made rest
 names_end start made rest none held ns more all is = listed_ends name_text is_short ns made rest more 95 none (λ y u. refl) (held ns more all is)
@@ -136,12 +136,12 @@ four_pieces n s more =
     ap (λ l. 40 ∷ l) (append_assoc (n ++ 32 ∷ [] ++ s) (41 ∷ []) more ∙ append_assoc (n ++ 32 ∷ []) s (41 ∷ more) ∙ append_assoc n (32 ∷ []) (s ++ 41 ∷ more))
 
 pub pair_got : (new : Table) (bytes cut rest between back left : List ℕ) (name : ℕ) (shapes : List Shape) (pair : NamePair) → cut ≡ drop 1 bytes →
-    ((m : ℕ) (u : List ℕ) → m < 2 ^ 32 → ends u ≡ true → cut ≡ name_text m ++ u → (name ≡ m) × (rest ≡ u)) → between ≡ drop 1 rest → GetsTerm new between shapes back → left ≡ drop 1 back →
+    ((m : ℕ) (u : List ℕ) → m < 2 ^ 64 → ends u ≡ true → cut ≡ name_text m ++ u → (name ≡ m) × (rest ≡ u)) → between ≡ drop 1 rest → GetsTerm new between shapes back → left ≡ drop 1 back →
     pair.name ≡ name → pair.term ≡ shapes → GetsPair new bytes pair left
 pair_got new bytes cut rest between back left name shapes pair one read two term three first second table on p more fine is =
     let parts = and_parts (is_short p.name && spells 1 p.term) (list_all (is_fine table) p.term) fine in
     let low = and_parts (is_short p.name) (spells 1 p.term) parts.0 in
-    let below : p.name < 2 ^ 32 = let short : nat_lt p.name (2 ^ 32) ≡ true = low.0 in grind (arith, nat_tests) in
+    let below : p.name < 2 ^ 64 = let short : nat_lt p.name (2 ^ 64) ≡ true = low.0 in grind (arith, nat_tests) in
     let pieces : bytes ≡ 40 ∷ (name_text p.name ++ 32 ∷ (text_from table true 0 p.term ++ 41 ∷ more)) = is ∙ four_pieces (name_text p.name) (text_from table true 0 p.term) more in
     let named = read p.name (32 ∷ (text_from table true 0 p.term ++ 41 ∷ more)) below refl (one ∙ ap (drop 1) pieces) in
     let got = term table on p.term (41 ∷ more) low.1 parts.1 refl (two ∙ ap (drop 1) named.1) in

@@ -33,7 +33,7 @@ past_space (b ∷ bs) = if b == 32 then bs else b ∷ bs
 
 -- a name's number is one that the code holds
 abbrev pub is_short : ℕ → Bool
-is_short n = nat_lt n (2 ^ 32)
+is_short n = nat_lt n (2 ^ 64)
 
 -- where these bytes begin with names and a close, they are these, and this is left
 abbrev pub GetsNames : List ℕ → List ℕ → List ℕ → Type 0

@@ -24,9 +24,9 @@ use term_reading::{behind, front_length, name_number, read_term, read_word};
 /// The names that have a type, by type.
 #[derive(Drop)]
 pub(crate) struct Kinds {
-    pub(crate) numbers: Vec<u32>,
-    pub(crate) symbols: Vec<u32>,
-    pub(crate) strings: Vec<u32>,
+    pub(crate) numbers: Vec<u64>,
+    pub(crate) symbols: Vec<u64>,
+    pub(crate) strings: Vec<u64>,
 }
 
 /// The parts of an answer.
@@ -67,8 +67,8 @@ fn past_space(bytes: &[u8]) -> &[u8]
 }
 
 // The name at the front, and what is left.
-fn read_name(bytes: &[u8]) -> (u32, &[u8])
-    ensures reads { (n : ℕ) (more : List ℕ) → n < 2 ^ 32 → ends more ≡ true
+fn read_name(bytes: &[u8]) -> (u64, &[u8])
+    ensures reads { (n : ℕ) (more : List ℕ) → n < 2 ^ 64 → ends more ≡ true
         → bytes.now ≡ name_text n ++ more → (result.0 ≡ n) × (result.1.now ≡ more) }
     ensures within { length result.1.now ≤ length bytes.now }
     ensures shorter { 0 < length bytes.now → length result.1.now < length bytes.now }
@@ -78,7 +78,7 @@ fn read_name(bytes: &[u8]) -> (u32, &[u8])
 }
 
 // The names at the front, and what is left.
-fn read_names<'a>(alloc: Global, bytes: &'a [u8]) -> Result<(Vec<u32>, &'a [u8]), Memory>
+fn read_names<'a>(alloc: Global, bytes: &'a [u8]) -> Result<(Vec<u64>, &'a [u8]), Memory>
     ensures reads { IfOk result (λ read. GetsNames bytes.now read.0.items read.1.now) }
     ensures within { IfOk result (λ read. length read.1.now ≤ length bytes.now) }
 {
@@ -163,7 +163,7 @@ fn read_differences<'a>(
 }
 
 // The names with a word whose second letter is this one, and what is left.
-fn read_kind<'a>(alloc: Global, bytes: &'a [u8], letter: u8) -> Result<(Vec<u32>, &'a [u8]), Memory>
+fn read_kind<'a>(alloc: Global, bytes: &'a [u8], letter: u8) -> Result<(Vec<u64>, &'a [u8]), Memory>
     ensures reads { IfOk result (λ read.
         GetsKind letter bytes.now read.0.items read.1.now) }
     ensures within { IfOk result (λ read. length read.1.now ≤ length bytes.now) }
@@ -192,7 +192,7 @@ fn read_kinds<'a>(alloc: Global, bytes: &'a [u8]) -> Result<(Kinds, &'a [u8]), M
 }
 
 // The absence of a tag from names, if the tag is a symbol.
-fn absence_of(tag: Shape, names: Vec<u32>) -> Option<Absence>
+fn absence_of(tag: Shape, names: Vec<u64>) -> Option<Absence>
     ensures reads { (s : ℕ) → tag ≡ Sym s
         → option_map absence result ≡ Some (record { tag = s; names = names.items }) }
     ensures known { (table : Table) → is_known table tag ≡ true

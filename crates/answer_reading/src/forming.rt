@@ -66,7 +66,7 @@ fn are_below(count: usize, shapes: &[Shape]) -> bool
 }
 
 // Whether a shape is a name.
-fn is_name(name: u32, shape: Shape) -> bool
+fn is_name(name: u64, shape: Shape) -> bool
     ensures { result ≡ is_name name shape }
 {
     match shape {
@@ -76,14 +76,14 @@ fn is_name(name: u32, shape: Shape) -> bool
 }
 
 // Whether a name is among shapes.
-fn has_name(name: u32, shapes: &[Shape]) -> bool
+fn has_name(name: u64, shapes: &[Shape]) -> bool
     ensures { result ≡ list_any (is_name name) shapes.now }
 {
     shapes.iter().any(|shape| is_name(name, *shape))
 }
 
 // Whether a term is no name up to this one.
-fn is_higher(name: u32, shapes: &[Shape]) -> bool
+fn is_higher(name: u64, shapes: &[Shape]) -> bool
     ensures { result ≡ is_higher name shapes.now }
 {
     match shapes.first() {
@@ -114,7 +114,7 @@ fn are_pairs_formed(count: usize, pairs: &[NamePair]) -> bool
 }
 
 // Whether no term of pairs has a name.
-fn is_free_of(pairs: &[NamePair], name: u32) -> bool
+fn is_free_of(pairs: &[NamePair], name: u64) -> bool
     ensures { result ≡ is_free_of pairs.now name }
 {
     for pair in pairs {
@@ -248,7 +248,7 @@ pub(crate) fn are_different(disequalities: &[NamePairs]) -> bool
 }
 
 // Whether names stand in order.
-fn do_names_ascend(names: &[u32]) -> bool
+fn do_names_ascend(names: &[u64]) -> bool
     ensures { result ≡ ascends nat_lt names.now }
 {
     for at in 1..names.len() {
@@ -260,7 +260,7 @@ fn do_names_ascend(names: &[u32]) -> bool
 }
 
 // Whether names are among the first ones.
-fn are_few(count: usize, names: &[u32]) -> bool
+fn are_few(count: usize, names: &[u64]) -> bool
     ensures { result ≡ list_all (λ v. nat_lt v count) names.now }
 {
     for name in names {
@@ -272,21 +272,21 @@ fn are_few(count: usize, names: &[u32]) -> bool
 }
 
 /// Whether names are among the first ones, each once and in order.
-pub(crate) fn are_names_formed(count: usize, names: &[u32]) -> bool
+pub(crate) fn are_names_formed(count: usize, names: &[u64]) -> bool
     ensures { result ≡ names_in_form count names.now }
 {
     are_few(count, names) & do_names_ascend(names)
 }
 
 // Whether a name is among others.
-fn stands_in(names: &[u32], name: u32) -> bool
+fn stands_in(names: &[u64], name: u64) -> bool
     ensures { result ≡ stands_in names.now name }
 {
     names.iter().any(|other| name == *other)
 }
 
 /// Whether no name is in both lists.
-pub(crate) fn are_apart(one: &[u32], other: &[u32]) -> bool
+pub(crate) fn are_apart(one: &[u64], other: &[u64]) -> bool
     ensures { result ≡ apart one.now other.now }
 {
     one.iter().all(|name| !stands_in(other, *name))

@@ -59,7 +59,7 @@ fn are_differences_met(
 }
 
 // Whether names have a type.
-fn have_type(values: &[&[Mark]], kind: Kind, names: &[u32]) -> bool
+fn have_type(values: &[&[Mark]], kind: Kind, names: &[u64]) -> bool
     ensures { result ≡ list_all (type_met (seen values.now) kind) names.now }
 {
     for name in names {
@@ -71,7 +71,7 @@ fn have_type(values: &[&[Mark]], kind: Kind, names: &[u32]) -> bool
 }
 
 // Whether a tag stands in none of some names.
-fn is_tag_absent(values: &[&[Mark]], tag: u32, names: &[u32]) -> bool
+fn is_tag_absent(values: &[&[Mark]], tag: u32, names: &[u64]) -> bool
     ensures { result ≡ list_all (tag_met (seen values.now) tag) names.now }
 {
     for name in names {

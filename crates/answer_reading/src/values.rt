@@ -58,7 +58,7 @@ pub(crate) fn values_of<'a>(
 }
 
 /// The marks of a name, and none where it has none.
-pub(crate) fn value<'a>(values: &[&'a [Mark]], name: u32) -> &'a [Mark]
+pub(crate) fn value<'a>(values: &[&'a [Mark]], name: u64) -> &'a [Mark]
     ensures { result.now ≡ marks_at (seen values.now) name }
 {
     match values.get(name as usize) {

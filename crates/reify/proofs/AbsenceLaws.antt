@@ -71,24 +71,6 @@ lists_step test vs ws i d old new ts same below before are grown =
     let under : i < length vs = subst (λ l. i < length l) same below in
     rw (grown, take_more vs i d under) (TagLists-push test (take i vs) old (get_or vs i d) ts before (subst (λ l. (tag : ℕ) → Contains ts tag ↔ (test tag (get_or l i d) ≡ true)) same are))
 
-pub as_many : (test : ℕ → ℕ → Bool) (vs : List ℕ) (lists : List (List ℕ)) → TagLists test vs lists → length lists ≡ length vs
-as_many test [] [] h = refl
-as_many test [] (l ∷ lists) h = absurd h
-as_many test (w ∷ vs) [] h = absurd h
-as_many test (w ∷ vs) (l ∷ lists) (h, hs) = ap suc (as_many test vs lists hs)
-
-pub few_lists : (test : ℕ → ℕ → Bool) (vs ws : List ℕ) (i n : ℕ) (lists : List (List ℕ)) → TagLists test (take i vs) lists → ws ≡ vs → length ws < n → length lists < n
-few_lists test vs ws i n lists are same few =
-    let many : length lists ≡ length (take i vs) = as_many test (take i vs) lists are in
-    let part : length (take i vs) ≤ length vs = at_most i vs in
-    let long : length ws ≡ length vs = ap length same in
-    omega (arith, many, part, long, few)
-  where
-    at_most : (k : ℕ) (xs : List ℕ) → length (take k xs) ≤ length xs
-    at_most zero xs = omega arith
-    at_most (suc k) [] = omega arith
-    at_most (suc k) (x ∷ xs) = let ih = at_most k xs in omega (arith, ih)
-
 -- the tags of one list more
 pub joined_step : (lists : List (List ℕ)) (i : ℕ) (ts tags more : List ℕ) → i < length lists → ts ≡ get_or lists i ts → tags ≡ concat (take i lists) → more ≡ tags ++ ts → more ≡ concat (take (i + 1) lists)
 joined_step lists i ts tags more below is before grown =

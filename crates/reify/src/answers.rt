@@ -13,7 +13,7 @@ pub struct Absence {
     /// The tag, by its number in the table of names.
     pub tag: u32,
     /// The names in which it must not stand.
-    pub names: Vec<u32>,
+    pub names: Vec<u64>,
 }
 
 /// The answer of a store: the query's term over names, and what is left of the constraints.
@@ -21,9 +21,9 @@ pub struct Absence {
 pub struct Answer {
     pub(crate) term: Shapes,
     pub(crate) disequalities: Vec<NamePairs>,
-    pub(crate) numbers: Vec<u32>,
-    pub(crate) symbols: Vec<u32>,
-    pub(crate) strings: Vec<u32>,
+    pub(crate) numbers: Vec<u64>,
+    pub(crate) symbols: Vec<u64>,
+    pub(crate) strings: Vec<u64>,
     pub(crate) absences: Vec<Absence>,
     ghost one: { IsTrue (spells 1 term) },
     ghost whole: { IsTrue (list_all all_whole disequalities.items) },
@@ -49,9 +49,9 @@ impl Answer {
     pub fn of(
         term: Shapes,
         disequalities: Vec<NamePairs>,
-        numbers: Vec<u32>,
-        symbols: Vec<u32>,
-        strings: Vec<u32>,
+        numbers: Vec<u64>,
+        symbols: Vec<u64>,
+        strings: Vec<u64>,
         absences: Vec<Absence>,
     ) -> Answer
         requires one { spells 1 term ≡ true }
@@ -116,21 +116,21 @@ impl Answer {
     }
 
     /// The names that stand for numbers. It takes no memory.
-    pub fn numbers(&self) -> &[u32]
+    pub fn numbers(&self) -> &[u64]
         ensures { result.now ≡ (meaning self.now).numbers }
     {
         &self.numbers
     }
 
     /// The names that stand for symbols. It takes no memory.
-    pub fn symbols(&self) -> &[u32]
+    pub fn symbols(&self) -> &[u64]
         ensures { result.now ≡ (meaning self.now).symbols }
     {
         &self.symbols
     }
 
     /// The names that stand for strings. It takes no memory.
-    pub fn strings(&self) -> &[u32]
+    pub fn strings(&self) -> &[u64]
         ensures { result.now ≡ (meaning self.now).strings }
     {
         &self.strings
@@ -138,7 +138,7 @@ impl Answer {
 
     /// The tag at an index with the names in which it must not stand, in printed order. It takes no
     /// memory.
-    pub fn absence(&self, at: usize) -> Option<(u32, &[u32])>
+    pub fn absence(&self, at: usize) -> Option<(u32, &[u64])>
         ensures { option_map lent_absence result ≡ slice_get (meaning self.now).absences at }
     {
         match self.absences.get(at) {

@@ -27,7 +27,7 @@ fn separate(others: usize, text: &mut String) -> Result<(), Memory>
 }
 
 // Names with a space between each two.
-fn print_names(listed: &[u32], text: &mut String) -> Result<(), Memory>
+fn print_names(listed: &[u64], text: &mut String) -> Result<(), Memory>
     ensures { OnOk result (string_bytes text.new
         ≡ string_bytes text.old ++ with_spaces (map name_text listed.now)) }
 {
@@ -114,7 +114,7 @@ fn print_differences(
 }
 
 // A word with the names of which it is said, behind a space, and nothing where there are none.
-fn print_list(word: &str, listed: &[u32], text: &mut String) -> Result<(), Memory>
+fn print_list(word: &str, listed: &[u64], text: &mut String) -> Result<(), Memory>
     ensures { OnOk result (string_bytes text.new
         ≡ string_bytes text.old ++ flat_map spaced (names_texts word.now listed.now)) }
 {

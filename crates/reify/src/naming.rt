@@ -1,6 +1,6 @@
 //! The names of variables.
 
-ghost use Rattle.std.specs.Prelude.{◌≡◌, ◌<◌, ◌^◌, [], length, map, eqb, IfOk};
+ghost use Rattle.std.specs.Prelude.{◌≡◌, [], map, eqb, IfOk};
 ghost use Rattle.kan_model.specs.Answers.Order.{each_once, place_of, stands_in};
 ghost use Rattle.reify.specs.Naming.{name_in, number_of, shape_in, variables_of, with_letter};
 ghost use Rattle.reify.specs.Naming.{with_variable};
@@ -15,7 +15,7 @@ use std::marker::Model;
 /// The number of a name, as an entry of a tree.
 #[derive(Drop)]
 pub(crate) struct Name {
-    number: u32,
+    number: u64,
 }
 
 impl Again for Name {
@@ -32,9 +32,7 @@ impl Again for Name {
     }
 }
 
-/// The variables that have names, in the order of their names. There are fewer of them than the
-/// greatest number of a
-/// name; more are taken for want of memory.
+/// The variables that have names, in the order of their names.
 #[derive(Drop)]
 pub(crate) struct Naming {
     names: VarTree<Name>,
@@ -42,7 +40,7 @@ pub(crate) struct Naming {
 }
 
 impl Model for Naming {
-    ghost use Rattle.std.specs.Prelude.{◌≡◌, ◌<◌, ◌^◌, ℕ, List, length};
+    ghost use Rattle.std.specs.Prelude.{◌≡◌, ℕ, List};
     ghost use Rattle.kan_tree.specs.Found.{found};
     ghost use Rattle.reify.specs.Naming.{name_in, number_of};
 
@@ -50,9 +48,8 @@ impl Model for Naming {
 
     ghost view = { λ naming. naming.variables.items };
 
-    ghost invariant = { λ naming. ((v : ℕ) → found number_of naming.names v
-        ≡ name_in naming.variables.items v)
-        × (length naming.variables.items < 2 ^ 32) };
+    ghost invariant = { λ naming. (v : ℕ) → found number_of naming.names v
+        ≡ name_in naming.variables.items v };
 }
 
 impl Naming {
@@ -68,14 +65,13 @@ impl Naming {
 
     /// The named variables in the order of their names.
     pub(crate) fn variables(&self) -> &[u64]
-        ensures shown { result.now ≡ self.now }
-        ensures few { length result.now < 2 ^ 32 }
+        ensures { result.now ≡ self.now }
     {
         &self.variables
     }
 
     /// The name of a variable.
-    pub(crate) fn name(&self, var: u64) -> Option<u32>
+    pub(crate) fn name(&self, var: u64) -> Option<u64>
         ensures { result ≡ name_in self.now var }
     {
         match self.names.get(var) {
@@ -92,12 +88,12 @@ impl Naming {
     }
 
     /// The name of a variable, or how many names there are.
-    pub(crate) fn place(&self, var: u64) -> u32
+    pub(crate) fn place(&self, var: u64) -> u64
         ensures { result ≡ place_of self.now var }
     {
         match self.name(var) {
             Some(name) => name,
-            None => self.variables.len() as u32,
+            None => self.variables.len() as u64,
         }
     }
 
@@ -112,16 +108,8 @@ impl Naming {
             mut names,
             mut variables,
         } = self;
-        let number = variables.len();
-        if number >= u32::MAX as usize {
-            return Err(Memory);
-        }
-        names.put(
-            var,
-            Name {
-                number: number as u32,
-            },
-        )?;
+        let number = variables.len() as u64;
+        names.put(var, Name { number })?;
         variables.push(var)?;
         Ok(Naming { names, variables })
     }

@@ -22,7 +22,7 @@ pub(crate) enum Place {
 }
 
 /// Adds the text of a name.
-pub(crate) fn print_name(name: u32, text: &mut String) -> Result<(), Memory>
+pub(crate) fn print_name(name: u64, text: &mut String) -> Result<(), Memory>
     ensures { OnOk result (string_bytes text.new ≡ string_bytes text.old ++ name_text name) }
 {
     write!(text, "_{name}")?;

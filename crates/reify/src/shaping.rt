@@ -8,7 +8,7 @@ pub enum Shape {
     /// A pair, whose two parts follow.
     Pair,
     /// A name.
-    Name(u32),
+    Name(u64),
     /// A symbol, by its number in the table of names.
     Sym(u32),
     /// A string, by its number in the table of strings.
@@ -28,7 +28,7 @@ pub type Shapes = ListOf<Shape>;
 #[derive(Drop)]
 pub struct NamePair {
     /// The name.
-    pub name: u32,
+    pub name: u64,
     /// What makes the pair true.
     pub term: Shapes,
 }

@@ -1,6 +1,6 @@
 //! The names that have a type.
 
-ghost use Rattle.std.specs.Prelude.{◌≡◌, ◌<◌, ◌^◌, ◌++◌, IfOk, OnOk};
+ghost use Rattle.std.specs.Prelude.{◌≡◌, ◌++◌, IfOk, OnOk};
 ghost use Rattle.std.specs.List.{All};
 ghost use Rattle.kan_model.specs.Answers.Answer.{names_where};
 ghost use Rattle.kan_model.specs.Stores.Kept.{has_type};
@@ -33,12 +33,11 @@ fn has<St: Store>(store: &St, kind: Kind, var: u64) -> bool
 }
 
 /// Adds the name at an index, where the test holds.
-pub(crate) fn add_where(names: &mut Vec<u32>, at: usize, holds: bool) -> Result<(), Memory>
-    requires { at < 2 ^ 32 }
+pub(crate) fn add_where(names: &mut Vec<u64>, at: usize, holds: bool) -> Result<(), Memory>
     ensures { OnOk result (names.new.items ≡ names.old.items ++ here holds at) }
 {
     if holds {
-        names.push(at as u32)?;
+        names.push(at as u64)?;
     }
     Ok(())
 }
@@ -49,7 +48,7 @@ pub(crate) fn names_of<St: Store>(
     store: &St,
     kind: Kind,
     naming: &Naming,
-) -> Result<Vec<u32>, Memory>
+) -> Result<Vec<u64>, Memory>
     requires free { All (IsFree (St.meaning store.now)) naming.now }
     ensures { IfOk result (λ names. names.items
         ≡ names_where (has_type kind (answer (St.meaning store.now)) (St.meaning store.now).prims) 0

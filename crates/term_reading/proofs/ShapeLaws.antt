@@ -46,7 +46,7 @@ symbol_parts table s ok fine =
 
 pub word_bytes : (table : Table) (x : Shape) → IsSpelled table → is_worded x ≡ true → is_fine table x ≡ true → (list_all is_word_byte (atom_text table x) ≡ true) × (0 < length (atom_text table x))
 word_bytes table (Name n) ok worded fine =
-    let low : n < 2 ^ 32 = grind (arith, nat_tests) in
+    let low : n < 2 ^ 64 = grind (arith, nat_tests) in
     (digits_words (decimal_text n) (digits_all n (omega (arith, low))), omega arith)
 word_bytes table (Sym s) ok worded fine = let parts = symbol_parts table s ok fine in (parts.0, parts.2)
 word_bytes table (Num (pos n)) ok worded fine =
@@ -102,7 +102,7 @@ word_got table x bytes more n ok worded fine over is known =
     (ap₂ take many is ∙ cut_front (atom_text table x) more, ap₂ drop many is ∙ cut_back (atom_text table x) more)
 
 -- the name at the front
-pub name_got : (n : ℕ) (bytes more : List ℕ) (k : ℕ) → n < 2 ^ 32 → ends more ≡ true → bytes ≡ name_text n ++ more → (0 < prefix_len is_word_byte bytes → k ≡ prefix_len is_word_byte bytes) →
+pub name_got : (n : ℕ) (bytes more : List ℕ) (k : ℕ) → n < 2 ^ 64 → ends more ≡ true → bytes ≡ name_text n ++ more → (0 < prefix_len is_word_byte bytes → k ≡ prefix_len is_word_byte bytes) →
     (take k bytes ≡ name_text n) × (drop k bytes ≡ more)
 name_got n bytes more k low over is known =
     let far : prefix_len is_word_byte bytes ≡ length (name_text n) = ap (prefix_len is_word_byte) is ∙ word_goes (name_text n) more (digits_words (decimal_text n) (digits_all n (omega (arith, low)))) over in

@@ -61,8 +61,8 @@ pub digits_utf8 : (n : ℕ) → n ≤ 2 ^ 127 → IsUtf8 (decimal_text n)
 digits_utf8 n h = subst IsUtf8 (sym (printed n h)) (IsUtf8-from_ascii (decimal n) (IsAscii-decimal_wide n (few_128 n h)))
 
 -- a name's number is read back
-pub short_read : {E : Type 0} (n : ℕ) (digits : List ℕ) (r : Result ℕ E) → n < 2 ^ 32 → digits ≡ decimal_text n → ParsesUnsigned 32 10 digits r → r ≡ Ok n
-short_read n digits r low is parsed = parse-decimal_wide 32 n digits r low (few_128 n (omega (arith, low))) (is ∙ printed n (omega (arith, low))) parsed
+pub short_read : {E : Type 0} (n : ℕ) (digits : List ℕ) (r : Result ℕ E) → n < 2 ^ 64 → digits ≡ decimal_text n → ParsesUnsigned 64 10 digits r → r ≡ Ok n
+short_read n digits r low is parsed = parse-decimal_wide 64 n digits r low (few_128 n (omega (arith, low))) (is ∙ printed n (omega (arith, low))) parsed
 
 pub ok_same : {T E : Type 0} (r : Result T E) (x y : T) → r ≡ Ok x → r ≡ Ok y → x ≡ y
 ok_same r x y a b = cc
@@ -99,7 +99,7 @@ number_read (negsuc n) word r range is parsed =
     Ok-from_Ok_iff r _ _ read (k.0.1, k.0.0, omega (arith, k.1, low)) ∙ ap (λ m. Ok (neg_ℤ (pos m))) k.1
 
 -- which words names, numbers and symbols are
-pub name_reserved : (n : ℕ) → n < 2 ^ 32 → is_reserved (name_text n) ≡ true
+pub name_reserved : (n : ℕ) → n < 2 ^ 64 → is_reserved (name_text n) ≡ true
 name_reserved n low = ap₂ (λ a b. a && b) (digits_begin n (omega (arith, low))) (digits_all n (omega (arith, low)))
 
 digit_first : (ds : List ℕ) → begins_with_digit ds ≡ true → (is_reserved ds ≡ false) × (looks_like_number ds ≡ true)
@@ -211,8 +211,8 @@ stays_as old new size same = moves_to old old new size 0 same (stays old size)
 
 -- a shape that is a word
 pub word_is_name : (table : Table) (word : List ℕ) (x : Shape) (n : ℕ) → is_worded x ≡ true → is_fine table x ≡ true → IsSpelled table → is_reserved word ≡ true → word ≡ atom_text table x →
-    ((m : ℕ) → m < 2 ^ 32 → word ≡ name_text m → n ≡ m) → Name n ≡ x
-word_is_name table word (Name m) n worded fine ok reserved is read = ap Name (read m (let low : m < 2 ^ 32 = grind (arith, nat_tests) in low) is)
+    ((m : ℕ) → m < 2 ^ 64 → word ≡ name_text m → n ≡ m) → Name n ≡ x
+word_is_name table word (Name m) n worded fine ok reserved is read = ap Name (read m (let low : m < 2 ^ 64 = grind (arith, nat_tests) in low) is)
 word_is_name table word (Num z) n worded fine ok reserved is read = absurd (true≢false (sym reserved ∙ ap is_reserved is ∙ (number_looks z fine).0))
 word_is_name table word (Sym s) n worded fine ok reserved is read =
     absurd (true≢false (sym reserved ∙ ap is_reserved is ∙ (plain_parts (symbol_text table s) (plain_of (symbol_text table s) (symbol_spelled table s ok.symbols (let low : s < length table.symbols = grind (arith, nat_tests) in low)))).3))
@@ -224,7 +224,7 @@ word_is_name table word Nil n worded fine ok reserved is read = absurd (true≢f
 pub word_is_number : (table : Table) (word : List ℕ) (x y : Shape) → is_worded x ≡ true → is_fine table x ≡ true → IsSpelled table → is_reserved word ≡ false → looks_like_number word ≡ true → word ≡ atom_text table x →
     ((z : ℤ) → is_in_range z ≡ true → word ≡ number_text z → y ≡ Num z) → y ≡ x
 word_is_number table word (Name m) y worded fine ok reserved looks is read =
-    absurd (true≢false (sym (ap is_reserved is ∙ name_reserved m (let low : m < 2 ^ 32 = grind (arith, nat_tests) in low)) ∙ reserved))
+    absurd (true≢false (sym (ap is_reserved is ∙ name_reserved m (let low : m < 2 ^ 64 = grind (arith, nat_tests) in low)) ∙ reserved))
 word_is_number table word (Num z) y worded fine ok reserved looks is read = read z fine is
 word_is_number table word (Sym s) y worded fine ok reserved looks is read =
     absurd (true≢false (sym looks ∙ ap looks_like_number is ∙ (plain_parts (symbol_text table s) (plain_of (symbol_text table s) (symbol_spelled table s ok.symbols (let low : s < length table.symbols = grind (arith, nat_tests) in low)))).2))
@@ -236,7 +236,7 @@ word_is_number table word Nil y worded fine ok reserved looks is read = absurd (
 pub word_is_symbol : (table : Table) (word : List ℕ) (x y : Shape) → is_worded x ≡ true → is_fine table x ≡ true → IsSpelled table → is_reserved word ≡ false → looks_like_number word ≡ false → word ≡ atom_text table x →
     ((s : ℕ) → is_fine table (Sym s) ≡ true → word ≡ atom_text table (Sym s) → y ≡ Sym s) → y ≡ x
 word_is_symbol table word (Name m) y worded fine ok reserved looks is read =
-    absurd (true≢false (sym (ap is_reserved is ∙ name_reserved m (let low : m < 2 ^ 32 = grind (arith, nat_tests) in low)) ∙ reserved))
+    absurd (true≢false (sym (ap is_reserved is ∙ name_reserved m (let low : m < 2 ^ 64 = grind (arith, nat_tests) in low)) ∙ reserved))
 word_is_symbol table word (Num z) y worded fine ok reserved looks is read = absurd (true≢false (sym (ap looks_like_number is ∙ (number_looks z fine).1) ∙ looks))
 word_is_symbol table word (Sym s) y worded fine ok reserved looks is read = read s fine is
 word_is_symbol table word Pair y worded fine ok reserved looks is read = absurd (true≢false (sym worded))

@@ -44,7 +44,7 @@ pub record Continues (old new : Table) : Type 0 where
 -- a shape is of a name, number or text that there can be
 abbrev pub is_fine : Table → Shape → Bool
 is_fine table Pair = true
-is_fine table (Name n) = nat_lt n (2 ^ 32)
+is_fine table (Name n) = nat_lt n (2 ^ 64)
 is_fine table (Sym s) = nat_lt s (length table.symbols)
 is_fine table (Str s) = nat_lt s (length table.strings)
 is_fine table (Num z) = is_in_range z

@@ -39,18 +39,18 @@ fn is_plain(word: &[u8]) -> bool
 }
 
 // The number that digits are, where they are those of a name.
-fn short_number(digits: &str) -> u32
-    ensures { (n : ℕ) → n < 2 ^ 32 → digits.now ≡ decimal_text n → result ≡ n }
+fn short_number(digits: &str) -> u64
+    ensures { (n : ℕ) → n < 2 ^ 64 → digits.now ≡ decimal_text n → result ≡ n }
 {
-    match digits.parse::<u32>() {
+    match digits.parse::<u64>() {
         Ok(number) => number,
         Err(_) => 0,
     }
 }
 
 /// The number of a name, where the word is one.
-pub fn name_number(word: &[u8]) -> u32
-    ensures { (n : ℕ) → n < 2 ^ 32 → word.now ≡ name_text n → result ≡ n }
+pub fn name_number(word: &[u8]) -> u64
+    ensures { (n : ℕ) → n < 2 ^ 64 → word.now ≡ name_text n → result ≡ n }
 {
     match std::str::from_utf8(behind(word, 1)) {
         Ok(digits) => short_number(digits),
