@@ -3,7 +3,7 @@ use Rattle.std.proofs.Common.{◌≡◌, ℕ, ◌+◌, List, [], ◌∷◌, ◌+
 use Rattle.std.proofs.lemmas.List.{reverse-append, reverse-reverse, length-map}
 use Rattle.kan_terms.specs.Table.{Table}
 use Rattle.kan_grammar.specs.Texts.Sited.{Sited, with_sites}
-use Rattle.sexpr.specs.Seen.{written}
+use Rattle.sexpr.specs.WrittenForms.{written_form}
 use Rattle.sexpr.specs.declared.data.Datum.{Datum}
 use Rattle.goal_forms.specs.Parts.{site_at}
 use Rattle.goal_forms.specs.Places.{kept}
@@ -36,7 +36,7 @@ split_made f (p ∷ ps) (d ∷ first) later e =
     first_of z [] = z
     first_of z (x ∷ xs) = x
 
-pub map-meaning : (names : Table) (ds : List Datum) → map (with_sites names) (map (written names) ds) ≡ map (meaning names) ds
+pub map-meaning : (names : Table) (ds : List Datum) → map (with_sites names) (map (written_form names) ds) ≡ map (meaning names) ds
 map-meaning names [] = refl
 map-meaning names (d ∷ ds) = ap (λ l. meaning names d ∷ l) (map-meaning names ds)
 
@@ -52,7 +52,7 @@ places_made ds ps names first later e =
 -- the places of two lists of data, split by the length of the first
 pub split_places : (ds : List Sited) (ps front back : List ℕ) (names : Table) (first later : List Datum) → map (site_at ds) ps ≡ map (meaning names) first ++ map (meaning names) later →
     front ≡ take (length first) ps → back ≡ drop (length first) ps →
-    (map (site_at ds) front ≡ map (with_sites names) (map (written names) first)) × (map (site_at ds) back ≡ map (with_sites names) (map (written names) later))
+    (map (site_at ds) front ≡ map (with_sites names) (map (written_form names) first)) × (map (site_at ds) back ≡ map (with_sites names) (map (written_form names) later))
 split_places ds ps front back names first later e f b =
     let parts = split_made (site_at ds) ps (map (meaning names) first) (map (meaning names) later) e in
     let size : length first ≡ length (map (meaning names) first) = simp length-map in

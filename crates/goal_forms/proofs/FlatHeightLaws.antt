@@ -11,7 +11,7 @@ use Rattle.kan_grammar.specs.Data.Printed.{prefix_name}
 use Rattle.kan_grammar.specs.Texts.Sited.{Sited, with_sites, within_sites, symbol_number}
 use Rattle.sexpr.specs.Meaning.{prefix_of}
 use Rattle.kan_terms.specs.Table.{Table}
-use Rattle.sexpr.specs.Seen.{written}
+use Rattle.sexpr.specs.WrittenForms.{written_form}
 use Rattle.sexpr.specs.Printing.{within}
 use Rattle.sexpr.specs.declared.data.Datum.{Datum}
 use Rattle.sexpr.specs.declared.data.DatumKind.TheVariants as kinds
@@ -71,7 +71,7 @@ prefix_low at s d0 d1 d2 d3 d4 p0 p1 p2 p3 p4 p5 d top below named q2 q3 ended q
 -- what is made already is low
 made_low : (names : Table) (ws : List Work) (made : List Sited) → all_low names ws made ≡ true → list_all is_low_datum made ≡ true
 made_low names [] made h = h
-made_low names (works.Datum d ∷ ws) made h = (and_parts (is_low_datum (with_sites names (written names d.now))) (list_all is_low_datum made) (made_low names ws (with_sites names (written names d.now) ∷ made) h)).1
+made_low names (works.Datum d ∷ ws) made h = (and_parts (is_low_datum (with_sites names (written_form names d.now))) (list_all is_low_datum made) (made_low names ws (with_sites names (written_form names d.now) ∷ made) h)).1
 made_low names (works.Rest items last at ∷ ws) made h =
     (and_parts (is_low_datum (within_sites names at (within names items last))) (list_all is_low_datum made) (made_low names ws (within_sites names at (within names items last) ∷ made) h)).1
 made_low names (works.Pair at ∷ ws) made h = (and_parts (list_all is_low_datum made) (all_low names ws (joined at made)) h).0
@@ -80,7 +80,7 @@ made_low names (works.Prefixed at s ∷ ws) made h = (and_parts (list_all is_low
 -- a list is low as far as what is left of it
 pub list_low : (names : Table) (d : Datum) (xs : List Datum) (last : Option Datum) (items : Bor (List Datum)) (lent : Option (Bor Datum)) (ws w1 : List Work) (ds : List Sited) (places : List ℕ) →
     d.kind ≡ kinds.List xs last → items.now ≡ xs → option_copied lent ≡ last → w1 ≡ ws ++ works.Rest items lent d.at ∷ [] →
-    (all_low names (reverse ws) (with_sites names (written names d) ∷ kept ds places) ≡ true) → AreLow ds → WorksLow names (reverse w1) ds places
+    (all_low names (reverse ws) (with_sites names (written_form names d) ∷ kept ds places) ≡ true) → AreLow ds → WorksLow names (reverse w1) ds places
 list_low names d xs last items lent ws w1 ds places e i l pushed left there = record {
   left = ap (λ v. all_low names v (kept ds places)) (ap reverse pushed ∙ reverse-append ws (works.Rest items lent d.at ∷ []))
       ∙ sym (ap (λ w. all_low names (reverse ws) (with_sites names w ∷ kept ds places)) (list_is names d xs last items lent e i l)) ∙ left;
@@ -90,13 +90,13 @@ list_low names d xs last items lent ws w1 ds places e i l pushed left there = re
 -- so is a prefixed datum as far as its part
 pub prefixed_low : (names : Table) (d : Datum) (q : Prefix) (x : Datum) (inner : Bor Datum) (s : ℕ) (ws w1 w2 : List Work) (ds : List Sited) (places : List ℕ) → d.kind ≡ kinds.Prefixed q x → inner.now ≡ x →
     symbol_number names (prefix_name (prefix_of q)) ≡ s → w1 ≡ ws ++ works.Prefixed d.at s ∷ [] → w2 ≡ w1 ++ works.Datum inner ∷ [] →
-    (all_low names (reverse ws) (with_sites names (written names d) ∷ kept ds places) ≡ true) → AreLow ds → WorksLow names (reverse w2) ds places
+    (all_low names (reverse ws) (with_sites names (written_form names d) ∷ kept ds places) ≡ true) → AreLow ds → WorksLow names (reverse w2) ds places
 prefixed_low names d q x inner s ws w1 w2 ds places e g numbered f1 f2 left there =
     let top : reverse w2 ≡ works.Datum inner ∷ works.Prefixed d.at s ∷ reverse ws =
     ap reverse f2 ∙ reverse-append w1 (works.Datum inner ∷ []) ∙ ap (λ l. works.Datum inner ∷ l) (ap reverse f1 ∙ reverse-append ws (works.Prefixed d.at s ∷ [])) in
     let at : ℕ = d.at in
     let made = kept ds places in
-    let datum = with_sites names (written names inner.now) in
+    let datum = with_sites names (written_form names inner.now) in
     let inside : Sited = Sited.pair at datum (Sited.nil at) in
     let whole : Sited = Sited.pair at (Sited.name at s) inside in
     let all : all_low names (reverse ws) (whole ∷ made) ≡ true =
@@ -119,7 +119,7 @@ rest_low names items rest first last at ws w1 w2 w3 ds places i e1 e2 e3 left th
     ap reverse e3 ∙ reverse-append w2 (works.Datum first ∷ [])
     ∙ ap (λ l. works.Datum first ∷ l) (ap reverse e2 ∙ reverse-append w1 (works.Rest rest last at ∷ []) ∙ ap (λ l. works.Rest rest last at ∷ l) (ap reverse e1 ∙ reverse-append ws (works.Pair at ∷ []))) in
     let made = kept ds places in
-    let datum = with_sites names (written names first.now) in
+    let datum = with_sites names (written_form names first.now) in
     let others = within_sites names at (within names rest last) in
     let whole : Sited = Sited.pair at datum others in
     let all : all_low names (reverse ws) (whole ∷ made) ≡ true =

@@ -21,7 +21,7 @@ use Rattle.kan_grammar.specs.Texts.Binders.{names_of, bound_names, binder}
 use Rattle.kan_grammar.specs.Texts.TermForms.{Use, bad_term, quote_form, term_form, cons_form, list_form, quasiquote_form, template_form, unquote_form}
 use Rattle.kan_grammar.specs.Texts.ProgramText.{slot_list}
 use Rattle.kan_grammar.specs.Texts.Resolved.{Names, template_in}
-use Rattle.sexpr.specs.Seen.{as_kept}
+use Rattle.sexpr.specs.WrittenForms.{as_kept}
 use Rattle.sexpr.proofs.KeptLaws.{keeps_data, keeps_meaning}
 use Rattle.goal_forms.specs.Heights.{pairs_high, is_low_datum, AreLow}
 use Rattle.goal_forms.specs.Parts.{site_at}

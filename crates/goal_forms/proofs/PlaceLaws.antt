@@ -5,7 +5,7 @@ use Rattle.std.proofs.Math.Seq.{get_or-append_seam}
 use Rattle.std.proofs.lemmas.Bool.{ltb-true, lt-ltb, and_parts, and_from}
 use Rattle.kan_terms.specs.Table.{IsDistinct, name_of, Table}
 use Rattle.kan_terms.proofs.TableLaws.{number_of-name_of}
-use Rattle.sexpr.specs.Seen.{string_atom, symbol_atom}
+use Rattle.sexpr.specs.WrittenForms.{string_atom, symbol_atom}
 use Rattle.kan_grammar.specs.Texts.Sited.{Sited, atom_with_site}
 use Rattle.goal_forms.specs.declared.flat_data.Part.TheVariants.{Pair}
 use Rattle.goal_forms.specs.PartRows.{is_there}

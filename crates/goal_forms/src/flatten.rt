@@ -8,7 +8,7 @@ ghost use Rattle.kan_grammar.specs.Texts.Sited.{Sited, with_sites, atom_with_sit
 ghost use Rattle.kan_terms.specs.Table.{name_of};
 ghost use Rattle.sexpr.specs.Meaning.{prefix_of};
 ghost use Rattle.kan_terms.specs.Table.{Table};
-ghost use Rattle.sexpr.specs.Seen.{string_atom, symbol_atom, written};
+ghost use Rattle.sexpr.specs.WrittenForms.{string_atom, symbol_atom, written_form};
 ghost use Rattle.goal_forms.specs.Parts.{sites, site_at, part_site};
 ghost use Rattle.std.specs.List.{list_all};
 ghost use Rattle.goal_forms.specs.Heights.{AreLow, is_low_datum};
@@ -344,11 +344,11 @@ fn turn_one(
         ≤ 2 ^ 32 }
     requires prefixed { AreNamed names.now prefixes.now }
     ensures made { OnOk result (kept (sites table.new) places.new.items
-        ≡ with_sites names.now (written names.now datum.now)
+        ≡ with_sites names.now (written_form names.now datum.now)
         ∷ kept (sites table.old) places.old.items) }
     ensures below { OnOk result (are_below (length (sites table.new)) places.new.items ≡ true) }
     ensures low { OnOk result
-        (is_low_datum (with_sites names.now (written names.now datum.now))
+        (is_low_datum (with_sites names.now (written_form names.now datum.now))
         ≡ true → list_all is_low_datum (kept (sites table.old) places.old.items)
         ≡ true → AreLow (sites table.old) → AreLow (sites table.new)) }
     ensures parts { OnOk result (length (sites table.new)
