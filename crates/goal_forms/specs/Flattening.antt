@@ -9,7 +9,7 @@ use Rattle.kan_grammar.specs.Texts.Sited.{Sited, with_sites, within_sites, symbo
 use Rattle.sexpr.specs.WrittenForms.{written_form}
 use Rattle.sexpr.specs.Printing.{within}
 use Rattle.sexpr.specs.declared.data.Datum.{Datum}
-use Rattle.goal_forms.specs.Places.{joined, prefixed_last}
+use Rattle.goal_forms.specs.Places.{pair_of_last_two, prefixed_last}
 use Rattle.goal_forms.specs.declared.prefixes.Prefixes.{Prefixes}
 use Rattle.goal_forms.specs.declared.flatten.Work.{Work}
 use Rattle.goal_forms.specs.declared.flatten.Work.TheVariants as works
@@ -27,7 +27,7 @@ finish names (works.Datum d ∷ ws) made =
     finish names ws (with_sites names (written_form names d.now) ∷ made)
 finish names (works.Rest items last at ∷ ws) made =
     finish names ws (within_sites names at (within names items last) ∷ made)
-finish names (works.Pair at ∷ ws) made = finish names ws (joined at made)
+finish names (works.Pair at ∷ ws) made = finish names ws (pair_of_last_two at made)
 finish names (works.Prefixed at s ∷ ws) made = finish names ws (prefixed_last at s made)
 
 -- how much work a datum is, and what stands in a list
