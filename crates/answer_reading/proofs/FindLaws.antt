@@ -13,7 +13,7 @@ use Rattle.kan_terms.specs.declared.marks.Mark.TheVariants as marks
 use Rattle.kan_terms.proofs.ValuationLaws.{value_at-append}
 use Rattle.reify.specs.declared.shaping.Shape.{Shape}
 use Rattle.reify.specs.declared.shaping.Shape.TheVariants as shapes
-use Rattle.answer_reading.specs.Marks.{taken, with_node, whole_length}
+use Rattle.answer_reading.specs.Marks.{node_length, with_node, whole_length}
 use Rattle.answer_reading.specs.Finding.{Agrees, FindsSo, Finds, Found, node_under, term_under, rises, reach, after_name}
 use Rattle.answer_reading.proofs.MarkLaws.{split_first, first_taken, first_dropped, whole_tail, spelled_filled}
 
@@ -103,7 +103,7 @@ next_name xs0 ms0 vs n xs ms f (t ∷ ts) spelled some = by (eqb n (length vs)) 
     }
 
 next_node : (xs0 : List Shape) (ms0 : List Mark) (vs : List (List Mark)) (x : Shape) (xs : List Shape) (ms : List Mark) → FindsSo xs0 ms0 vs (x ∷ xs) ms → 0 < length ms →
-    FindsSo xs0 ms0 (with_node vs x ms) xs (drop (taken x ms) ms)
+    FindsSo xs0 ms0 (with_node vs x ms) xs (drop (node_length x ms) ms)
 next_node xs0 ms0 vs (shapes.Name n) xs ms f some = next_name xs0 ms0 vs n xs ms f f.trees f.spelled some
 next_node xs0 ms0 vs shapes.Pair xs ms f some = plain xs0 ms0 vs xs ms marks.Pair f.grounds f.whole f.trees f.spelled f.fits f.rising f.total
 next_node xs0 ms0 vs (shapes.Sym s) xs ms f some = plain xs0 ms0 vs xs ms (marks.Sym s) f.grounds f.whole f.trees f.spelled f.fits f.rising f.total
@@ -153,17 +153,17 @@ cut_all i xs below =
     ap (λ n. take n (drop i xs)) (let many : length xs - i ≡ length (drop i xs) = omega (arith, whole) in many) ∙ take-length (drop i xs)
 
 pub finds_next : (xs0 : List Shape) (ms0 : List Mark) (vs new : List (List Mark)) (i at count : ℕ) (d : Shape) (cut : List Mark) → i < length xs0 → at < length ms0 → cut ≡ drop at ms0 →
-    (at ≤ length ms0) × FindsSo xs0 ms0 vs (drop i xs0) (drop at ms0) → new ≡ with_node vs (get_or xs0 i d) cut → count ≡ taken (get_or xs0 i d) cut → count ≤ length cut →
+    (at ≤ length ms0) × FindsSo xs0 ms0 vs (drop i xs0) (drop at ms0) → new ≡ with_node vs (get_or xs0 i d) cut → count ≡ node_length (get_or xs0 i d) cut → count ≤ length cut →
     (at + count ≤ length ms0) × FindsSo xs0 ms0 new (drop (i + 1) xs0) (drop (at + count) ms0)
 finds_next xs0 ms0 vs new i at count d cut below within is held grown many few =
     let ms : List Mark = drop at ms0 in
     let x : Shape = get_or xs0 i d in
     let step = next_node xs0 ms0 vs x (drop (i + 1) xs0) ms (subst (λ l. FindsSo xs0 ms0 vs l ms) (front_at xs0 i d below) held.1) (some_left at ms0 within) in
-    let more : count ≡ taken x ms = many ∙ ap (taken x) is in
+    let more : count ≡ node_length x ms = many ∙ ap (node_length x) is in
     let room : length cut ≡ length ms = ap length is in (
       let whole : at + length ms ≡ length ms0 = fewer_left at ms0 held.0 in omega (arith, whole, few, room),
       subst (λ l. FindsSo xs0 ms0 new (drop (i + 1) xs0) l) (ap (λ n. drop n ms) (sym more) ∙ dropped_twice at count ms0)
-          (subst (λ l. FindsSo xs0 ms0 l (drop (i + 1) xs0) (drop (taken x ms) ms)) (sym (grown ∙ ap (with_node vs x) is)) step),
+          (subst (λ l. FindsSo xs0 ms0 l (drop (i + 1) xs0) (drop (node_length x ms) ms)) (sym (grown ∙ ap (with_node vs x) is)) step),
     )
 
 node_filled : (us : List Gd) (x : Shape) → 0 < length (node_under us x)

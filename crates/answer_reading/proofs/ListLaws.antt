@@ -15,7 +15,7 @@ use Rattle.reify.specs.declared.answers.Absence.{Absence}
 use Rattle.reify.specs.declared.shaping.NamePair.{NamePair}
 use Rattle.reify.specs.declared.shaping.Shape.{Shape}
 use Rattle.reify.specs.declared.shaping.Shape.TheVariants.{Sym}
-use Rattle.reify.specs.Constraints.{spaced}
+use Rattle.reify.specs.Constraints.{behind_space}
 use Rattle.reify.specs.OverNames.{absence}
 use Rattle.reify.specs.Printing.{atom_text}
 use Rattle.reify.specs.Shapes.{spells}
@@ -72,28 +72,28 @@ listed_ends text fine xs made rest more b none first (ls, is, all, e) = by ls is
 
 -- the same of items of which each stands behind a space
 abbrev pub Spaced : {X : Type 0} → (X → List ℕ) → (X → Bool) → List X → List X → List ℕ → List ℕ → Type 0
-Spaced {X} text fine xs made rest more = (ls : List X) × (xs ≡ made ++ ls) × (list_all fine ls ≡ true) × (rest ≡ flat_map spaced (map text ls) ++ more)
+Spaced {X} text fine xs made rest more = (ls : List X) × (xs ≡ made ++ ls) × (list_all fine ls ≡ true) × (rest ≡ flat_map behind_space (map text ls) ++ more)
 
 pub spaced_next : {X : Type 0} (text : X → List ℕ) (fine : X → Bool) (xs made grown : List X) (rest left more : List ℕ) (x : X) (b : ℕ) → has_fourth b more ≡ false → has_fourth b rest ≡ true →
-    ((y : X) (u : List ℕ) → fine y ≡ true → rest ≡ spaced (text y) ++ u → (x ≡ y) × (left ≡ u)) → grown ≡ made ++ x ∷ [] →
+    ((y : X) (u : List ℕ) → fine y ≡ true → rest ≡ behind_space (text y) ++ u → (x ≡ y) × (left ≡ u)) → grown ≡ made ++ x ∷ [] →
     Spaced text fine xs made rest more → Spaced text fine xs grown left more
 spaced_next text fine xs made grown rest left more x b other some read add (ls, is, all, e) = by ls is all e
   where
-    by : (ls : List _) → xs ≡ made ++ ls → list_all fine ls ≡ true → rest ≡ flat_map spaced (map text ls) ++ more → Spaced text fine xs grown left more
+    by : (ls : List _) → xs ≡ made ++ ls → list_all fine ls ≡ true → rest ≡ flat_map behind_space (map text ls) ++ more → Spaced text fine xs grown left more
     by [] is all e = absurd (true≢false (sym some ∙ ap (has_fourth b) e ∙ other))
     by (y ∷ ls) is all e =
         let parts = and_parts (fine y) (list_all fine ls) all in
-        let got = read y (flat_map spaced (map text ls) ++ more) parts.0 (e ∙ append_assoc (spaced (text y)) (flat_map spaced (map text ls)) more) in
+        let got = read y (flat_map behind_space (map text ls) ++ more) parts.0 (e ∙ append_assoc (behind_space (text y)) (flat_map behind_space (map text ls)) more) in
         (ls, pushed xs made grown ls x y got.0 add is, parts.1, got.1)
 
-pub spaced_ends : {X : Type 0} (text : X → List ℕ) (fine : X → Bool) (xs made : List X) (rest more : List ℕ) (b : ℕ) → has_fourth b rest ≡ false → ((y : X) (u : List ℕ) → has_fourth b (spaced (text y) ++ u) ≡ true) →
+pub spaced_ends : {X : Type 0} (text : X → List ℕ) (fine : X → Bool) (xs made : List X) (rest more : List ℕ) (b : ℕ) → has_fourth b rest ≡ false → ((y : X) (u : List ℕ) → has_fourth b (behind_space (text y) ++ u) ≡ true) →
     Spaced text fine xs made rest more → (made ≡ xs) × (rest ≡ more)
 spaced_ends text fine xs made rest more b none fourth (ls, is, all, e) = by ls is e
   where
-    by : (ls : List _) → xs ≡ made ++ ls → rest ≡ flat_map spaced (map text ls) ++ more → (made ≡ xs) × (rest ≡ more)
+    by : (ls : List _) → xs ≡ made ++ ls → rest ≡ flat_map behind_space (map text ls) ++ more → (made ≡ xs) × (rest ≡ more)
     by [] is e = (sym (is ∙ append-nil made), e)
     by (y ∷ ls) is e =
-        absurd (true≢false (sym (ap (has_fourth b) (e ∙ append_assoc (spaced (text y)) (flat_map spaced (map text ls)) more) ∙ fourth y (flat_map spaced (map text ls) ++ more)) ∙ none))
+        absurd (true≢false (sym (ap (has_fourth b) (e ∙ append_assoc (behind_space (text y)) (flat_map behind_space (map text ls)) more) ∙ fourth y (flat_map behind_space (map text ls) ++ more)) ∙ none))
 
 -- names
 abbrev pub LeftNames : List ℕ → List ℕ → List ℕ → Type 0
@@ -173,13 +173,13 @@ pairs_end new start rest made none held table on ps more all is =
 abbrev pub LeftDifferences : Table → List ℕ → List (List NamePair) → List ℕ → Type 0
 LeftDifferences new start made rest =
     (table : Table) → Continues new table → (ds : List (List NamePair)) (more : List ℕ) → list_all (list_all (is_fine_pair table)) ds ≡ true → has_fourth 47 more ≡ false →
-    start ≡ flat_map spaced (map (difference_text table) ds) ++ more → Spaced (difference_text table) (list_all (is_fine_pair table)) ds made rest more
+    start ≡ flat_map behind_space (map (difference_text table) ds) ++ more → Spaced (difference_text table) (list_all (is_fine_pair table)) ds made rest more
 
 pub differences_begun : (new : Table) (start : List ℕ) → LeftDifferences new start [] start
 differences_begun new start table on ds more all other is = (ds, refl, all, is)
 
 difference_got : (table new : Table) (rest cut back left : List ℕ) (pairs : List NamePair) → Continues new table → cut ≡ drop 7 rest → GetsPairs new cut pairs back → left ≡ drop 2 back →
-    (ps : List NamePair) (u : List ℕ) → list_all (is_fine_pair table) ps ≡ true → rest ≡ spaced (difference_text table ps) ++ u → (pairs ≡ ps) × (left ≡ u)
+    (ps : List NamePair) (u : List ℕ) → list_all (is_fine_pair table) ps ≡ true → rest ≡ behind_space (difference_text table ps) ++ u → (pairs ≡ ps) × (left ≡ u)
 difference_got table new rest cut back left pairs on one read two ps u fine is =
     let got = read table on ps (41 ∷ u) fine (one ∙ ap (drop 7) is ∙ append_assoc (with_spaces (map (pair_text table) ps)) (41 ∷ 41 ∷ []) u) in
     (got.0, two ∙ ap (drop 2) got.1)
@@ -195,7 +195,7 @@ differences_end new start rest made none held table on ds more all other is =
     spaced_ends (difference_text table) (list_all (is_fine_pair table)) ds made rest more 47 none (λ y u. refl) (held table on ds more all other is)
 
 -- names with a word
-kind_cut : (a letter c n : ℕ) (ns more : List ℕ) → drop 6 (flat_map spaced (names_texts (a ∷ letter ∷ c ∷ []) (n ∷ ns)) ++ more) ≡ with_spaces (map name_text (n ∷ ns)) ++ 41 ∷ more
+kind_cut : (a letter c n : ℕ) (ns more : List ℕ) → drop 6 (flat_map behind_space (names_texts (a ∷ letter ∷ c ∷ []) (n ∷ ns)) ++ more) ≡ with_spaces (map name_text (n ∷ ns)) ++ 41 ∷ more
 kind_cut a letter c n ns more =
     ap (λ l. l ++ more) (append-nil (with_spaces (map name_text (n ∷ ns)) ++ 41 ∷ [])) ∙ append_assoc (with_spaces (map name_text (n ∷ ns))) (41 ∷ []) more
 
@@ -211,15 +211,15 @@ pub no_kind : (letter : ℕ) (bytes names left : List ℕ) → has_fourth letter
 no_kind letter bytes names left none empty same a c [] more all other is = (empty, same ∙ is)
 no_kind letter bytes names left none empty same a c (n ∷ ns) more all other is = absurd (true≢false (sym (ap (has_fourth letter) is ∙ eqb_same letter) ∙ none))
 
-pub kind_fourth : (b a letter c : ℕ) (ns more : List ℕ) → (letter == b) ≡ false → has_fourth b more ≡ false → has_fourth b (flat_map spaced (names_texts (a ∷ letter ∷ c ∷ []) ns) ++ more) ≡ false
+pub kind_fourth : (b a letter c : ℕ) (ns more : List ℕ) → (letter == b) ≡ false → has_fourth b more ≡ false → has_fourth b (flat_map behind_space (names_texts (a ∷ letter ∷ c ∷ []) ns) ++ more) ≡ false
 kind_fourth b a letter c [] more other none = none
 kind_fourth b a letter c (n ∷ ns) more other none = other
 
 pub kinds_got : (bytes one two left : List ℕ) (kinds : Kinds) → GetsKind 117 bytes kinds.numbers.items one → GetsKind 121 one kinds.symbols.items two → GetsKind 116 two kinds.strings.items left → GetsKinds bytes kinds left
 kinds_got bytes one two left kinds first second third numbers symbols strings more n s t u y w is =
-    let b : List ℕ = flat_map spaced (names_texts (codes "sym") symbols) in
-    let c : List ℕ = flat_map spaced (names_texts (codes "str") strings) in
-    let a : List ℕ = flat_map spaced (names_texts (codes "num") numbers) in
+    let b : List ℕ = flat_map behind_space (names_texts (codes "sym") symbols) in
+    let c : List ℕ = flat_map behind_space (names_texts (codes "str") strings) in
+    let a : List ℕ = flat_map behind_space (names_texts (codes "num") numbers) in
     let got = first 110 109 numbers (b ++ (c ++ more)) n
     (kind_fourth 117 115 121 109 symbols (c ++ more) refl (kind_fourth 117 115 116 114 strings more refl u)) (is ∙ append_assoc (a ++ b) c more ∙ append_assoc a b (c ++ more)) in
     let next = second 115 109 symbols (c ++ more) s (kind_fourth 121 115 116 114 strings more refl y) got.1 in
@@ -245,7 +245,7 @@ absence_got new bytes cut rest between names back left shape kept one read two l
 
 abbrev pub LeftAbsences : Table → List ℕ → List model.Absence → List ℕ → Type 0
 LeftAbsences new start made rest =
-    (table : Table) → Continues new table → (as_ : List model.Absence) → list_all (is_fine_absence table) as_ ≡ true → start ≡ flat_map spaced (map (absence_text table) as_) →
+    (table : Table) → Continues new table → (as_ : List model.Absence) → list_all (is_fine_absence table) as_ ≡ true → start ≡ flat_map behind_space (map (absence_text table) as_) →
     Spaced (absence_text table) (is_fine_absence table) as_ made rest []
 
 pub absences_begun : (new : Table) (start : List ℕ) → LeftAbsences new start [] start
@@ -262,13 +262,13 @@ none_some a e = cc
 
 -- where nothing was read there was nothing to read
 spaced_none : {X : Type 0} (text : X → List ℕ) (fine : X → Bool) (xs made grown : List X) (rest left more : List ℕ) (b : ℕ) → has_fourth b more ≡ false → has_fourth b rest ≡ true →
-    ((y : X) (u : List ℕ) → fine y ≡ true → rest ≡ spaced (text y) ++ u → ⊥) → Spaced text fine xs made rest more → Spaced text fine xs grown left more
+    ((y : X) (u : List ℕ) → fine y ≡ true → rest ≡ behind_space (text y) ++ u → ⊥) → Spaced text fine xs made rest more → Spaced text fine xs grown left more
 spaced_none text fine xs made grown rest left more b other some read (ls, is, all, e) = by ls all e
   where
-    by : (ls : List _) → list_all fine ls ≡ true → rest ≡ flat_map spaced (map text ls) ++ more → Spaced text fine xs grown left more
+    by : (ls : List _) → list_all fine ls ≡ true → rest ≡ flat_map behind_space (map text ls) ++ more → Spaced text fine xs grown left more
     by [] all e = absurd (true≢false (sym some ∙ ap (has_fourth b) e ∙ other))
     by (y ∷ ls) all e =
-        absurd (read y (flat_map spaced (map text ls) ++ more) (and_parts (fine y) (list_all fine ls) all).0 (e ∙ append_assoc (spaced (text y)) (flat_map spaced (map text ls)) more))
+        absurd (read y (flat_map behind_space (map text ls) ++ more) (and_parts (fine y) (list_all fine ls) all).0 (e ∙ append_assoc (behind_space (text y)) (flat_map behind_space (map text ls)) more))
 
 pub absences_go_on : (old new : Table) (start rest left : List ℕ) (made grown : List Absence) (kept : Option Absence) → has_fourth 98 rest ≡ true → GoesOn old new → GetsAbsence new rest (option_map absence kept) left →
     grown ≡ made ++ option_to_list kept → LeftAbsences old start (map absence made) rest → LeftAbsences new start (map absence grown) left

@@ -13,7 +13,7 @@ use Rattle.kan_model.specs.Answers.Text.{name_text, term_text, with_spaces}
 use Rattle.kan_grammar.specs.Texts.TextNames.{GoesOn}
 use Rattle.reify.specs.declared.shaping.NamePair.{NamePair}
 use Rattle.reify.specs.declared.shaping.Shape.{Shape}
-use Rattle.reify.specs.Constraints.{spaced}
+use Rattle.reify.specs.Constraints.{behind_space}
 use Rattle.reify.specs.OverNames.{absence}
 use Rattle.reify.specs.Shapes.{all_whole, named_pair, spelling, spells, tree_of}
 use Rattle.reify.proofs.ShapeLaws.{one_spelled, tree_of-spelling}
@@ -27,15 +27,15 @@ use Rattle.term_reading.proofs.TermLaws.{continues_back, term_printed}
 use Rattle.answer_reading.proofs.ListLaws.{kind_fourth}
 use Rattle.term_reading.proofs.KnownTerms.{terms_further}
 
-absences_fourth : (b : ℕ) (table : Table) (as_ : List model.Absence) → (98 == b) ≡ false → has_fourth b (flat_map spaced (map (absence_text table) as_)) ≡ false
+absences_fourth : (b : ℕ) (table : Table) (as_ : List model.Absence) → (98 == b) ≡ false → has_fourth b (flat_map behind_space (map (absence_text table) as_)) ≡ false
 absences_fourth b table [] other = refl
 absences_fourth b table (a ∷ as_) other = other
 
 kinds_fourth : (numbers symbols strings more : List ℕ) → has_fourth 47 more ≡ false → has_fourth 47 (kinds_text numbers symbols strings ++ more) ≡ false
 kinds_fourth numbers symbols strings more other =
-    let a : List ℕ = flat_map spaced (names_texts (codes "num") numbers) in
-    let b : List ℕ = flat_map spaced (names_texts (codes "sym") symbols) in
-    let c : List ℕ = flat_map spaced (names_texts (codes "str") strings) in
+    let a : List ℕ = flat_map behind_space (names_texts (codes "num") numbers) in
+    let b : List ℕ = flat_map behind_space (names_texts (codes "sym") symbols) in
+    let c : List ℕ = flat_map behind_space (names_texts (codes "str") strings) in
     ap (has_fourth 47) (append_assoc (a ++ b) c more ∙ append_assoc a b (c ++ more))
     ∙ kind_fourth 47 110 117 109 numbers (b ++ (c ++ more)) refl (kind_fourth 47 115 121 109 symbols (c ++ more) refl (kind_fourth 47 115 116 114 strings more refl other))
 
@@ -47,9 +47,9 @@ constraints_got middle new bytes rest left ds kinds as_ parts first goes second 
     let f2 = and_parts (list_all (list_all (is_fine_pair table)) es && list_all is_short numbers && list_all is_short symbols) (list_all is_short strings) f1.0 in
     let f3 = and_parts (list_all (list_all (is_fine_pair table)) es && list_all is_short numbers) (list_all is_short symbols) f2.0 in
     let f4 = and_parts (list_all (list_all (is_fine_pair table)) es) (list_all is_short numbers) f3.0 in
-    let d : List ℕ = flat_map spaced (map (difference_text table) es) in
+    let d : List ℕ = flat_map behind_space (map (difference_text table) es) in
     let k : List ℕ = kinds_text numbers symbols strings in
-    let a : List ℕ = flat_map spaced (map (absence_text table) bs) in
+    let a : List ℕ = flat_map behind_space (map (absence_text table) bs) in
     let got = first table (continues_back middle new table goes on) es (k ++ a) f4.0 (kinds_fourth numbers symbols strings a (absences_fourth 47 table bs refl)) (is ∙ append_assoc d k a) in
     let typed = second numbers symbols strings a f4.1 f3.1 f2.1 (absences_fourth 117 table bs refl) (absences_fourth 121 table bs refl) (absences_fourth 116 table bs refl) got.1 in
     (one ∙ got.0, ap (λ x. x.numbers.items) two ∙ typed.0, ap (λ x. x.symbols.items) two ∙ typed.1, ap (λ x. x.strings.items) two ∙ typed.2, three ∙ third table on bs f1.1 typed.3)
@@ -59,7 +59,7 @@ where_ends : (ts : List (List ℕ)) → ends (where_text ts) ≡ true
 where_ends [] = refl
 where_ends (t ∷ ts) = refl
 
-where_cut : (ts : List (List ℕ)) → drop 6 (where_text ts) ≡ flat_map spaced ts
+where_cut : (ts : List (List ℕ)) → drop 6 (where_text ts) ≡ flat_map behind_space ts
 where_cut [] = refl
 where_cut (t ∷ ts) = ap (drop 6) (where_spaced (t ∷ ts) refl)
 
@@ -77,19 +77,19 @@ differences_shapes : (table : Table) (ds : List (List model.NamedPair)) → map 
 differences_shapes table [] = refl
 differences_shapes table (d ∷ ds) = ap₂ (λ x xs. (codes "(=/= (" ++ with_spaces x ++ codes "))") ∷ xs) (pairs_shapes table d) (differences_shapes table ds)
 
-constraints_are : (table : Table) (a : model.Answer) → flat_map spaced (constraint_texts table a) ≡ constraints_text table (map (map shaped_pair) a.disequalities) a.numbers a.symbols a.strings a.absences
+constraints_are : (table : Table) (a : model.Answer) → flat_map behind_space (constraint_texts table a) ≡ constraints_text table (map (map shaped_pair) a.disequalities) a.numbers a.symbols a.strings a.absences
 constraints_are table a =
     let d : List (List ℕ) = map (texts.difference_text table) a.disequalities in
     let n : List (List ℕ) = names_texts (codes "num") a.numbers in
     let s : List (List ℕ) = names_texts (codes "sym") a.symbols in
     let t : List (List ℕ) = names_texts (codes "str") a.strings in
     let b : List (List ℕ) = map (absence_text table) a.absences in
-    let f : List (List ℕ) → List ℕ = flat_map spaced in
-    flat_map-append spaced (d ++ n ++ s ++ t) b
-    ∙ ap (λ l. l ++ f b) (flat_map-append spaced (d ++ n ++ s) t
-    ∙ ap (λ l. l ++ f t) (flat_map-append spaced (d ++ n) s ∙ ap (λ l. l ++ f s) (flat_map-append spaced d n))
+    let f : List (List ℕ) → List ℕ = flat_map behind_space in
+    flat_map-append behind_space (d ++ n ++ s ++ t) b
+    ∙ ap (λ l. l ++ f b) (flat_map-append behind_space (d ++ n ++ s) t
+    ∙ ap (λ l. l ++ f t) (flat_map-append behind_space (d ++ n) s ∙ ap (λ l. l ++ f s) (flat_map-append behind_space d n))
     ∙ ap (λ l. l ++ f t) (append_assoc (f d) (f n) (f s)) ∙ append_assoc (f d) (f n ++ f s) (f t)
-    ∙ ap (λ l. flat_map spaced l ++ (f n ++ f s ++ f t)) (differences_shapes table a.disequalities))
+    ∙ ap (λ l. flat_map behind_space l ++ (f n ++ f s ++ f t)) (differences_shapes table a.disequalities))
 
 pair_back : (p : model.NamedPair) → named_pair (shaped_pair p) ≡ p
 pair_back p = λ i. record { name = p.name; by = tree_of-spelling p.by i }

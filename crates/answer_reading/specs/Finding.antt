@@ -11,7 +11,7 @@ use Rattle.kan_terms.specs.declared.marks.Mark.{Mark}
 use Rattle.kan_terms.specs.declared.marks.Mark.TheVariants as marks
 use Rattle.reify.specs.declared.shaping.Shape.{Shape}
 use Rattle.reify.specs.declared.shaping.Shape.TheVariants as shapes
-use Rattle.answer_reading.specs.Marks.{seen}
+use Rattle.answer_reading.specs.Marks.{lent_lists}
 
 -- one name more, where it is the next one
 abbrev pub after_name : ℕ → ℕ → ℕ
@@ -105,4 +105,4 @@ Found xs ms None = (us : List Gd) → term_under us xs ≡ ms → ⊥
 
 abbrev pub seen_of : Option (Vec (Bor (List Mark))) → Option (List (List Mark))
 seen_of None = None
-seen_of (Some values) = Some (seen values.items)
+seen_of (Some values) = Some (lent_lists values.items)

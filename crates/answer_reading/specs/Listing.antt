@@ -9,7 +9,7 @@ use Rattle.kan_model.specs.Answers.Text.{name_text, with_spaces}
 use Rattle.reify.specs.declared.answers.Absence.{Absence}
 use Rattle.reify.specs.declared.shaping.NamePair.{NamePair}
 use Rattle.reify.specs.declared.shaping.Shape.TheVariants.{Sym}
-use Rattle.reify.specs.Constraints.{spaced}
+use Rattle.reify.specs.Constraints.{behind_space}
 use Rattle.reify.specs.OverNames.{absence}
 use Rattle.reify.specs.Shapes.{named_pair, spelling, spells, tree_of}
 use Rattle.answer_reading.specs.declared.constraints.Kinds.{Kinds}
@@ -68,22 +68,22 @@ abbrev pub GetsDifferences : Table → List ℕ → List (List NamePair) → Lis
 GetsDifferences new bytes differences left =
     (table : Table) → Continues new table → (ds : List (List NamePair)) (more : List ℕ) →
     list_all (list_all (is_fine_pair table)) ds ≡ true → has_fourth 47 more ≡ false →
-    bytes ≡ flat_map spaced (map (difference_text table) ds) ++ more → (differences ≡ ds)
+    bytes ≡ flat_map behind_space (map (difference_text table) ds) ++ more → (differences ≡ ds)
     × (left ≡ more)
 
 -- names with a word whose second letter is known, behind a space, or nothing
 abbrev pub GetsKind : ℕ → List ℕ → List ℕ → List ℕ → Type 0
 GetsKind letter bytes names left =
     (a c : ℕ) (ns more : List ℕ) → list_all is_short ns ≡ true → has_fourth letter more ≡ false →
-    bytes ≡ flat_map spaced (names_texts (a ∷ letter ∷ c ∷ []) ns) ++ more → (names ≡ ns)
+    bytes ≡ flat_map behind_space (names_texts (a ∷ letter ∷ c ∷ []) ns) ++ more → (names ≡ ns)
     × (left ≡ more)
 
 -- the names of the three types
 abbrev pub kinds_text : List ℕ → List ℕ → List ℕ → List ℕ
 kinds_text numbers symbols strings =
-    flat_map spaced (names_texts (codes "num") numbers)
-    ++ flat_map spaced (names_texts (codes "sym") symbols)
-    ++ flat_map spaced (names_texts (codes "str") strings)
+    flat_map behind_space (names_texts (codes "num") numbers)
+    ++ flat_map behind_space (names_texts (codes "sym") symbols)
+    ++ flat_map behind_space (names_texts (codes "str") strings)
 
 abbrev pub GetsKinds : List ℕ → Kinds → List ℕ → Type 0
 GetsKinds bytes kinds left =
@@ -101,14 +101,14 @@ is_fine_absence table a = is_fine table (Sym a.tag) && list_all is_short a.names
 abbrev pub GetsAbsence : Table → List ℕ → Option model.Absence → List ℕ → Type 0
 GetsAbsence new bytes kept left =
     (table : Table) → Continues new table → (a : model.Absence) (more : List ℕ) →
-    is_fine_absence table a ≡ true → bytes ≡ spaced (absence_text table a) ++ more →
+    is_fine_absence table a ≡ true → bytes ≡ behind_space (absence_text table a) ++ more →
     (kept ≡ Some a) × (left ≡ more)
 
 abbrev pub GetsAbsences : Table → List ℕ → List model.Absence → Type 0
 GetsAbsences new bytes absences =
     (table : Table) → Continues new table → (as_ : List model.Absence) →
     list_all (is_fine_absence table) as_ ≡ true → bytes
-    ≡ flat_map spaced (map (absence_text table) as_) → absences ≡ as_
+    ≡ flat_map behind_space (map (absence_text table) as_) → absences ≡ as_
 
 -- the answer that the parts are
 abbrev pub meaning : Parts → model.Answer
@@ -141,8 +141,8 @@ are_parts_known table parts =
 abbrev pub constraints_text : Table → List (List NamePair) → List ℕ → List ℕ → List ℕ →
     List model.Absence → List ℕ
 constraints_text table ds numbers symbols strings as_ =
-    flat_map spaced (map (difference_text table) ds) ++ kinds_text numbers symbols strings
-    ++ flat_map spaced (map (absence_text table) as_)
+    flat_map behind_space (map (difference_text table) ds) ++ kinds_text numbers symbols strings
+    ++ flat_map behind_space (map (absence_text table) as_)
 
 -- parts have these constraints
 abbrev pub HasConstraints : Parts → List (List NamePair) → List ℕ → List ℕ → List ℕ →

@@ -45,8 +45,8 @@ marks_eq (x ∷ xs) (y ∷ ys) = mark_eq x y && marks_eq xs ys
 marks_eq _ _ = false
 
 -- lists of marks that are lent
-abbrev pub seen : List (Bor (List Mark)) → List (List Mark)
-seen = map (λ lent. lent.now)
+abbrev pub lent_lists : List (Bor (List Mark)) → List (List Mark)
+lent_lists = map (λ lent. lent.now)
 
 -- the marks of a name, and none past the end
 abbrev pub marks_at : List (List Mark) → ℕ → List Mark
@@ -67,14 +67,14 @@ abbrev pub term_marks : List (List Mark) → List Shape → List Mark
 term_marks vs = flat_map (node_marks vs)
 
 -- how many marks a node takes: a name those of one whole term, any other node one
-abbrev pub taken : Shape → List Mark → ℕ
-taken (shapes.Name n) ms = whole_length 1 ms
-taken shapes.Pair ms = 1
-taken (shapes.Sym s) ms = 1
-taken (shapes.Str s) ms = 1
-taken (shapes.Num n) ms = 1
-taken (shapes.Truth b) ms = 1
-taken shapes.Nil ms = 1
+abbrev pub node_length : Shape → List Mark → ℕ
+node_length (shapes.Name n) ms = whole_length 1 ms
+node_length shapes.Pair ms = 1
+node_length (shapes.Sym s) ms = 1
+node_length (shapes.Str s) ms = 1
+node_length (shapes.Num n) ms = 1
+node_length (shapes.Truth b) ms = 1
+node_length shapes.Nil ms = 1
 
 -- the marks of names with those that a node gives: a new name takes those of one whole term
 abbrev pub with_node : List (List Mark) → Shape → List Mark → List (List Mark)

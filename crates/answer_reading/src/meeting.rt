@@ -5,7 +5,7 @@ ghost use Rattle.std.specs.List.{list_all};
 ghost use Rattle.reify.specs.Meaning.{absence, meaning};
 ghost use Rattle.reify.specs.Shapes.{all_whole, named_pair, spells};
 ghost use Rattle.answer_reading.specs.Marks.{absence_met, all_met, covers, difference_met};
-ghost use Rattle.answer_reading.specs.Marks.{pair_met, seen, tag_met, type_met};
+ghost use Rattle.answer_reading.specs.Marks.{pair_met, lent_lists, tag_met, type_met};
 
 use crate::marks::{begins, has_tag, same_marks};
 use crate::values::{term_marks, value};
@@ -18,7 +18,7 @@ use std::alloc::Global;
 #[tactic(auto, using(crate::proofs::MeetLaws::pair_is_met))]
 fn is_pair_met(alloc: Global, values: &[&[Mark]], pair: &NamePair) -> Result<bool, Memory>
     requires { spells 1 pair.now.term ≡ true }
-    ensures { IfOk result (λ met. met ≡ pair_met (seen values.now) (named_pair pair.now)) }
+    ensures { IfOk result (λ met. met ≡ pair_met (lent_lists values.now) (named_pair pair.now)) }
 {
     let made = term_marks(alloc, values, pair.term.items())?;
     Ok(same_marks(value(values, pair.name), &made))
@@ -28,7 +28,7 @@ fn is_pair_met(alloc: Global, values: &[&[Mark]], pair: &NamePair) -> Result<boo
 fn is_difference_met(alloc: Global, values: &[&[Mark]], pairs: &[NamePair]) -> Result<bool, Memory>
     requires { all_whole pairs.now ≡ true }
     ensures { IfOk result (λ met. met
-        ≡ difference_met (seen values.now) (map named_pair pairs.now)) }
+        ≡ difference_met (lent_lists values.now) (map named_pair pairs.now)) }
 {
     for pair in pairs {
         let met = is_pair_met(alloc, values, pair)?;
@@ -47,7 +47,8 @@ fn are_differences_met(
 ) -> Result<bool, Memory>
     requires { list_all all_whole disequalities.now ≡ true }
     ensures { IfOk result (λ met. met
-        ≡ list_all (difference_met (seen values.now)) (map (map named_pair) disequalities.now)) }
+        ≡ list_all (difference_met (lent_lists values.now))
+            (map (map named_pair) disequalities.now)) }
 {
     for pairs in disequalities {
         let met = is_difference_met(alloc, values, pairs.items())?;
@@ -59,8 +60,13 @@ fn are_differences_met(
 }
 
 // Whether names have a type.
+<<<<<<< HEAD
 fn have_type(values: &[&[Mark]], kind: Kind, names: &[u64]) -> bool
     ensures { result ≡ list_all (type_met (seen values.now) kind) names.now }
+=======
+fn have_type(values: &[&[Mark]], kind: Kind, names: &[u32]) -> bool
+    ensures { result ≡ list_all (type_met (lent_lists values.now) kind) names.now }
+>>>>>>> adeb373dac87cfa2e4718da8d5231c9799d9160f
 {
     for name in names {
         if !begins(kind, value(values, *name)) {
@@ -71,8 +77,13 @@ fn have_type(values: &[&[Mark]], kind: Kind, names: &[u64]) -> bool
 }
 
 // Whether a tag stands in none of some names.
+<<<<<<< HEAD
 fn is_tag_absent(values: &[&[Mark]], tag: u32, names: &[u64]) -> bool
     ensures { result ≡ list_all (tag_met (seen values.now) tag) names.now }
+=======
+fn is_tag_absent(values: &[&[Mark]], tag: u32, names: &[u32]) -> bool
+    ensures { result ≡ list_all (tag_met (lent_lists values.now) tag) names.now }
+>>>>>>> adeb373dac87cfa2e4718da8d5231c9799d9160f
 {
     for name in names {
         if has_tag(tag, value(values, *name)) {
@@ -84,7 +95,7 @@ fn is_tag_absent(values: &[&[Mark]], tag: u32, names: &[u64]) -> bool
 
 // Whether absences are met.
 fn are_absences_met(values: &[&[Mark]], absences: &[Absence]) -> bool
-    ensures { result ≡ list_all (absence_met (seen values.now)) (map absence absences.now) }
+    ensures { result ≡ list_all (absence_met (lent_lists values.now)) (map absence absences.now) }
 {
     for kept in absences {
         if !is_tag_absent(values, kept.tag, &kept.names) {
@@ -96,7 +107,7 @@ fn are_absences_met(values: &[&[Mark]], absences: &[Absence]) -> bool
 
 // Whether all constraints are met.
 fn are_met(alloc: Global, values: &[&[Mark]], answer: &Answer) -> Result<bool, Memory>
-    ensures { IfOk result (λ met. met ≡ all_met (seen values.now) (meaning answer.now)) }
+    ensures { IfOk result (λ met. met ≡ all_met (lent_lists values.now) (meaning answer.now)) }
 {
     let differ = are_differences_met(alloc, values, answer.disequalities())?;
     Ok(
@@ -117,7 +128,7 @@ pub(crate) fn covers(
     marks: &[Mark],
 ) -> Result<bool, Memory>
     ensures { IfOk result (λ covered. covered
-        ≡ covers (seen values.now) (meaning answer.now) marks.now) }
+        ≡ covers (lent_lists values.now) (meaning answer.now) marks.now) }
 {
     let made = term_marks(alloc, values, answer.term())?;
     if !same_marks(&made, marks) {

@@ -2,7 +2,8 @@
 
 ghost use Rattle.std.specs.Prelude.{◌≡◌, ◌++◌, ◌<◌, ◌≤◌, true, length, IfOk, OnOk};
 ghost use Rattle.kan_terms.specs.Spelling.{SpellsTree};
-ghost use Rattle.answer_reading.specs.Marks.{marks_at, node_marks, seen, taken, term_marks};
+ghost use Rattle.answer_reading.specs.Marks.{marks_at, node_marks, lent_lists, node_length};
+ghost use Rattle.answer_reading.specs.Marks.{term_marks};
 ghost use Rattle.answer_reading.specs.Marks.{with_node};
 ghost use Rattle.answer_reading.specs.Finding.{Found, rises, seen_of};
 
@@ -18,10 +19,10 @@ fn take_node<'a>(
     values: &mut Vec<&'a [Mark]>,
 ) -> Result<usize, Memory>
     requires { 0 < length rest.now }
-    ensures count { IfOk result (λ count. count ≡ taken shape rest.now) }
+    ensures count { IfOk result (λ count. count ≡ node_length shape rest.now) }
     ensures within { IfOk result (λ count. count ≤ length rest.now) }
     ensures values { OnOk result
-        (seen values.new.items ≡ with_node (seen values.old.items) shape rest.now) }
+        (lent_lists values.new.items ≡ with_node (lent_lists values.old.items) shape rest.now) }
 {
     match shape {
         Shape::Name(name) => {
@@ -59,7 +60,7 @@ pub(crate) fn values_of<'a>(
 
 /// The marks of a name, and none where it has none.
 pub(crate) fn value<'a>(values: &[&'a [Mark]], name: u64) -> &'a [Mark]
-    ensures { result.now ≡ marks_at (seen values.now) name }
+    ensures { result.now ≡ marks_at (lent_lists values.now) name }
 {
     match values.get(name as usize) {
         Some(marks) => marks,
@@ -69,7 +70,8 @@ pub(crate) fn value<'a>(values: &[&'a [Mark]], name: u64) -> &'a [Mark]
 
 // Adds the marks of a node.
 fn put_node(values: &[&[Mark]], shape: Shape, marks: &mut Vec<Mark>) -> Result<(), Memory>
-    ensures { OnOk result (marks.new.items ≡ marks.old.items ++ node_marks (seen values.now) shape) }
+    ensures { OnOk result (marks.new.items ≡ marks.old.items
+        ++ node_marks (lent_lists values.now) shape) }
 {
     match shape {
         Shape::Pair => marks.push(Mark::Pair)?,
@@ -89,7 +91,7 @@ pub(crate) fn term_marks(
     values: &[&[Mark]],
     shapes: &[Shape],
 ) -> Result<Vec<Mark>, Memory>
-    ensures { IfOk result (λ made. made.items ≡ term_marks (seen values.now) shapes.now) }
+    ensures { IfOk result (λ made. made.items ≡ term_marks (lent_lists values.now) shapes.now) }
 {
     let mut made = Vec::new(alloc);
     for shape in shapes {

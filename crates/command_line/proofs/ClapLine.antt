@@ -13,7 +13,7 @@ use Rattle.clap.specs.Lexer.{long_of, short_of}
 use Rattle.clap.specs.Faults.{settle_fault}
 use Rattle.clap.specs.Walk.{settled_rows}
 use Rattle.command_line.specs.Parts.{Text, Spelling, Part, setting, library, file, setting_named, names_library, with_part, parts_from, part_at, named_part, value_at}
-use Rattle.command_line.specs.Lines.{Given, all_given, with_given, given}
+use Rattle.command_line.specs.Lines.{Given, all_given, with_given, values_given}
 use Rattle.command_line.specs.Parts.{Setting}
 use Rattle.command_line.specs.Parts.{Workers, Fuel, Ahead, Round, Dialect, Gen}
 use Rattle.command_line.specs.Clap.{given_in, AreUtf8}
@@ -215,5 +215,5 @@ all_words (x ∷ xs) utf8 =
     (resting_more x xs utf8.0 later.0 later.1, awaiting_seen x xs utf8.0 (seen x) later.0 later.2, failing_more x xs utf8.0 later.2)
 
 -- the walk from the start comes to what the words give
-pub walk_gives : (words : List Text) → AreUtf8 words → outcome (walk_at [] None idle 1 false) words ≡ given words
+pub walk_gives : (words : List Text) → AreUtf8 words → outcome (walk_at [] None idle 1 false) words ≡ values_given words
 walk_gives words utf8 = (all_words words utf8).0 [] None [] refl refl refl 1 refl false

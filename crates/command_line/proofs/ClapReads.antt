@@ -8,13 +8,13 @@ use Rattle.clap.specs.declared.error.kind.ErrorKind.{ErrorKind}
 use Rattle.clap.specs.declared.error.kind.ErrorKind.TheVariants.{OutOfMemory}
 use Rattle.command_line.specs.declared.fault.WordsFault.{WordsFault}
 use Rattle.command_line.specs.declared.fault.WordsFault.TheVariants.{Usage, Memory}
-use Rattle.command_line.specs.Seen.{Gives, words_fault}
+use Rattle.command_line.specs.CodeValues.{Gives, words_fault}
 use Rattle.clap.specs.Walk.{Row, Rule, Walk, idle, walked, has_row, settled, nothing_held, with_default}
 use Rattle.clap.specs.Simple.{App, matches_of, built, is_simple}
 use Rattle.clap.specs.Faults.{fault_of, is_simple_and_free, turn_fault, walk_fault, settle_fault, default_fault, defaults_fault}
 use Rattle.clap.proofs.FaultLemmas.{leaf_fault}
 use Rattle.command_line.specs.Parts.{Text}
-use Rattle.command_line.specs.Lines.{Given, given, texts}
+use Rattle.command_line.specs.Lines.{Given, values_given, texts}
 use Rattle.command_line.specs.Clap.{given_in, AreUtf8}
 use Rattle.command_line.proofs.ClapRules.{rules, shape, is_exact}
 use Rattle.command_line.specs.Clap.{app}
@@ -91,17 +91,17 @@ matches_are : (words : List Text) → matches_of app words ≡ (settled rules (e
 matches_are words = same_end rules none_have (settled rules (end_of (walk_at [] None idle 1 false) words).held).rows
 
 -- what the words give is what clap matches, and nothing where it finds a fault
-pub clap_reads : (words : List Text) → AreUtf8 words → given words ≡ unless (fault_of app words) (Some (given_in (matches_of app words)))
+pub clap_reads : (words : List Text) → AreUtf8 words → values_given words ≡ unless (fault_of app words) (Some (given_in (matches_of app words)))
 clap_reads words utf8 =
     sym (walk_gives words utf8) ∙ outcome_is (walk_at [] None idle 1 false) words
     ∙ ap₂ (λ ks rows. unless ks (Some (given_in rows))) (sym (fault_is words)) (sym (matches_are words))
 
 -- the same by the kinds of faults
-gives_kinds : (words : List Text) (ks : Kinds) (rows : List Row) → given words ≡ unless ks (Some (given_in rows)) → ks ≡ [] → given words ≡ Some (given_in rows)
+gives_kinds : (words : List Text) (ks : Kinds) (rows : List Row) → values_given words ≡ unless ks (Some (given_in rows)) → ks ≡ [] → values_given words ≡ Some (given_in rows)
 gives_kinds words ks rows is none = is ∙ ap (λ kinds. unless kinds (Some (given_in rows))) none
 
 -- words that clap matches
-pub matched_gives : (words : List Text) (a : App) (rows : List Row) → AreUtf8 words → a ≡ app → (is_simple_and_free a ≡ true → fault_of a words ≡ []) → (is_simple a ≡ true → rows ≡ matches_of a words) → given words ≡ Some (given_in rows)
+pub matched_gives : (words : List Text) (a : App) (rows : List Row) → AreUtf8 words → a ≡ app → (is_simple_and_free a ≡ true → fault_of a words ≡ []) → (is_simple a ≡ true → rows ≡ matches_of a words) → values_given words ≡ Some (given_in rows)
 matched_gives words a rows utf8 is faultless matches =
     let none : fault_of app words ≡ [] = subst (λ x. fault_of x words ≡ []) is (faultless (ap is_simple_and_free is ∙ is_exact)) in
     let found : rows ≡ matches_of app words = matches (ap is_simple is) ∙ ap (λ x. matches_of x words) is in
@@ -115,12 +115,12 @@ is_usage Memory = false
 memory_is_no_usage : Memory ≡ Usage → ⊥
 memory_is_no_usage e = true≢false (sym (ap is_usage e))
 
-refused_by : (words : List Text) (ks : Kinds) (o : Option Given) (kind : ErrorKind) → given words ≡ unless ks o → (kind ≡ OutOfMemory) ⊎ IsAmong kind ks → (words_fault kind ≡ Usage) → given words ≡ None
+refused_by : (words : List Text) (ks : Kinds) (o : Option Given) (kind : ErrorKind) → values_given words ≡ unless ks o → (kind ≡ OutOfMemory) ⊎ IsAmong kind ks → (words_fault kind ≡ Usage) → values_given words ≡ None
 refused_by words ks o kind is (inl memory) usage = absurd (memory_is_no_usage (ap words_fault (sym memory) ∙ usage))
 refused_by words [] o kind is (inr among) usage = absurd among
 refused_by words (k ∷ ks) o kind is (inr among) usage = is
 
-pub refused_gives : (words : List Text) (a : App) (kind : ErrorKind) (fault : WordsFault) → AreUtf8 words → a ≡ app → (is_simple_and_free a ≡ true → (kind ≡ OutOfMemory) ⊎ IsAmong kind (fault_of a words)) → fault ≡ words_fault kind → Gives (given words) (Err fault)
+pub refused_gives : (words : List Text) (a : App) (kind : ErrorKind) (fault : WordsFault) → AreUtf8 words → a ≡ app → (is_simple_and_free a ≡ true → (kind ≡ OutOfMemory) ⊎ IsAmong kind (fault_of a words)) → fault ≡ words_fault kind → Gives (values_given words) (Err fault)
 refused_gives words a kind Usage utf8 is kinds usage = refused_by words (fault_of app words) _ kind (clap_reads words utf8) (subst (λ x. (kind ≡ OutOfMemory) ⊎ IsAmong kind (fault_of x words)) is (kinds (ap is_simple_and_free is ∙ is_exact))) (sym usage)
 refused_gives words a kind Memory utf8 is kinds usage = tt
 

@@ -5,10 +5,10 @@ use Rattle.std.specs.Str.Parse.{digits_value}
 use Rattle.std.proofs.lemmas.Bool.Decides.{nat_tests}
 use Rattle.kan_grammar.specs.Data.Words.{all_digits}
 use Rattle.kan_grammar.specs.declared.dialect.Dialect.{Dialect}
-use Rattle.command_line.specs.Asked.{Reads, line_asked}
+use Rattle.command_line.specs.WordsRead.{Reads, line_asked}
 use Rattle.command_line.specs.declared.options.Options.{Options}
 use Rattle.command_line.specs.declared.fault.WordsFault.{WordsFault}
-use Rattle.command_line.specs.Lines.{Given, Line, given, in_range, number_in, number_asked, load_asked, dialect_asked, file_asked, line_of, asked, line, IsInRange}
+use Rattle.command_line.specs.Lines.{Given, Line, values_given, in_range, number_in, number_asked, load_asked, dialect_asked, file_asked, line_of, line_from_values, line, IsInRange}
 
 in_its_range : (low high n m : ℕ) → in_range low high n ≡ Some m → (low ≤ m) × (m ≤ high)
 in_its_range low high n m e = by (nat_le low n) (nat_le n high) refl refl e
@@ -71,7 +71,7 @@ parts_in_range (Some w) (Some f) (Some a) (Some r) lib (Some ld) (Some d) (Some 
     behind true y h = refl
     behind false y h = h
 
-given_in_range : (g : Given) (l : Line) → Some l ≡ asked g → IsInRange l
+given_in_range : (g : Given) (l : Line) → Some l ≡ line_from_values g → IsInRange l
 given_in_range g l e =
     parts_in_range (number_asked 0 0 64 g.workers) (number_asked 100000 1 1000000 g.fuel) (number_asked 256 1 65536 g.ahead) (number_asked 8192 1 65536 g.round) g.lib (load_asked g.gen) (dialect_asked g.dialect)
     (file_asked (is_some g.gen) g.file) l e
@@ -83,9 +83,9 @@ given_in_range g l e =
 
 pub line_in_range : (words : List (List ℕ)) (l : Line) → Some l ≡ line words → IsInRange l
 unfolding line
-line_in_range words l e = by (given words) e
+line_in_range words l e = by (values_given words) e
   where
-    by : (r : Option Given) → Some l ≡ option_and_then asked r → IsInRange l
+    by : (r : Option Given) → Some l ≡ option_and_then line_from_values r → IsInRange l
     by None is = absurd cc
     by (Some g) is = given_in_range g l is
 

@@ -1,5 +1,5 @@
 pub mod Parts
 pub mod Lines
-pub mod Seen
-pub mod Asked
+pub mod CodeValues
+pub mod WordsRead
 pub mod Clap

@@ -58,8 +58,8 @@ abbrev pub all_given : Given → List Part → Option Given
 all_given g [] = Some g
 all_given g (p ∷ ps) = option_and_then (λ more. all_given more ps) (with_given p g)
 
-abbrev pub given : List Text → Option Given
-given words = option_and_then (all_given nothing_given) (parts words)
+abbrev pub values_given : List Text → Option Given
+values_given words = option_and_then (all_given nothing_given) (parts words)
 
 -- a number in a range
 abbrev pub in_range : ℕ → ℕ → ℕ → Option ℕ
@@ -130,14 +130,14 @@ line_of (Some workers) (Some fuel) (Some ahead) (Some round) lib (Some load) (So
 line_of w f a r lib l d p = None
 
 -- the line that is asked for
-abbrev pub asked : Given → Option Line
-asked g = line_of (number_asked 0 0 64 g.workers) (number_asked 100000 1 1000000 g.fuel)
+abbrev pub line_from_values : Given → Option Line
+line_from_values g = line_of (number_asked 0 0 64 g.workers) (number_asked 100000 1 1000000 g.fuel)
     (number_asked 256 1 65536 g.ahead) (number_asked 8192 1 65536 g.round) g.lib
     (load_asked g.gen) (dialect_asked g.dialect) (file_asked (is_some g.gen) g.file)
 
 -- the line of the command that words are, where they are one
 unfoldable pub line : List Text → Option Line
-line words = option_and_then asked (given words)
+line words = option_and_then line_from_values (values_given words)
 
 -- what a line asks for lies in its range
 pub record IsInRange (l : Line) : Type 0 where

@@ -2,7 +2,7 @@
 
 ghost use Rattle.std.specs.Prelude.{◌≡◌};
 ghost use Rattle.clap.specs.Words.{kind_of};
-ghost use Rattle.command_line.specs.Seen.{words_fault};
+ghost use Rattle.command_line.specs.CodeValues.{words_fault};
 
 use clap::Error;
 use clap::error::ErrorKind;

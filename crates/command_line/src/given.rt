@@ -6,7 +6,7 @@ ghost use Rattle.command_line.specs.Clap.{AreUtf8, given_in};
 ghost use Rattle.std.specs.Str.{IsUtf8};
 ghost use Rattle.command_line.specs.Lines as lines;
 ghost use Rattle.command_line.specs.Lines.{texts};
-ghost use Rattle.command_line.specs.Seen.{Gives, given_of};
+ghost use Rattle.command_line.specs.CodeValues.{Gives, given_of};
 
 use crate::command::command;
 use crate::fault::{WordsFault, fault_of};
@@ -61,7 +61,7 @@ fn are_texts(words: &[&str])
 
 /// What the words give, where they are parts of a line and each is given once.
 pub(crate) fn given_by<'a>(alloc: Global, words: &'a [&'a str]) -> Result<Given<'a>, WordsFault>
-    ensures { Gives (lines.given (texts words.now)) result }
+    ensures { Gives (lines.values_given (texts words.now)) result }
 {
     are_texts(words);
     let Ok(command) = command(alloc) else {

@@ -1,7 +1,7 @@
 //! Names of files.
 
 ghost use Rattle.std.specs.Prelude.{◌≡◌, IfOk, IfSome, option_map};
-ghost use Rattle.command_line.specs.Seen.{text_of};
+ghost use Rattle.command_line.specs.CodeValues.{text_of};
 
 use kan_terms::Memory;
 use std::alloc::Global;

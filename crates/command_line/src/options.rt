@@ -1,10 +1,10 @@
 //! What a line of the command asks for.
 
 ghost use Rattle.std.specs.Prelude.{◌≡◌, IfOk, Some, option_map};
-ghost use Rattle.command_line.specs.Asked.{FindsLine, Reads, line_asked, line_seen};
+ghost use Rattle.command_line.specs.WordsRead.{FindsLine, Reads, line_asked, line_seen};
 ghost use Rattle.command_line.specs.Lines as lines;
 ghost use Rattle.command_line.specs.Lines.{texts};
-ghost use Rattle.command_line.specs.Seen.{given_of, text_of};
+ghost use Rattle.command_line.specs.CodeValues.{given_of, text_of};
 
 use crate::fault::WordsFault;
 use crate::given::{Given, given_by};
@@ -50,7 +50,7 @@ struct Line<'a> {
 
 // What given values ask for.
 fn asked<'a>(given: Given<'a>) -> Option<Line<'a>>
-    ensures { option_map line_seen result ≡ lines.asked (given_of given.entry) }
+    ensures { option_map line_seen result ≡ lines.line_from_values (given_of given.entry) }
 {
     let workers = number_asked(0, 0, 64, given.workers)?;
     let fuel = number_asked(100_000, 1, 1_000_000, given.fuel)?;

@@ -3,7 +3,7 @@
 ghost use Rattle.std.specs.Prelude.{◌≡◌, ◌≤◌, ◌<◌, ◌^◌, option_map, is_some};
 ghost use Rattle.kan_grammar.specs.Data.Words.{all_digits};
 ghost use Rattle.command_line.specs.Lines as lines;
-ghost use Rattle.command_line.specs.Seen.{text_of};
+ghost use Rattle.command_line.specs.CodeValues.{text_of};
 
 use kan_grammar::Dialect;
 

@@ -6,7 +6,7 @@ use Rattle.kan_terms.specs.Table.{Table}
 use Rattle.kan_grammar.specs.Texts.Sited.{Sited, elements}
 use Rattle.kan_grammar.specs.Texts.TopForms.{Defined, definitions, definitions_of, definitions_of_head}
 use Rattle.kan_grammar.specs.Texts.Language.{Word, word, head_word, is_other}
-use Rattle.goal_forms.specs.DefinedRelations.{related}
+use Rattle.goal_forms.specs.DefinedRelations.{defined_relations}
 use Rattle.goal_forms.specs.Parts.{site_at}
 use Rattle.goal_forms.specs.declared.relations.Defined.{Defined as Row}
 
@@ -52,11 +52,11 @@ few_defined t (d ∷ ds) =
     omega arith
 
 -- rows to which the relations of forms were added
-pub few_rows : (t : Table) (ds : List Sited) (forms : List ℕ) (old new : List Row) → related new ≡ related old ++ definitions t (map (site_at ds) forms) → length new ≤ length old + length forms
+pub few_rows : (t : Table) (ds : List Sited) (forms : List ℕ) (old new : List Row) → defined_relations new ≡ defined_relations old ++ definitions t (map (site_at ds) forms) → length new ≤ length old + length forms
 few_rows t ds forms old new added =
     let few = few_defined t (map (site_at ds) forms) in
     let forms_size : length (map (site_at ds) forms) ≡ length forms = simp length-map in
-    let new_size : length (related new) ≡ length new = simp length-map in
-    let old_size : length (related old) ≡ length old = simp length-map in
-    let all : length (related new) ≡ length (related old) + length (definitions t (map (site_at ds) forms)) = ap length added ∙ length-append (related old) (definitions t (map (site_at ds) forms)) in
+    let new_size : length (defined_relations new) ≡ length new = simp length-map in
+    let old_size : length (defined_relations old) ≡ length old = simp length-map in
+    let all : length (defined_relations new) ≡ length (defined_relations old) + length (definitions t (map (site_at ds) forms)) = ap length added ∙ length-append (defined_relations old) (definitions t (map (site_at ds) forms)) in
     omega arith

@@ -21,11 +21,11 @@ use Rattle.kan_grammar.specs.Texts.Binders.{names_of, bound_names, binder}
 use Rattle.kan_grammar.specs.Texts.TermForms.{Use, bad_term, quote_form, term_form, cons_form, list_form, quasiquote_form, template_form, unquote_form}
 use Rattle.kan_grammar.specs.Texts.ProgramText.{slot_list}
 use Rattle.kan_grammar.specs.Texts.Resolved.{Names, template_in}
-use Rattle.sexpr.specs.Seen.{as_kept}
+use Rattle.sexpr.specs.WrittenForms.{as_kept}
 use Rattle.sexpr.proofs.KeptLaws.{keeps_data, keeps_meaning}
 use Rattle.goal_forms.specs.Heights.{pairs_high, is_low_datum, AreLow}
 use Rattle.goal_forms.specs.Parts.{site_at}
-use Rattle.goal_forms.specs.Places.{kept}
+use Rattle.goal_forms.specs.Places.{stack_sites}
 use Rattle.std.proofs.lemmas.List.Folds.{list_all-append}
 
 -- a constant is as high as its datum
@@ -216,9 +216,9 @@ site_low (d ∷ ds) zero h = leb-true (pairs_high d) 2048 (and_parts (is_low_dat
 site_low (d ∷ ds) (suc p) h = site_low ds p (and_parts (is_low_datum d) (list_all is_low_datum ds) h).1
 
 -- the data at places of a table of low ones are low
-pub places_low : (ds : List Sited) (ps : List ℕ) → AreLow ds → list_all is_low_datum (kept ds ps) ≡ true
+pub places_low : (ds : List Sited) (ps : List ℕ) → AreLow ds → list_all is_low_datum (stack_sites ds ps) ≡ true
 places_low ds [] low = refl
 places_low ds (p ∷ ps) low =
-    list_all-append is_low_datum (kept ds ps) (site_at ds p ∷ [])
-    ∙ and_from (list_all is_low_datum (kept ds ps)) (is_low_datum (site_at ds p) && true) (places_low ds ps low)
+    list_all-append is_low_datum (stack_sites ds ps) (site_at ds p ∷ [])
+    ∙ and_from (list_all is_low_datum (stack_sites ds ps)) (is_low_datum (site_at ds p) && true) (places_low ds ps low)
     (and_from (is_low_datum (site_at ds p)) true (le-leb (pairs_high (site_at ds p)) 2048 (site_low ds p low)) refl)

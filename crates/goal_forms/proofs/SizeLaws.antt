@@ -13,7 +13,7 @@ use Rattle.kan_grammar.specs.Data.Written.{Written, Within, single, prefixed, cl
 use Rattle.kan_grammar.specs.Data.Enclosing.{row, Place, top, in_list, after_dot, after_prefix, Enclosing, awaiting, ended, put}
 use Rattle.kan_grammar.specs.Data.Faults.{Fault, refusal, after, Progress, going, stopped, settle, step, run, data_are, finish, beginning, read_tokens, read_if, read_text}
 use Rattle.kan_grammar.specs.Texts.Sited.{Sited, with_sites, within_sites}
-use Rattle.sexpr.specs.Seen.{as_kept, list_of, written}
+use Rattle.sexpr.specs.WrittenForms.{as_kept, list_of, written_form}
 use Rattle.sexpr.specs.Printing.{within}
 use Rattle.sexpr.specs.declared.data.Datum.{Datum}
 use Rattle.sexpr.specs.declared.data.DatumKind.TheVariants as kinds
@@ -44,12 +44,12 @@ pushed_parts names old new w e = ap (works_parts names) e ∙ parts-push names o
 
 -- a datum is turned as the list, or as the prefixed datum, that it is
 pub list_parts : (names : Table) (d : Datum) (ds : List Datum) (last : Option Datum) (items : Bor (List Datum)) (lent : Option (Bor Datum)) (ws w1 : List Work) → d.kind ≡ kinds.List ds last → items.now ≡ ds →
-    option_copied lent ≡ last → w1 ≡ ws ++ works.Rest items lent d.at ∷ [] → works_parts names w1 ≡ site_size (with_sites names (written names d)) + works_parts names ws
+    option_copied lent ≡ last → w1 ≡ ws ++ works.Rest items lent d.at ∷ [] → works_parts names w1 ≡ site_size (with_sites names (written_form names d)) + works_parts names ws
 list_parts names d ds last items lent ws w1 e i l f =
     pushed_parts names ws w1 (works.Rest items lent d.at) f ∙ ap (λ w. site_size (with_sites names w) + works_parts names ws) (sym (list_is names d ds last items lent e i l))
 
 pub prefixed_parts : (names : Table) (d : Datum) (q : prefixes.Prefix) (x : Datum) (inner : Bor Datum) (at s : ℕ) (ws w1 w2 : List Work) → d.kind ≡ kinds.Prefixed q x → inner.now ≡ x →
-    w1 ≡ ws ++ works.Prefixed at s ∷ [] → w2 ≡ w1 ++ works.Datum inner ∷ [] → works_parts names w2 ≤ site_size (with_sites names (written names d)) + works_parts names ws
+    w1 ≡ ws ++ works.Prefixed at s ∷ [] → w2 ≡ w1 ++ works.Datum inner ∷ [] → works_parts names w2 ≤ site_size (with_sites names (written_form names d)) + works_parts names ws
 prefixed_parts names d q x inner at s ws w1 w2 e g f1 f2 =
     omega (arith, pushed_parts names w1 w2 (works.Datum inner) f2, pushed_parts names ws w1 (works.Prefixed at s) f1, ap (λ w. site_size (with_sites names w)) (prefixed_is names d q x inner e g))
 

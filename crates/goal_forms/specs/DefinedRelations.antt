@@ -3,13 +3,13 @@ use Rattle.std.specs.Prelude.{List, [], ◌∷◌, map, Option, Some, None}
 use Rattle.kan_grammar.specs.Texts.TopForms as forms
 use Rattle.goal_forms.specs.declared.relations.Defined.{Defined}
 
-abbrev pub related_one : Defined → forms.Defined
-related_one d = record { name = d.name; params = d.params }
+abbrev pub defined_relation : Defined → forms.Defined
+defined_relation d = record { name = d.name; params = d.params }
 
-abbrev pub related : List Defined → List forms.Defined
-related ds = map related_one ds
+abbrev pub defined_relations : List Defined → List forms.Defined
+defined_relations ds = map defined_relation ds
 
 -- a relation, where there is one
-abbrev pub related_maybe : Option Defined → List forms.Defined
-related_maybe None = []
-related_maybe (Some d) = related_one d ∷ []
+abbrev pub optional_relation : Option Defined → List forms.Defined
+optional_relation None = []
+optional_relation (Some d) = defined_relation d ∷ []

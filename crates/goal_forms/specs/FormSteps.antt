@@ -38,8 +38,8 @@ step_top ds t (Misshapen at) = forms.misshapen at
 step_top ds t (Unknown at) = forms.unknown at
 
 -- an offset and a symbol
-abbrev pub named : ℕ × ℕ → NameAt
-named p = name_at p.0 p.1
+abbrev pub name_with_offset : ℕ × ℕ → NameAt
+name_with_offset p = name_at p.0 p.1
 
 -- a number that a limit may be
 abbrev pub small_number : ℤ → Option ℕ

@@ -9,15 +9,15 @@ are_below n [] = true
 are_below n (p ∷ ps) = nat_lt p n && are_below n ps
 
 -- the data at the places on a stack, the top first
-abbrev pub kept : List Sited → List ℕ → List Sited
-kept ds [] = []
-kept ds (p ∷ ps) = kept ds ps ++ site_at ds p ∷ []
+abbrev pub stack_sites : List Sited → List ℕ → List Sited
+stack_sites ds [] = []
+stack_sites ds (p ∷ ps) = stack_sites ds ps ++ site_at ds p ∷ []
 
 -- the pair of the two data made last
-abbrev pub joined : ℕ → List Sited → List Sited
-joined at [] = []
-joined at (d ∷ []) = []
-joined at (d ∷ a ∷ made) = Sited.pair at a d ∷ made
+abbrev pub pair_of_last_two : ℕ → List Sited → List Sited
+pair_of_last_two at [] = []
+pair_of_last_two at (d ∷ []) = []
+pair_of_last_two at (d ∷ a ∷ made) = Sited.pair at a d ∷ made
 
 -- the list of a symbol and the datum made last
 abbrev pub prefixed_last : ℕ → ℕ → List Sited → List Sited

@@ -2,7 +2,7 @@
 use Rattle.std.specs.Prelude.{ℕ, ◌+◌, List, [], ◌∷◌}
 use Rattle.kan_terms.specs.Table.{Table}
 use Rattle.kan_grammar.specs.Texts.Sited.{Sited, with_sites, within_sites}
-use Rattle.sexpr.specs.Seen.{written}
+use Rattle.sexpr.specs.WrittenForms.{written_form}
 use Rattle.sexpr.specs.Printing.{within}
 use Rattle.goal_forms.specs.TermSteps.{site_size}
 use Rattle.goal_forms.specs.declared.flatten.Work.{Work}
@@ -15,7 +15,7 @@ parts_in (d ∷ ds) = site_size d + parts_in ds
 
 -- how many parts are made of a piece of work
 abbrev pub work_parts : Table → Work → ℕ
-work_parts names (works.Datum d) = site_size (with_sites names (written names d.now))
+work_parts names (works.Datum d) = site_size (with_sites names (written_form names d.now))
 work_parts names (works.Rest items last at) =
     site_size (within_sites names at (within names items last))
 work_parts names (works.Pair at) = 1

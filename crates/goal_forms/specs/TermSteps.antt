@@ -13,8 +13,9 @@ use Rattle.goal_forms.specs.declared.term.Step.TheVariants.{Variable, Misshapen,
 use Rattle.goal_forms.specs.declared.term.Step.TheVariants.{Number, Truth, Nil, Pair, Same}
 
 -- a list of terms, where the parts behind its head are a proper list
-abbrev pub listed : Table → ℕ → Sited → TermForm
-listed t at parts = elim (is_proper parts) [ true ↦ list_form t parts | false ↦ bad_term at ]
+abbrev pub proper_list_form : Table → ℕ → Sited → TermForm
+proper_list_form t at parts =
+    elim (is_proper parts) [ true ↦ list_form t parts | false ↦ bad_term at ]
 
 -- the term of a task
 abbrev pub task_form : List Sited → Table → Task → TermForm

@@ -2,7 +2,7 @@
 
 ghost use Rattle.std.specs.Prelude.{◌≡◌, ◌<◌, ◌+◌, ◌^◌, ◌++◌, length, map, IfOk, OnOk};
 ghost use Rattle.kan_grammar.specs.Texts.TopForms.{definitions, definitions_of as defined_by_form};
-ghost use Rattle.goal_forms.specs.DefinedRelations.{related};
+ghost use Rattle.goal_forms.specs.DefinedRelations.{defined_relations};
 ghost use Rattle.goal_forms.specs.RelationTables.{relations};
 ghost use Rattle.goal_forms.specs.Parts.{sites, site_at};
 
@@ -20,8 +20,8 @@ fn define_all(
     rows: &mut Vec<Defined>,
 ) -> Result<(), Memory>
     ensures { OnOk result
-        (related rows.new.items
-        ≡ related rows.old.items
+        (defined_relations rows.new.items
+        ≡ defined_relations rows.old.items
         ++ definitions names.now (map (site_at (sites flat.now)) forms.now)) }
 {
     for place in forms {

@@ -8,7 +8,7 @@ ghost use Rattle.kan_grammar.specs.Texts.Sited.{Sited, with_sites, atom_with_sit
 ghost use Rattle.kan_terms.specs.Table.{name_of};
 ghost use Rattle.sexpr.specs.Meaning.{prefix_of};
 ghost use Rattle.kan_terms.specs.Table.{Table};
-ghost use Rattle.sexpr.specs.Seen.{string_atom, symbol_atom, written};
+ghost use Rattle.sexpr.specs.WrittenForms.{string_atom, symbol_atom, written_form};
 ghost use Rattle.goal_forms.specs.Parts.{sites, site_at, part_site};
 ghost use Rattle.std.specs.List.{list_all};
 ghost use Rattle.goal_forms.specs.Heights.{AreLow, is_low_datum};
@@ -19,7 +19,7 @@ ghost use Rattle.goal_forms.specs.Sizes.{parts_in, work_parts, works_parts};
 ghost use Rattle.goal_forms.specs.TermSteps.{site_size};
 ghost use Rattle.goal_forms.specs.declared.flatten.Work.TheVariants as works_of;
 ghost use Rattle.std.specs.Option.{option_copied};
-ghost use Rattle.goal_forms.specs.Places.{are_below, kept, joined, prefixed_last};
+ghost use Rattle.goal_forms.specs.Places.{are_below, stack_sites, pair_of_last_two, prefixed_last};
 ghost use Rattle.goal_forms.specs.Unnamed.{AreNamed, site_unnamed, sites_unnamed};
 ghost use Rattle.goal_forms.specs.Unnamed.{symbol_unnamed, work_unnamed, works_unnamed};
 
@@ -90,11 +90,12 @@ fn join(at: u32, table: &mut FlatData, places: &mut Vec<u32>) -> Result<(), Memo
     requires room { length (sites table.old) < 2 ^ 32 }
     requires below { are_below (length (sites table.old)) places.old.items ≡ true }
     ensures made { OnOk result
-        (kept (sites table.new) places.new.items
-        ≡ joined at (kept (sites table.old) places.old.items)) }
+        (stack_sites (sites table.new) places.new.items
+        ≡ pair_of_last_two at (stack_sites (sites table.old) places.old.items)) }
     ensures below { OnOk result (are_below (length (sites table.new)) places.new.items ≡ true) }
     ensures low { OnOk result
-        (list_all is_low_datum (joined at (kept (sites table.old) places.old.items))
+        (list_all is_low_datum
+            (pair_of_last_two at (stack_sites (sites table.old) places.old.items))
         ≡ true → AreLow (sites table.old) → AreLow (sites table.new)) }
     ensures parts { OnOk result (length (sites table.new) ≤ length (sites table.old) + 1) }
     ensures named { OnOk result ((names : Table) →
@@ -115,11 +116,12 @@ fn prefix(at: u32, symbol: u32, table: &mut FlatData, places: &mut Vec<u32>) -> 
     requires room { length (sites table.old) + 4 ≤ 2 ^ 32 }
     requires below { are_below (length (sites table.old)) places.old.items ≡ true }
     ensures made { OnOk result
-        (kept (sites table.new) places.new.items
-        ≡ prefixed_last at symbol (kept (sites table.old) places.old.items)) }
+        (stack_sites (sites table.new) places.new.items
+        ≡ prefixed_last at symbol (stack_sites (sites table.old) places.old.items)) }
     ensures below { OnOk result (are_below (length (sites table.new)) places.new.items ≡ true) }
     ensures low { OnOk result
-        (list_all is_low_datum (prefixed_last at symbol (kept (sites table.old) places.old.items))
+        (list_all is_low_datum
+            (prefixed_last at symbol (stack_sites (sites table.old) places.old.items))
         ≡ true → AreLow (sites table.old) → AreLow (sites table.new)) }
     ensures parts { OnOk result (length (sites table.new) ≤ length (sites table.old) + 4) }
     ensures named { OnOk result ((names : Table) →
@@ -143,8 +145,8 @@ fn make(at: u32, part: Part, table: &mut FlatData, places: &mut Vec<u32>) -> Res
     requires below { are_below (length (sites table.old)) places.old.items ≡ true }
     requires room { length (sites table.old) < 2 ^ 32 }
     ensures made { OnOk result
-        (kept (sites table.new) places.new.items
-        ≡ part_site (sites table.old) at part ∷ kept (sites table.old) places.old.items) }
+        (stack_sites (sites table.new) places.new.items
+        ≡ part_site (sites table.old) at part ∷ stack_sites (sites table.old) places.old.items) }
     ensures below { OnOk result (are_below (length (sites table.new)) places.new.items ≡ true) }
     ensures low { OnOk result
         (is_low_datum (part_site (sites table.old) at part)
@@ -198,9 +200,9 @@ fn turn_datum<'a>(
         + work_parts names.now (works_of.Datum datum) ≤ 2 ^ 32 }
     requires prefixed { AreNamed names.now prefixes.now }
     ensures made { OnOk result
-        (finish names.now (reverse works.new.items) (kept (sites table.new) places.new.items)
+        (finish names.now (reverse works.new.items) (stack_sites (sites table.new) places.new.items)
         ≡ finish names.now (works_of.Datum datum.entry ∷ reverse works.old.items)
-        (kept (sites table.old) places.old.items)) }
+        (stack_sites (sites table.old) places.old.items)) }
     ensures below { OnOk result (are_below (length (sites table.new)) places.new.items ≡ true) }
     ensures low { OnOk result
         (WorksLow names.now (works_of.Datum datum.entry ∷ reverse works.old.items)
@@ -251,9 +253,9 @@ fn turn_rest<'a>(
     requires room { length (sites table.old)
         + work_parts names.now (works_of.Rest items last at) ≤ 2 ^ 32 }
     ensures made { OnOk result
-        (finish names.now (reverse works.new.items) (kept (sites table.new) places.new.items)
+        (finish names.now (reverse works.new.items) (stack_sites (sites table.new) places.new.items)
         ≡ finish names.now (works_of.Rest items.entry last.entry at ∷ reverse works.old.items)
-        (kept (sites table.old) places.old.items)) }
+        (stack_sites (sites table.old) places.old.items)) }
     ensures below { OnOk result (are_below (length (sites table.new)) places.new.items ≡ true) }
     ensures low { OnOk result
         (WorksLow names.now (works_of.Rest items.entry last.entry at ∷ reverse works.old.items)
@@ -300,9 +302,9 @@ fn turn_work<'a>(
     requires room { length (sites table.old) + work_parts names.now work ≤ 2 ^ 32 }
     requires prefixed { AreNamed names.now prefixes.now }
     ensures made { OnOk result
-        (finish names.now (reverse works.new.items) (kept (sites table.new) places.new.items)
+        (finish names.now (reverse works.new.items) (stack_sites (sites table.new) places.new.items)
         ≡ finish names.now (work.entry ∷ reverse works.old.items)
-        (kept (sites table.old) places.old.items)) }
+        (stack_sites (sites table.old) places.old.items)) }
     ensures below { OnOk result (are_below (length (sites table.new)) places.new.items ≡ true) }
     ensures low { OnOk result
         (WorksLow names.now (work.entry ∷ reverse works.old.items)
@@ -343,13 +345,13 @@ fn turn_one(
     requires room { length (sites table.old) + site_size (meaning names.now datum.now)
         ≤ 2 ^ 32 }
     requires prefixed { AreNamed names.now prefixes.now }
-    ensures made { OnOk result (kept (sites table.new) places.new.items
-        ≡ with_sites names.now (written names.now datum.now)
-        ∷ kept (sites table.old) places.old.items) }
+    ensures made { OnOk result (stack_sites (sites table.new) places.new.items
+        ≡ with_sites names.now (written_form names.now datum.now)
+        ∷ stack_sites (sites table.old) places.old.items) }
     ensures below { OnOk result (are_below (length (sites table.new)) places.new.items ≡ true) }
     ensures low { OnOk result
-        (is_low_datum (with_sites names.now (written names.now datum.now))
-        ≡ true → list_all is_low_datum (kept (sites table.old) places.old.items)
+        (is_low_datum (with_sites names.now (written_form names.now datum.now))
+        ≡ true → list_all is_low_datum (stack_sites (sites table.old) places.old.items)
         ≡ true → AreLow (sites table.old) → AreLow (sites table.new)) }
     ensures parts { OnOk result (length (sites table.new)
         ≤ length (sites table.old) + site_size (meaning names.now datum.now)) }
@@ -378,12 +380,13 @@ fn turn(
     requires room { length (sites table.old) + parts_in (map (meaning names.now) forms.now)
         ≤ 2 ^ 32 }
     requires prefixed { AreNamed names.now prefixes.now }
-    ensures made { OnOk result (kept (sites table.new) places.new.items
-        ≡ reverse (map (meaning names.now) forms.now) ++ kept (sites table.old) places.old.items) }
+    ensures made { OnOk result (stack_sites (sites table.new) places.new.items
+        ≡ reverse (map (meaning names.now) forms.now)
+            ++ stack_sites (sites table.old) places.old.items) }
     ensures below { OnOk result (are_below (length (sites table.new)) places.new.items ≡ true) }
     ensures low { OnOk result
         (AreLow (map (meaning names.now) forms.now) →
-        list_all is_low_datum (kept (sites table.old) places.old.items)
+        list_all is_low_datum (stack_sites (sites table.old) places.old.items)
         ≡ true → AreLow (sites table.old) → AreLow (sites table.new)) }
     ensures parts { OnOk result (length (sites table.new)
         ≤ length (sites table.old) + parts_in (map (meaning names.now) forms.now)) }

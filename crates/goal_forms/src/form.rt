@@ -6,7 +6,7 @@ ghost use Rattle.kan_grammar.specs.Texts.TopForms.{definitions_of, definitions_o
 ghost use Rattle.kan_grammar.specs.Texts.Sited.{elements};
 ghost use Rattle.goal_forms.specs.FormSteps.{step_top, limit_at, run_with};
 ghost use Rattle.goal_forms.specs.Parts.{sites, site_at};
-ghost use Rattle.goal_forms.specs.DefinedRelations.{related_maybe};
+ghost use Rattle.goal_forms.specs.DefinedRelations.{optional_relation};
 
 use crate::flat_data::{FlatData, Part};
 use crate::relations::Defined;
@@ -96,7 +96,7 @@ fn parse_binder(flat: &FlatData, names: &Names, limit: Option<u32>, binder: u32,
 
 /// The relation that a top form defines, where it defines one.
 pub fn defined_by(flat: &FlatData, names: &Names, place: u32) -> Option<Defined>
-    ensures { related_maybe result ≡ definitions_of names.now (site_at (sites flat.now) place) }
+    ensures { optional_relation result ≡ definitions_of names.now (site_at (sites flat.now) place) }
 {
     let (head, parts) = pair_parts(flat, place)?;
     let (relation, _) = pair_parts(flat, parts)?;
@@ -108,7 +108,7 @@ pub fn defined_by(flat: &FlatData, names: &Names, place: u32) -> Option<Defined>
 
 // The relation that a head defines, where it defines one.
 fn definitions_of_head(flat: &FlatData, names: &Names, head: u32) -> Option<Defined>
-    ensures { related_maybe result
+    ensures { optional_relation result
         ≡ definitions_of_head names.now (elements (site_at (sites flat.now) head)) }
 {
     let (first, rest) = pair_parts(flat, head)?;

@@ -3,7 +3,7 @@
 ghost use Rattle.std.specs.Prelude.{◌≡◌, ◌<◌, ◌^◌, length, IfOk, option_map};
 ghost use Rattle.kan_terms.specs.Table.{Table};
 ghost use Rattle.kan_grammar.specs.Texts.TopForms.{head as head_of, head_name as name_of_head};
-ghost use Rattle.goal_forms.specs.FormSteps.{named};
+ghost use Rattle.goal_forms.specs.FormSteps.{name_with_offset};
 ghost use Rattle.goal_forms.specs.Parts.{sites, site_at};
 
 use crate::binder::bound_names;
@@ -14,7 +14,7 @@ use std::alloc::Global;
 
 /// The symbol of a relation's name, and its offset.
 pub fn head_name(flat: &FlatData, head: u32) -> Option<(u32, u32)>
-    ensures { option_map named result ≡ name_of_head (site_at (sites flat.now) head) }
+    ensures { option_map name_with_offset result ≡ name_of_head (site_at (sites flat.now) head) }
 {
     let (first, params) = pair_parts(flat, head)?;
     let node = flat.read(first);

@@ -3,7 +3,7 @@
 ghost use Rattle.std.specs.Prelude.{◌≡◌, ◌<◌, ◌^◌, ◌==◌, ℕ, length, nat_eq, OnOk, if◌then◌else◌};
 ghost use Rattle.std.specs.HashMap.{get};
 ghost use Rattle.kan_grammar.specs.Texts.Resolved.{relation_number, or_else};
-ghost use Rattle.goal_forms.specs.DefinedRelations.{related};
+ghost use Rattle.goal_forms.specs.DefinedRelations.{defined_relations};
 
 use kan_terms::Memory;
 use std::alloc::Global;
@@ -22,7 +22,7 @@ pub struct Relations {
     rows: Vec<Defined>,
     numbers: HashMap<u32, u32>,
     ghost exact: { (symbol : ℕ) → get nat_eq numbers symbol
-        ≡ relation_number (related rows.items) symbol },
+        ≡ relation_number (defined_relations rows.items) symbol },
     ghost few: { length rows.items < 2 ^ 32 },
 }
 
@@ -45,7 +45,7 @@ impl Relations {
     /// These relations.
     pub fn of(alloc: Global, rows: Vec<Defined>) -> Result<Relations, Memory>
         requires { length rows.items < 2 ^ 32 }
-        ensures { IfOk result (λ r. relations r ≡ related rows.items) }
+        ensures { IfOk result (λ r. relations r ≡ defined_relations rows.items) }
     {
         let mut numbers = HashMap::new(alloc);
         for (place, row) in rows.iter().enumerate() {

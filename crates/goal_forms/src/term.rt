@@ -6,7 +6,8 @@ ghost use Rattle.kan_grammar.specs.Texts.TermForms.{quote_form, cons_form, quasi
 ghost use Rattle.kan_grammar.specs.Texts.TermForms.{unquote_form};
 ghost use Rattle.kan_grammar.specs.Texts.Sited.{constant};
 ghost use Rattle.goal_forms.specs.Parts.{sites, site_at};
-ghost use Rattle.goal_forms.specs.TermSteps.{listed, site_size, step_size, step_form, task_form};
+ghost use Rattle.goal_forms.specs.TermSteps.{proper_list_form, site_size, step_size, step_form};
+ghost use Rattle.goal_forms.specs.TermSteps.{task_form};
 ghost use Rattle.goal_forms.specs.TermSteps.{task_size};
 
 use crate::flat_data::{FlatData, Part};
@@ -136,7 +137,7 @@ fn parse_cons(flat: &FlatData, names: &Names, at: u32, parts: u32) -> Step
 // The same of a list of terms.
 fn parse_list(flat: &FlatData, names: &Names, at: u32, parts: u32) -> Step
     ensures form { step_form (sites flat.now) names.now result
-        ≡ listed names.now at (site_at (sites flat.now) parts) }
+        ≡ proper_list_form names.now at (site_at (sites flat.now) parts) }
     ensures fits { step_size (sites flat.now) result ≤ site_size (site_at (sites flat.now) parts) }
 {
     if is_proper(flat, parts) {

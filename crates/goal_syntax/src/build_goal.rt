@@ -11,7 +11,7 @@ ghost use Rattle.kan_model.specs.Programs.Drafts.{tables};
 ghost use Rattle.goal_forms.specs.Contexts.{data_of, datum_at, binder_at};
 ghost use Rattle.kan_model.specs.Programs.Tables.{RelationEntry};
 ghost use Rattle.goal_syntax.specs.Building.CallsThere.{are_there, calls_named};
-ghost use Rattle.goal_syntax.specs.Building.GoalsBuilt.{built, with_maybe};
+ghost use Rattle.goal_syntax.specs.Building.GoalsBuilt.{stack_goals, with_maybe};
 ghost use Rattle.goal_syntax.specs.Building.GrownTables.{HasGoal, Grows};
 ghost use Rattle.goal_syntax.specs.Building.Entries.{Adds, HasRoomFor, entries};
 ghost use Rattle.goal_syntax.specs.Building.InContext.{goals_entries, list_entries, next_entries};
@@ -61,9 +61,9 @@ fn build_own(
         (own_size context.now.names.now (data_of context.now) goal) (tables draft.old) }
     requires few { length scope.now < 2 ^ 24 }
     requires below { are_below (length (tables draft.old).goals) places.old.items ≡ true }
-    ensures made { OnOk result (built (tables draft.new) places.new.items
+    ensures made { OnOk result (stack_goals (tables draft.new) places.new.items
         ≡ with_maybe (goal_alone context.now scope.now goal)
-        (built (tables draft.old) places.old.items)) }
+        (stack_goals (tables draft.old) places.old.items)) }
     ensures below { OnOk result
         (are_below (length (tables draft.new).goals) places.new.items ≡ true) }
     ensures grows { OnOk result (Grows (tables draft.old) (tables draft.new)) }
@@ -72,7 +72,7 @@ fn build_own(
         (tables draft.old) (tables draft.new)) }
     ensures low { OnOk result (KeepsLowIn context.now draft.old draft.new) }
     ensures narrow { OnOk result (Widens
-        (made_width (built (tables draft.new) places.new.items))
+        (made_width (stack_goals (tables draft.new) places.new.items))
         (tables draft.old) (tables draft.new)) }
     ensures named { OnOk result (NamesIn context.now draft.old draft.new) }
 {
@@ -147,9 +147,9 @@ fn build_goal(
     requires below { are_below (length (tables draft.old).goals) places.old.items ≡ true }
     ensures made { OnOk result (
         made_after context.now scope.new.items (reverse works.new.items)
-        (built (tables draft.new) places.new.items)
+        (stack_goals (tables draft.new) places.new.items)
         ≡ made_after context.now scope.old.items (Work.Goal place ∷ reverse works.old.items)
-        (built (tables draft.old) places.old.items)) }
+        (stack_goals (tables draft.old) places.old.items)) }
     ensures falls { OnOk result
         (works_size (data_of context.now) works.new.items
         < work_size (data_of context.now) (Work.Goal place) + works_size
@@ -169,12 +169,12 @@ fn build_goal(
         + goals_entries context.now works.old.items)) }
     ensures low { OnOk result (KeepsLowIn context.now draft.old draft.new) }
     ensures wide { OnOk result
-        (made_width (built (tables draft.new) places.new.items)
+        (made_width (stack_goals (tables draft.new) places.new.items)
         + left_width context.now works.new.items
-        ≤ made_width (built (tables draft.old) places.old.items)
+        ≤ made_width (stack_goals (tables draft.old) places.old.items)
         + (next_width context.now (Work.Goal place) + left_width context.now works.old.items)) }
     ensures narrow { OnOk result (Widens
-        (made_width (built (tables draft.new) places.new.items))
+        (made_width (stack_goals (tables draft.new) places.new.items))
         (tables draft.old) (tables draft.new)) }
     ensures named { OnOk result (NamesIn context.now draft.old draft.new) }
 {
@@ -227,9 +227,9 @@ fn build_row(
     requires below { are_below (length (tables draft.old).goals) places.old.items ≡ true }
     ensures made { OnOk result ((ns : Names) →
         made_after context.now ns (reverse works.new.items)
-        (built (tables draft.new) places.new.items)
+        (stack_goals (tables draft.new) places.new.items)
         ≡ made_after context.now ns (Work.Row row place ∷ reverse works.old.items)
-        (built (tables draft.old) places.old.items)) }
+        (stack_goals (tables draft.old) places.old.items)) }
     ensures falls { OnOk result
         (works_size (data_of context.now) works.new.items
         < work_size (data_of context.now) (Work.Row row place) + works_size
@@ -248,12 +248,12 @@ fn build_row(
         + goals_entries context.now works.old.items) }
     ensures terms { OnOk result ((tables draft.new).terms ≡ (tables draft.old).terms) }
     ensures wide { OnOk result
-        (made_width (built (tables draft.new) places.new.items)
+        (made_width (stack_goals (tables draft.new) places.new.items)
         + left_width context.now works.new.items
-        ≤ made_width (built (tables draft.old) places.old.items)
+        ≤ made_width (stack_goals (tables draft.old) places.old.items)
         + (next_width context.now (Work.Row row place) + left_width context.now works.old.items)) }
     ensures narrow { OnOk result (Widens
-        (made_width (built (tables draft.new) places.new.items))
+        (made_width (stack_goals (tables draft.new) places.new.items))
         (tables draft.old) (tables draft.new)) }
     ensures named { OnOk result (NamesIn context.now draft.old draft.new) }
 {
@@ -278,9 +278,9 @@ fn build_clause(
     requires below { are_below (length (tables draft.old).goals) places.old.items ≡ true }
     ensures made { OnOk result ((ns : Names) →
         made_after context.now ns (reverse works.new.items)
-        (built (tables draft.new) places.new.items)
+        (stack_goals (tables draft.new) places.new.items)
         ≡ made_after context.now ns (Work.Clause clause ∷ reverse works.old.items)
-        (built (tables draft.old) places.old.items)) }
+        (stack_goals (tables draft.old) places.old.items)) }
     ensures falls { OnOk result
         (works_size (data_of context.now) works.new.items
         < work_size (data_of context.now) (Work.Clause clause) + works_size
@@ -299,12 +299,12 @@ fn build_clause(
         + goals_entries context.now works.old.items) }
     ensures terms { OnOk result ((tables draft.new).terms ≡ (tables draft.old).terms) }
     ensures wide { OnOk result
-        (made_width (built (tables draft.new) places.new.items)
+        (made_width (stack_goals (tables draft.new) places.new.items)
         + left_width context.now works.new.items
-        ≤ made_width (built (tables draft.old) places.old.items)
+        ≤ made_width (stack_goals (tables draft.old) places.old.items)
         + (next_width context.now (Work.Clause clause) + left_width context.now works.old.items)) }
     ensures narrow { OnOk result (Widens
-        (made_width (built (tables draft.new) places.new.items))
+        (made_width (stack_goals (tables draft.new) places.new.items))
         (tables draft.old) (tables draft.new)) }
     ensures named { OnOk result (NamesIn context.now draft.old draft.new) }
 {
@@ -330,9 +330,9 @@ fn build_next(
     requires below { are_below (length (tables draft.old).goals) places.old.items ≡ true }
     ensures made { OnOk result (
         made_after context.now scope.new.items (reverse works.new.items)
-        (built (tables draft.new) places.new.items)
+        (stack_goals (tables draft.new) places.new.items)
         ≡ made_after context.now scope.old.items (work ∷ reverse works.old.items)
-        (built (tables draft.old) places.old.items)) }
+        (stack_goals (tables draft.old) places.old.items)) }
     ensures falls { OnOk result
         (works_size (data_of context.now) works.new.items
         < work_size (data_of context.now) work + works_size (data_of context.now) works.old.items) }
@@ -349,12 +349,12 @@ fn build_next(
         + (next_entries context.now work + goals_entries context.now works.old.items)) }
     ensures low { OnOk result (KeepsLowIn context.now draft.old draft.new) }
     ensures wide { OnOk result
-        (made_width (built (tables draft.new) places.new.items)
+        (made_width (stack_goals (tables draft.new) places.new.items)
         + left_width context.now works.new.items
-        ≤ made_width (built (tables draft.old) places.old.items)
+        ≤ made_width (stack_goals (tables draft.old) places.old.items)
         + (next_width context.now work + left_width context.now works.old.items)) }
     ensures narrow { OnOk result (Widens
-        (made_width (built (tables draft.new) places.new.items))
+        (made_width (stack_goals (tables draft.new) places.new.items))
         (tables draft.old) (tables draft.new)) }
     ensures named { OnOk result (NamesIn context.now draft.old draft.new) }
 {

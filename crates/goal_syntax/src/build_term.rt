@@ -14,7 +14,8 @@ ghost use Rattle.goal_forms.specs.Contexts.{data_of, terms_at};
 ghost use Rattle.kan_terms.specs.Tree.{size};
 ghost use Rattle.goal_syntax.specs.Building.TermHeights.{WorksLow, all_low};
 ghost use Rattle.goal_syntax.specs.Building.TermsLeft.{AddsTerms, HasTemplates, with_arguments};
-ghost use Rattle.goal_syntax.specs.Building.TermsLeft.{built, paired, finish, work_size};
+ghost use Rattle.goal_syntax.specs.Building.TermsLeft.{stack_templates, pair_of_last_two, finish};
+ghost use Rattle.goal_syntax.specs.Building.TermsLeft.{work_size};
 ghost use Rattle.goal_syntax.specs.Building.TermsLeft.{works_size, work_entries};
 ghost use Rattle.goal_syntax.specs.Building.GrownTables.{HasTemplate, HasArguments, Grows};
 ghost use Rattle.goal_syntax.specs.Building.Entries.{Adds, HasRoomFor, arguments_size, entries};
@@ -46,9 +47,9 @@ fn put(node: TermNode, draft: &mut Draft, places: &mut Vec<u32>) -> Result<(), M
     requires room { HasRoomFor 1 (tables draft.old) }
     requires below { are_below (length (tables draft.old).terms) places.old.items ≡ true }
     ensures made { OnOk result
-        (built (templates draft.new) places.new.items
+        (stack_templates (templates draft.new) places.new.items
         ≡ template_of (templates draft.old) (term_entry node)
-        ∷ built (templates draft.old) places.old.items) }
+        ∷ stack_templates (templates draft.old) places.old.items) }
     ensures below { OnOk result
         (are_below (length (tables draft.new).terms) places.new.items ≡ true) }
     ensures adds { OnOk result (AddsTerms (tables draft.old) (tables draft.new)) }
@@ -70,13 +71,13 @@ fn join(draft: &mut Draft, places: &mut Vec<u32>) -> Result<(), Memory>
     requires room { HasRoomFor 1 (tables draft.old) }
     requires below { are_below (length (tables draft.old).terms) places.old.items ≡ true }
     ensures made { OnOk result
-        (built (templates draft.new) places.new.items
-        ≡ paired (built (templates draft.old) places.old.items)) }
+        (stack_templates (templates draft.new) places.new.items
+        ≡ pair_of_last_two (stack_templates (templates draft.old) places.old.items)) }
     ensures below { OnOk result
         (are_below (length (tables draft.new).terms) places.new.items ≡ true) }
     ensures adds { OnOk result (AddsTerms (tables draft.old) (tables draft.new)) }
     ensures low { OnOk result
-        (list_all is_low (paired (built (templates draft.old) places.old.items))
+        (list_all is_low (pair_of_last_two (stack_templates (templates draft.old) places.old.items))
         ≡ true → list_all is_low (templates draft.old)
         ≡ true → list_all is_low (templates draft.new) ≡ true) }
     ensures room { OnOk result (Adds 1 (tables draft.old) (tables draft.new)) }
@@ -119,17 +120,17 @@ fn build_step(
     requires below { are_below (length (tables draft.old).terms) places.old.items ≡ true }
     ensures made { OnOk result
         (finish (data_of context.now) context.now.names.now scope.now (reverse works.new.items)
-        (built (templates draft.new) places.new.items)
+        (stack_templates (templates draft.new) places.new.items)
         ≡ finish (data_of context.now) context.now.names.now scope.now (reverse works.old.items)
         (template_in scope.now (step_form (data_of context.now) context.now.names.now step)
-        ∷ built (templates draft.old) places.old.items)) }
+        ∷ stack_templates (templates draft.old) places.old.items)) }
     ensures below { OnOk result
         (are_below (length (tables draft.new).terms) places.new.items ≡ true) }
     ensures adds { OnOk result (AddsTerms (tables draft.old) (tables draft.new)) }
     ensures low { OnOk result (
         all_low (data_of context.now) context.now.names.now scope.now (reverse works.old.items)
         (template_in scope.now (step_form (data_of context.now) context.now.names.now step)
-        ∷ built (templates draft.old) places.old.items) ≡ true →
+        ∷ stack_templates (templates draft.old) places.old.items) ≡ true →
         list_all is_low (templates draft.old) ≡ true →
         WorksLow (data_of context.now) context.now.names.now scope.now (reverse works.new.items)
         (templates draft.new) places.new.items) }
@@ -180,9 +181,9 @@ fn build_work(
     requires below { are_below (length (tables draft.old).terms) places.old.items ≡ true }
     ensures made { OnOk result
         (finish (data_of context.now) context.now.names.now scope.now (reverse works.new.items)
-        (built (templates draft.new) places.new.items)
+        (stack_templates (templates draft.new) places.new.items)
         ≡ finish (data_of context.now) context.now.names.now scope.now
-        (work ∷ reverse works.old.items) (built (templates draft.old) places.old.items)) }
+        (work ∷ reverse works.old.items) (stack_templates (templates draft.old) places.old.items)) }
     ensures below { OnOk result
         (are_below (length (tables draft.new).terms) places.new.items ≡ true) }
     ensures adds { OnOk result (AddsTerms (tables draft.old) (tables draft.new)) }

@@ -16,7 +16,7 @@ ghost use Rattle.kan_grammar.specs.Texts.ProgramText.{text_meaning};
 ghost use Rattle.kan_model.specs.Programs.Closed as programs;
 ghost use Rattle.kan_model.specs.Programs.Scope.{is_small};
 ghost use Rattle.kan_grammar.specs.Texts.Sited.{with_sites};
-ghost use Rattle.sexpr.specs.Seen.{written};
+ghost use Rattle.sexpr.specs.WrittenForms.{written_form};
 ghost use Rattle.kan_model.specs.Programs.Tables.{are_closed};
 ghost use Rattle.kan_grammar.specs.Texts.TopForms.{definitions};
 ghost use Rattle.goal_forms.specs.Contexts.{data_of, data_at, datum_at, defined_in};
@@ -246,11 +246,11 @@ fn compile_data(
         ≤ 2 ^ 22 }
     requires low_library { AreLow (map (meaning names.now) library.now) }
     requires low_text { AreLow (map (meaning names.now) text.now) }
-    requires alone { IsAccepted names.now [] (map (written names.now) library.now) }
+    requires alone { IsAccepted names.now [] (map (written_form names.now) library.now) }
     requires prefixed { AreNamed names.now prefixes.now }
     ensures { CompilesForms dialect names.now
-        (map (with_sites names.now) (map (written names.now) library.now))
-        (map (with_sites names.now) (map (written names.now) text.now)) result }
+        (map (with_sites names.now) (map (written_form names.now) library.now))
+        (map (with_sites names.now) (map (written_form names.now) text.now)) result }
 {
     let mut table = FlatData::new(alloc);
     let places = turn_both(alloc, library, text, names, prefixes, &mut table)?;

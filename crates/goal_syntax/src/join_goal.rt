@@ -4,11 +4,12 @@ ghost use Rattle.std.specs.Prelude.{◌≡◌, length, true, OnOk};
 ghost use Rattle.kan_model.specs.Programs.Drafts.{tables};
 ghost use Rattle.kan_model.specs.Programs.Nodes.{goal_entry};
 ghost use Rattle.kan_model.specs.Programs.Tables.{is_goal_grown};
-ghost use Rattle.goal_syntax.specs.Building.GoalsBuilt.{built, with_entry};
+ghost use Rattle.goal_syntax.specs.Building.GoalsBuilt.{stack_goals, with_entry};
 ghost use Rattle.goal_syntax.specs.Building.GrownTables.{Grows};
 ghost use Rattle.goal_syntax.specs.Building.Entries.{Adds, HasRoomFor};
-ghost use Rattle.goal_syntax.specs.Building.GoalsLeft.{empty_entry, freshened, join_entry, joined};
-ghost use Rattle.goal_syntax.specs.Building.GoalsLeft.{suspended};
+ghost use Rattle.goal_syntax.specs.Building.GoalsLeft.{empty_entry, with_last_fresh, join_entry};
+ghost use Rattle.goal_syntax.specs.Building.GoalsLeft.{with_last_joined};
+ghost use Rattle.goal_syntax.specs.Building.GoalsLeft.{with_last_suspended};
 ghost use Rattle.goal_forms.specs.Places.{are_below};
 ghost use Rattle.goal_syntax.specs.Building.Widths.{Widens, made_width};
 ghost use Rattle.goal_syntax.specs.Building.Named.{Lacks, goal_unnamed};
@@ -61,16 +62,16 @@ pub(crate) fn make(node: GoalNode, draft: &mut Draft, places: &mut Vec<u32>) -> 
     requires room { HasRoomFor 1 (tables draft.old) }
     requires below { are_below (length (tables draft.old).goals) places.old.items ≡ true }
     ensures made { OnOk result
-        (built (tables draft.new) places.new.items
+        (stack_goals (tables draft.new) places.new.items
         ≡ with_entry (tables draft.old) (goal_entry node)
-        (built (tables draft.old) places.old.items)) }
+        (stack_goals (tables draft.old) places.old.items)) }
     ensures below { OnOk result
         (are_below (length (tables draft.new).goals) places.new.items ≡ true) }
     ensures grows { OnOk result (Grows (tables draft.old) (tables draft.new)) }
     ensures room { OnOk result (Adds 1 (tables draft.old) (tables draft.new)) }
     ensures terms { OnOk result ((tables draft.new).terms ≡ (tables draft.old).terms) }
     ensures narrow { OnOk result (Widens
-        (made_width (built (tables draft.new) places.new.items))
+        (made_width (stack_goals (tables draft.new) places.new.items))
         (tables draft.old) (tables draft.new)) }
     ensures named { OnOk result ((names : Table) →
         Lacks names (goal_unnamed names (goal_entry node)) (tables draft.old) (tables draft.new)) }
@@ -85,15 +86,15 @@ pub(crate) fn join_two(row: Row, draft: &mut Draft, places: &mut Vec<u32>) -> Re
     requires room { HasRoomFor 1 (tables draft.old) }
     requires below { are_below (length (tables draft.old).goals) places.old.items ≡ true }
     ensures made { OnOk result
-        (built (tables draft.new) places.new.items
-        ≡ joined row (built (tables draft.old) places.old.items)) }
+        (stack_goals (tables draft.new) places.new.items
+        ≡ with_last_joined row (stack_goals (tables draft.old) places.old.items)) }
     ensures below { OnOk result
         (are_below (length (tables draft.new).goals) places.new.items ≡ true) }
     ensures grows { OnOk result (Grows (tables draft.old) (tables draft.new)) }
     ensures room { OnOk result (Adds 1 (tables draft.old) (tables draft.new)) }
     ensures terms { OnOk result ((tables draft.new).terms ≡ (tables draft.old).terms) }
     ensures narrow { OnOk result (Widens
-        (made_width (built (tables draft.new) places.new.items))
+        (made_width (stack_goals (tables draft.new) places.new.items))
         (tables draft.old) (tables draft.new)) }
     ensures named { OnOk result ((names : Table) →
         Lacks names 0 (tables draft.old) (tables draft.new)) }
@@ -113,15 +114,15 @@ pub(crate) fn add_slots(count: u32, draft: &mut Draft, places: &mut Vec<u32>) ->
     requires room { HasRoomFor 1 (tables draft.old) }
     requires below { are_below (length (tables draft.old).goals) places.old.items ≡ true }
     ensures made { OnOk result
-        (built (tables draft.new) places.new.items
-        ≡ freshened count (built (tables draft.old) places.old.items)) }
+        (stack_goals (tables draft.new) places.new.items
+        ≡ with_last_fresh count (stack_goals (tables draft.old) places.old.items)) }
     ensures below { OnOk result
         (are_below (length (tables draft.new).goals) places.new.items ≡ true) }
     ensures grows { OnOk result (Grows (tables draft.old) (tables draft.new)) }
     ensures room { OnOk result (Adds 1 (tables draft.old) (tables draft.new)) }
     ensures terms { OnOk result ((tables draft.new).terms ≡ (tables draft.old).terms) }
     ensures narrow { OnOk result (Widens
-        (made_width (built (tables draft.new) places.new.items))
+        (made_width (stack_goals (tables draft.new) places.new.items))
         (tables draft.old) (tables draft.new)) }
     ensures named { OnOk result ((names : Table) →
         Lacks names 0 (tables draft.old) (tables draft.new)) }
@@ -138,15 +139,15 @@ fn add_later(draft: &mut Draft, places: &mut Vec<u32>) -> Result<(), Memory>
     requires room { HasRoomFor 1 (tables draft.old) }
     requires below { are_below (length (tables draft.old).goals) places.old.items ≡ true }
     ensures made { OnOk result
-        (built (tables draft.new) places.new.items
-        ≡ suspended Dialect.All (built (tables draft.old) places.old.items)) }
+        (stack_goals (tables draft.new) places.new.items
+        ≡ with_last_suspended Dialect.All (stack_goals (tables draft.old) places.old.items)) }
     ensures below { OnOk result
         (are_below (length (tables draft.new).goals) places.new.items ≡ true) }
     ensures grows { OnOk result (Grows (tables draft.old) (tables draft.new)) }
     ensures room { OnOk result (Adds 1 (tables draft.old) (tables draft.new)) }
     ensures terms { OnOk result ((tables draft.new).terms ≡ (tables draft.old).terms) }
     ensures narrow { OnOk result (Widens
-        (made_width (built (tables draft.new) places.new.items))
+        (made_width (stack_goals (tables draft.new) places.new.items))
         (tables draft.old) (tables draft.new)) }
     ensures named { OnOk result ((names : Table) →
         Lacks names 0 (tables draft.old) (tables draft.new)) }
@@ -167,15 +168,15 @@ pub(crate) fn suspend(
     requires room { HasRoomFor 1 (tables draft.old) }
     requires below { are_below (length (tables draft.old).goals) places.old.items ≡ true }
     ensures made { OnOk result
-        (built (tables draft.new) places.new.items
-        ≡ suspended dialect (built (tables draft.old) places.old.items)) }
+        (stack_goals (tables draft.new) places.new.items
+        ≡ with_last_suspended dialect (stack_goals (tables draft.old) places.old.items)) }
     ensures below { OnOk result
         (are_below (length (tables draft.new).goals) places.new.items ≡ true) }
     ensures grows { OnOk result (Grows (tables draft.old) (tables draft.new)) }
     ensures room { OnOk result (Adds 1 (tables draft.old) (tables draft.new)) }
     ensures terms { OnOk result ((tables draft.new).terms ≡ (tables draft.old).terms) }
     ensures narrow { OnOk result (Widens
-        (made_width (built (tables draft.new) places.new.items))
+        (made_width (stack_goals (tables draft.new) places.new.items))
         (tables draft.old) (tables draft.new)) }
     ensures named { OnOk result ((names : Table) →
         Lacks names 0 (tables draft.old) (tables draft.new)) }

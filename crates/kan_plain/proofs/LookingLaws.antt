@@ -19,16 +19,16 @@ use Rattle.kan_model.specs.Answers.Answer.{has_absence, keeps_out}
 use Rattle.kan_model.specs.declared.prims.Kind.{Kind}
 use Rattle.kan_model.specs.declared.prims.Kind.TheVariants.{Symbol, Number, Text}
 use Rattle.kan_solving.specs.Solving.{IsImage}
-use Rattle.kan_plain.specs.Looking.{seen, tag_at, difference_at}
+use Rattle.kan_plain.specs.Looking.{shallow_image, tag_at, difference_at}
 
 -- a variable that was looked up is seen
 pub looked_up : (s : Replacement) (v : ℕ) (t r : Bor Term) (found : Option (Bor Term)) →
-    tree t.now ≡ Tree.leaf v → IsImage s v found → r ≡ unwrap_or found t → tree r.now ≡ seen s (tree t.now)
+    tree t.now ≡ Tree.leaf v → IsImage s v found → r ≡ unwrap_or found t → tree r.now ≡ shallow_image s (tree t.now)
 looked_up s v t r None is_var image_is given = rw (given, is_var) (sym image_is)
 looked_up s v t r (Some u) is_var image_is given = rw (given, is_var) (sym image_is)
 
 -- a term is a variable under an answer where it is seen as one
-pub variable_seen : (s : Replacement) (v : ℕ) (t : Tm) → is_variable v (seen s t) ≡ is_variable v (apply s t)
+pub variable_seen : (s : Replacement) (v : ℕ) (t : Tm) → is_variable v (shallow_image s t) ≡ is_variable v (apply s t)
 variable_seen s v (Tree.leaf w) = refl
 variable_seen s v (Tree.sym x) = refl
 variable_seen s v (Tree.str x) = refl
@@ -38,7 +38,7 @@ variable_seen s v Tree.nil = refl
 variable_seen s v (Tree.pair a b) = refl
 
 -- and may be of a type where it is seen so
-pub type_seen : (kind : Kind) (s : Replacement) (t : Tm) → may_be kind (seen s t) ≡ may_be kind (apply s t)
+pub type_seen : (kind : Kind) (s : Replacement) (t : Tm) → may_be kind (shallow_image s t) ≡ may_be kind (apply s t)
 type_seen kind s (Tree.leaf w) = refl
 type_seen kind s (Tree.sym x) = refl
 type_seen kind s (Tree.str x) = refl
@@ -50,7 +50,7 @@ type_seen Number s (Tree.pair a b) = refl
 type_seen Text s (Tree.pair a b) = refl
 
 -- and lacks a type where it is seen so
-pub lack_seen : (kind : Kind) (s : Replacement) (ps : List (Primitive Tm)) (t : Tm) → lacks_type kind s ps (seen s t) ≡ lacks_type kind s ps (apply s t)
+pub lack_seen : (kind : Kind) (s : Replacement) (ps : List (Primitive Tm)) (t : Tm) → lacks_type kind s ps (shallow_image s t) ≡ lacks_type kind s ps (apply s t)
 lack_seen kind s ps (Tree.leaf w) = refl
 lack_seen kind s ps (Tree.sym x) = refl
 lack_seen kind s ps (Tree.str x) = refl

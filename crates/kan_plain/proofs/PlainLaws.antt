@@ -17,7 +17,7 @@ use Rattle.kan_model.specs.Stores.Prims.{prim as primitive}
 use Rattle.kan_model.specs.declared.prims.Asserted.{Asserted}
 use Rattle.kan_model.specs.Stores.Kept.{is_kept, holds_with, holds_under}
 use Rattle.kan_model.specs.Answers.Answer.{same_form, same_pair}
-use Rattle.kan_plain.specs.Looking.{seen}
+use Rattle.kan_plain.specs.Looking.{shallow_image}
 use Rattle.kan_plain.proofs.EachLaws.{made_more}
 use Rattle.kan_model.specs.Stores.Calls.{is_answer, answer, IsFoundFor, WalksTo}
 use Rattle.kan_solving.specs.Solving.{on_stack}
@@ -87,7 +87,7 @@ found_itself s Tree.nil e = refl
 found_itself s (Tree.pair a b) e = e
 
 -- what is seen of a term is walked to
-pub walked : (ps : List (Primitive Tm)) (n : ℕ) (s : Replacement) (t r : Tm) → solve (equations ps) ≡ Some s → r ≡ seen s t →
+pub walked : (ps : List (Primitive Tm)) (n : ℕ) (s : Replacement) (t r : Tm) → solve (equations ps) ≡ Some s → r ≡ shallow_image s t →
     WalksTo (answer (record { prims = ps; counter = n })) t r
 walked ps n s (Tree.leaf v) r solved is_seen = rw (solved, is_seen) (found_itself s (image s v) (applied_twice left_first (equations ps) s (Tree.leaf v) solved))
 walked ps n s (Tree.sym x) r solved is_seen = is_seen

@@ -11,9 +11,9 @@ use Rattle.kan_model.specs.declared.letters.Letter.{Letter}
 use Rattle.kan_model.specs.declared.letters.Letter.TheVariants.{Sym}
 
 -- the image of a term that is a variable, and any other term itself
-abbrev pub seen : Replacement → Tm → Tm
-seen s (Tree.leaf v) = image s v
-seen s t = t
+abbrev pub shallow_image : Replacement → Tm → Tm
+shallow_image s (Tree.leaf v) = image s v
+shallow_image s t = t
 
 -- the letter is this symbol
 abbrev pub is_symbol_of : ℕ → Letter → Bool

@@ -7,7 +7,7 @@ ghost use Rattle.kan_terms.specs.Terms.{tree};
 ghost use Rattle.kan_model.specs.Stores.Solve.{apply as image_of};
 ghost use Rattle.kan_model.specs.Stores.Kept as kept;
 ghost use Rattle.kan_model.specs.Stores.Prims.{equation, prim as primitive};
-ghost use Rattle.kan_plain.specs.Looking.{difference_at, kind_under, seen, tag_at};
+ghost use Rattle.kan_plain.specs.Looking.{difference_at, kind_under, shallow_image, tag_at};
 ghost use Rattle.kan_solving.specs.Solving.{replaced_by};
 
 use kan_model::{Kind, Prim as Asserted, occurs_in};
@@ -17,7 +17,7 @@ use std::alloc::Global;
 
 // What a variable stands for; all else is given back.
 pub(crate) fn looked<'a>(answer: &'a [Replaced], term: &'a Term) -> &'a Term
-    ensures { tree result.now ≡ seen (map replaced_by answer.now) (tree term.now) }
+    ensures { tree result.now ≡ shallow_image (map replaced_by answer.now) (tree term.now) }
 {
     match term {
         Term::Var(var) => found(answer, *var).unwrap_or(term),

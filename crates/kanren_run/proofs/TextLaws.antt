@@ -13,7 +13,7 @@ use Rattle.kan_grammar.specs.Texts.TextNames.{GoesOn, first_names, with_prefixes
 use Rattle.kan_grammar.specs.Texts.Reply.{Reply, reply_to_data, unless_fault}
 use Rattle.kan_grammar.specs.Texts.ProgramText.{program_of_text, queries_of_text}
 use Rattle.kan_grammar.proofs.Texts.NameLaws.{goes_on_library, goes_on_first, prefixes_stay}
-use Rattle.sexpr.specs.Seen.{written, as_kept}
+use Rattle.sexpr.specs.WrittenForms.{written_form, as_kept}
 use Rattle.sexpr.proofs.KeptLaws.{keeps_data}
 use Rattle.sexpr.specs.Reads.{Reads}
 use Rattle.sexpr.specs.declared.data.Datum.{Datum}
@@ -53,7 +53,7 @@ nothing_read : (table : Table) (ls : List Datum) → Reads [] table (Ok ls) → 
 nothing_read table [] read = refl
 nothing_read table (d ∷ ds) read =
     let none : read_text as_kept [] ≡ data_are [] = none_read table in
-    let both : data_are [] ≡ data_are (map (written table) (d ∷ ds)) = sym none ∙ read in
+    let both : data_are [] ≡ data_are (map (written_form table) (d ∷ ds)) = sym none ∙ read in
     absurd cc
 
 pub no_library : (library : Bool) (names : Table) (ds : List Datum) → library ≡ false → names ≡ first_names → ds ≡ [] → LibraryRead library names ds
@@ -68,10 +68,10 @@ library_read s text names ls h =
 
 -- what data that were read are answered with
 to_data : (s : Settings) (text : List ℕ) (names : Table) (ls ds : List Datum) → TextRead s text names ls ds →
-    answer s text ≡ reply_to_data s.dialect names (map (written names) ls) (map (written names) ds)
+    answer s text ≡ reply_to_data s.dialect names (map (written_form names) ls) (map (written_form names) ds)
 to_data s text names ls ds h =
     let library : List ℕ = library_before s.library in
-    subst (λ t. answer s text ≡ reply_to_data s.dialect t (map (written t) ls) (map (written t) ds)) h.named
+    subst (λ t. answer s text ≡ reply_to_data s.dialect t (map (written_form t) ls) (map (written_form t) ds)) h.named
     (replies_as_read library text s.dialect ls (Ok ds) (subst (λ t. Reads library t (Ok ls)) (sym h.named) h.library) (subst (λ t. Reads text t (Ok ds)) (sym h.named) h.forms))
 
 -- a text that can't be read is refused
@@ -115,10 +115,10 @@ accepted_behind on text before old ls read numbered =
 
 -- what data that were compiled are answered with
 compiled_answer : (s : Settings) (names : Table) (ls ds : List Datum) (text : List ℕ) →
-    answer s text ≡ reply_to_data s.dialect names (map (written names) ls) (map (written names) ds) → fault_found names ls ds ≡ None →
-    answer s text ≡ Reply.accepted names (program_of_text s.dialect names (map (written names) ls) (map (written names) ds)) (queries_of_text s.dialect names (map (written names) ls) (map (written names) ds))
+    answer s text ≡ reply_to_data s.dialect names (map (written_form names) ls) (map (written_form names) ds) → fault_found names ls ds ≡ None →
+    answer s text ≡ Reply.accepted names (program_of_text s.dialect names (map (written_form names) ls) (map (written_form names) ds)) (queries_of_text s.dialect names (map (written_form names) ls) (map (written_form names) ds))
 compiled_answer s names ls ds text same none =
-    same ∙ ap (λ f. unless_fault f (Reply.accepted names (program_of_text s.dialect names (map (written names) ls) (map (written names) ds)) (queries_of_text s.dialect names (map (written names) ls) (map (written names) ds)))) none
+    same ∙ ap (λ f. unless_fault f (Reply.accepted names (program_of_text s.dialect names (map (written_form names) ls) (map (written_form names) ds)) (queries_of_text s.dialect names (map (written_form names) ls) (map (written_form names) ds)))) none
 
 -- what data that were compiled come to
 pub data_come : (s : Settings) (text : List ℕ) (old later : Table) (ls ds : List Datum) (c : Compiled) →
@@ -127,9 +127,9 @@ data_come s text old later ls ds c read table compiled =
     let names : Table = with_prefixes old in
     subst (λ t. HasRuns s text t c.program c.queries) (sym table)
     (record {
-      meant = program_of_text s.dialect names (map (written names) ls) (map (written names) ds);
+      meant = program_of_text s.dialect names (map (written_form names) ls) (map (written_form names) ds);
       answered = compiled_answer s names ls ds text (to_data s text names ls ds read) compiled.accepted
-          ∙ ap (λ qs. Reply.accepted names (program_of_text s.dialect names (map (written names) ls) (map (written names) ds)) qs) (sym compiled.queries_are);
+          ∙ ap (λ qs. Reply.accepted names (program_of_text s.dialect names (map (written_form names) ls) (map (written_form names) ds)) qs) (sym compiled.queries_are);
       relations = compiled.relations;
       can = record {
         closed = compiled.closed;
@@ -146,7 +146,7 @@ data_refused s text old ls ds x at number same read found =
     let names : Table = with_prefixes old in
     let first : fault_found names ls ds ≡ Some (fault at number) = subst (λ y. Compiles s.dialect names ls ds (Err y)) same found in
     to_data s text names ls ds read
-    ∙ ap (λ f. unless_fault f (Reply.accepted names (program_of_text s.dialect names (map (written names) ls) (map (written names) ds)) (queries_of_text s.dialect names (map (written names) ls) (map (written names) ds)))) first
+    ∙ ap (λ f. unless_fault f (Reply.accepted names (program_of_text s.dialect names (map (written_form names) ls) (map (written_form names) ds)) (queries_of_text s.dialect names (map (written_form names) ls) (map (written_form names) ds)))) first
 
 -- the same of equal offsets and numbers
 pub refused_same : (s : Settings) (text : List ℕ) (a b m n : ℕ) → a ≡ b → m ≡ n → IsRefused s text a m → IsRefused s text b n

@@ -2,7 +2,7 @@
 
 ghost use Rattle.std.specs.Prelude.{◌≡◌, ◌≤◌, length, List, ℕ, true, false, IfOk};
 ghost use Rattle.kan_base.specs.Spots.{spot};
-ghost use Rattle.command_line.specs.Asked.{Reads, line_asked};
+ghost use Rattle.command_line.specs.WordsRead.{Reads, line_asked};
 ghost use Rattle.command_line.specs.Lines.{IsInRange, texts};
 ghost use Rattle.rel_library.specs.Loads.{greatest_load, load};
 ghost use Rattle.kan_model.specs.Answers.InForm.{TextsDiffer};

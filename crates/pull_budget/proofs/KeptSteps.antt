@@ -9,7 +9,7 @@ use Rattle.atomic_table.specs.Table.{State, Me, Allows, Splits, Joins, Final, Se
 use Rattle.atomic_table.proofs.Lists.{exchanged}
 use Rattle.pull_budget.specs.declared.rule.View.{View}
 use Rattle.pull_budget.specs.Rule.{Words, word_list, FitsPuller, FitsHired, Fits, Pulls, IsKept, Kept}
-use Rattle.pull_budget.specs.Views.{fresh, opener, hired, joined, after_pull, after_seeing, after_reading, after_try, after_stop, is_set, after_asking, after_bound}
+use Rattle.pull_budget.specs.Views.{fresh, opener, hired_view, joined_view, after_pull, after_seeing, after_reading, after_try, after_stop, is_set, after_asking, after_bound}
 use Rattle.pull_budget.proofs.KeptViews.{changed, relisted, lengthened, other_hired}
 
 -- a seat that pulls is not hired
@@ -251,18 +251,18 @@ idle ws puller ahead seen a b by = record {
   set = λ q. absurd (true≢false (sym q));
 }
 
-pub splits : (id : ℕ) (v : View) → Splits Kept id v v (hired v)
+pub splits : (id : ℕ) (v : View) → Splits Kept id v v (hired_view v)
 unfolding relisted
 splits id v s h at =
     let mine = h.fits id v at in
     let k : IsKept s.words (set s.views id v) = relisted s.words s.views h id v v at refl mine in
-    lengthened s.words (set s.views id v) (hired v) k (idle h.words h.puller v.ahead v.seen mine.ahead mine.seen)
+    lengthened s.words (set s.views id v) (hired_view v) k (idle h.words h.puller v.ahead v.seen mine.ahead mine.seen)
 
-pub joins : (id : ℕ) (v : View) (other : ℕ) (w : View) → w.puller ≡ false → Joins Kept id v other w v joined
+pub joins : (id : ℕ) (v : View) (other : ℕ) (w : View) → w.puller ≡ false → Joins Kept id v other w v joined_view
 unfolding relisted
 joins id v other w plain s h at apart at' =
     let k : IsKept s.words (set s.views id v) = relisted s.words s.views h id v v at refl (h.fits id v at) in
-    relisted s.words (set s.views id v) k other w joined at' (sym plain) (idle h.words h.puller 0 0 (omega arith) (omega arith) other)
+    relisted s.words (set s.views id v) k other w joined_view at' (sym plain) (idle h.words h.puller 0 0 (omega arith) (omega arith) other)
 
 only : (u v : View) (by : ℕ) → get_elem? (u ∷ []) by ≡ some v → (by ≡ 0) × (u ≡ v)
 only u v zero e = (refl, some-injective u v e)

@@ -6,12 +6,12 @@ use Rattle.pull_budget.specs.declared.budget.Denied.TheVariants.{Full, Lost}
 use Rattle.pull_budget.specs.Views.{after_seeing, after_reading, after_try}
 
 -- both words were loaded: pulls, and then begun
-abbrev pub looked : View → ℕ → ℕ → View
-looked v seen begun = after_reading (after_seeing v seen) begun
+abbrev pub after_looking : View → ℕ → ℕ → View
+after_looking v seen begun = after_reading (after_seeing v seen) begun
 
 -- there was room, and the one exchange won
 pub record IsWon (before after : View) : Type 0 where
-  pub view : after ≡ after_try (looked before after.seen after.read) after.read
+  pub view : after ≡ after_try (after_looking before after.seen after.read) after.read
   pub room : after.read < after.seen + before.ahead
   pub loads : after.loads ≡ before.loads + 2
   pub tries : after.tries ≡ before.tries + 1
@@ -19,7 +19,7 @@ pub record IsWon (before after : View) : Type 0 where
 
 -- there was no room in what was loaded
 pub record IsFull (before after : View) (begun seen : ℕ) : Type 0 where
-  pub view : after ≡ looked before seen begun
+  pub view : after ≡ after_looking before seen begun
   pub none : seen + before.ahead ≤ begun
   pub loads : after.loads ≡ before.loads + 2
   pub tries : after.tries ≡ before.tries
@@ -27,7 +27,7 @@ pub record IsFull (before after : View) (begun seen : ℕ) : Type 0 where
 
 -- there was room, and the one exchange found another number
 pub record IsLost (before after : View) (found : ℕ) : Type 0 where
-  pub view : after ≡ after_try (looked before after.seen after.read) found
+  pub view : after ≡ after_try (after_looking before after.seen after.read) found
   pub room : after.read < after.seen + before.ahead
   pub other : found ≢ after.read
   pub loads : after.loads ≡ before.loads + 2

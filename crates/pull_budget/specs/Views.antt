@@ -23,12 +23,12 @@ abbrev pub opener : View
 opener = fresh true 0 0
 
 -- a seat that was split off
-abbrev pub hired : View → View
-hired v = fresh false v.ahead v.seen
+abbrev pub hired_view : View → View
+hired_view v = fresh false v.ahead v.seen
 
 -- what is left of a seat that was taken back
-abbrev pub joined : View
-joined = fresh false 0 0
+abbrev pub joined_view : View
+joined_view = fresh false 0 0
 
 abbrev pub after_pull : View → View
 after_pull v = record v { made = v.made + 1 }

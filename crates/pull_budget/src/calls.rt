@@ -1,7 +1,7 @@
 //! Making a budget, its seats, pulling, stopping, and the end.
 
 ghost use Rattle.std.specs.Prelude.{◌≡◌, ◌+◌, ◌<◌, ◌≤◌, ◌^◌, true, false, IfOk};
-ghost use Rattle.pull_budget.specs.Views.{fresh, hired, after_pull, after_stop, after_asking};
+ghost use Rattle.pull_budget.specs.Views.{fresh, hired_view, after_pull, after_stop, after_asking};
 ghost use Rattle.pull_budget.specs.Seats.{view, IsSeatOf};
 
 use crate::budget::{Budget, BudgetSeat, Spent};
@@ -30,7 +30,7 @@ impl Budget {
     pub fn split(&self, seat: &mut BudgetSeat) -> BudgetSeat
         requires seat { IsSeatOf self.now seat.old }
         ensures old { IsSeatOf self.now seat.new × (view seat.new ≡ view seat.old) }
-        ensures new { IsSeatOf self.now result × (view result ≡ hired (view seat.old)) }
+        ensures new { IsSeatOf self.now result × (view result ≡ hired_view (view seat.old)) }
     {
         BudgetSeat {
             seat: self.table.shared.split_seat::<Hire>(&mut seat.seat),

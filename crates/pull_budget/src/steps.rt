@@ -77,17 +77,17 @@ impl Play<(), View> for SetBound {
 pub struct Hire;
 
 impl Split<View> for Hire {
-    ghost use Rattle.pull_budget.specs.Views.{hired};
+    ghost use Rattle.pull_budget.specs.Views.{hired_view};
 
     ghost left = { λ v. v };
 
-    ghost right = { hired };
+    ghost right = { hired_view };
 }
 
 impl Join<View> for Hire {
-    ghost use Rattle.pull_budget.specs.Views.{joined};
+    ghost use Rattle.pull_budget.specs.Views.{joined_view};
 
     ghost both = { λ v w. v };
 
-    ghost spent = { joined };
+    ghost spent = { joined_view };
 }

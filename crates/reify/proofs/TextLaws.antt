@@ -11,7 +11,7 @@ use Rattle.kan_terms.specs.Table.{Table}
 use Rattle.reify.specs.Shapes.{named_pair}
 use Rattle.reify.specs.Meaning.{absence, meaning}
 use Rattle.reify.specs.declared.answers.Answer.{Answer}
-use Rattle.reify.specs.Constraints.{spaced, is_nothing, gap}
+use Rattle.reify.specs.Constraints.{behind_space, is_nothing, gap}
 
 -- one more text behind others
 pub with_spaces-push : (ts : List (List ℕ)) (t : List ℕ) → with_spaces (ts ++ t ∷ []) ≡ with_spaces ts ++ (gap (length ts) ++ t)
@@ -21,17 +21,17 @@ with_spaces-push (u ∷ w ∷ ws) t =
     ap (λ l. u ++ 32 ∷ l) (with_spaces-push (w ∷ ws) t) ∙ sym (append_assoc u (32 ∷ with_spaces (w ∷ ws)) (32 ∷ t))
 
 -- texts behind spaces, from the first one on
-spaced_all : (t : List ℕ) (ts : List (List ℕ)) → 32 ∷ with_spaces (t ∷ ts) ≡ flat_map spaced (t ∷ ts)
+spaced_all : (t : List ℕ) (ts : List (List ℕ)) → 32 ∷ with_spaces (t ∷ ts) ≡ flat_map behind_space (t ∷ ts)
 spaced_all t [] = ap (λ l. 32 ∷ l) (sym (append-nil t))
 spaced_all t (u ∷ us) = ap (λ l. 32 ∷ t ++ l) (spaced_all u us)
 
-pub where_spaced : (ts : List (List ℕ)) → is_nothing ts ≡ false → where_text ts ≡ codes " where" ++ flat_map spaced ts
+pub where_spaced : (ts : List (List ℕ)) → is_nothing ts ≡ false → where_text ts ≡ codes " where" ++ flat_map behind_space ts
 where_spaced [] e = absurd (true≢false e)
 where_spaced (t ∷ ts) e = ap (λ l. codes " where" ++ l) (spaced_all t ts)
 
-pub where_put : (text middle after : List ℕ) (ts : List (List ℕ)) → is_nothing ts ≡ false → middle ≡ text ++ codes " where" → after ≡ middle ++ flat_map spaced ts → after ≡ text ++ where_text ts
+pub where_put : (text middle after : List ℕ) (ts : List (List ℕ)) → is_nothing ts ≡ false → middle ≡ text ++ codes " where" → after ≡ middle ++ flat_map behind_space ts → after ≡ text ++ where_text ts
 where_put text middle after ts some first second =
-    second ∙ ap (λ l. l ++ flat_map spaced ts) first ∙ append_assoc text (codes " where") (flat_map spaced ts) ∙ ap (λ l. text ++ l) (sym (where_spaced ts some))
+    second ∙ ap (λ l. l ++ flat_map behind_space ts) first ∙ append_assoc text (codes " where") (flat_map behind_space ts) ∙ ap (λ l. text ++ l) (sym (where_spaced ts some))
 
 -- no text remains exactly where each list is empty
 nothing_both : {X : Type 0} (xs ys : List X) → is_nothing (xs ++ ys) ≡ (is_nothing xs && is_nothing ys)
@@ -72,10 +72,10 @@ put_next front grown y i old text middle after more many before gone put =
 
 -- the next text put behind a space
 pub put_spaced : (front grown : List (List ℕ)) (y : List ℕ) (old text middle after : List ℕ) → grown ≡ front ++ y ∷ [] →
-    text ≡ old ++ flat_map spaced front → middle ≡ text ++ 32 ∷ [] → after ≡ middle ++ y → after ≡ old ++ flat_map spaced grown
+    text ≡ old ++ flat_map behind_space front → middle ≡ text ++ 32 ∷ [] → after ≡ middle ++ y → after ≡ old ++ flat_map behind_space grown
 put_spaced front grown y old text middle after more before gone put =
-    put ∙ ap (λ l. l ++ y) gone ∙ append_assoc text (32 ∷ []) y ∙ ap (λ l. l ++ 32 ∷ y) before ∙ append_assoc old (flat_map spaced front) (32 ∷ y)
-    ∙ ap (λ l. old ++ l) (ap (λ l. flat_map spaced front ++ l) (sym (append-nil (32 ∷ y))) ∙ sym (flat_map-append spaced front (y ∷ [])) ∙ ap (flat_map spaced) (sym more))
+    put ∙ ap (λ l. l ++ y) gone ∙ append_assoc text (32 ∷ []) y ∙ ap (λ l. l ++ 32 ∷ y) before ∙ append_assoc old (flat_map behind_space front) (32 ∷ y)
+    ∙ ap (λ l. old ++ l) (ap (λ l. flat_map behind_space front ++ l) (sym (append-nil (32 ∷ y))) ∙ sym (flat_map-append behind_space front (y ∷ [])) ∙ ap (flat_map behind_space) (sym more))
 
 -- texts with that of the next item
 pub one_more : {X Y : Type 0} (f : X → Y) (xs : List X) (i : ℕ) (d : X) → i < length xs → map f (take (i + 1) xs) ≡ map f (take i xs) ++ f (get_or xs i d) ∷ []

@@ -2,8 +2,8 @@
 use Rattle.std.specs.Prelude.{ℕ, zero, suc, Bool, true, false, List, [], ◌∷◌}
 
 -- a text behind a space
-abbrev pub spaced : List ℕ → List ℕ
-spaced text = 32 ∷ text
+abbrev pub behind_space : List ℕ → List ℕ
+behind_space text = 32 ∷ text
 
 -- a list has no item
 abbrev pub is_nothing : {X : Type 0} → List X → Bool

@@ -8,7 +8,7 @@ ghost use Rattle.kan_model.specs.Answers.AnswerText.{difference_text, names_text
 ghost use Rattle.kan_model.specs.Answers.AnswerText.{where_text};
 ghost use Rattle.reify.specs.Shapes.{named_pair, spells, all_whole};
 ghost use Rattle.reify.specs.Meaning.{absence, meaning};
-ghost use Rattle.reify.specs.Constraints.{spaced, gap, is_nothing};
+ghost use Rattle.reify.specs.Constraints.{behind_space, gap, is_nothing};
 
 use crate::answers::{Absence, Answer};
 use crate::printing::{print_name, print_shapes, print_symbol};
@@ -103,7 +103,7 @@ fn print_differences(
     requires { list_all all_whole disequalities.now ≡ true }
     ensures { OnOk result (string_bytes text.new
         ≡ string_bytes text.old
-        ++ flat_map spaced (map (difference_text names.now) (map (map named_pair)
+        ++ flat_map behind_space (map (difference_text names.now) (map (map named_pair)
         disequalities.now))) }
 {
     for pairs in disequalities {
@@ -116,7 +116,7 @@ fn print_differences(
 // A word with the names of which it is said, behind a space, and nothing where there are none.
 fn print_list(word: &str, listed: &[u64], text: &mut String) -> Result<(), Memory>
     ensures { OnOk result (string_bytes text.new
-        ≡ string_bytes text.old ++ flat_map spaced (names_texts word.now listed.now)) }
+        ≡ string_bytes text.old ++ flat_map behind_space (names_texts word.now listed.now)) }
 {
     if listed.is_empty() {
         return Ok(());
@@ -146,7 +146,7 @@ fn print_absence(kept: &Absence, names: &Names, text: &mut String) -> Result<(),
 fn print_absences(absences: &[Absence], names: &Names, text: &mut String) -> Result<(), Memory>
     ensures { OnOk result (string_bytes text.new
         ≡ string_bytes text.old
-        ++ flat_map spaced (map (absence_text names.now) (map absence absences.now))) }
+        ++ flat_map behind_space (map (absence_text names.now) (map absence absences.now))) }
 {
     for kept in absences {
         text.push(' ')?;
@@ -164,7 +164,7 @@ fn print_constraints(
 ) -> Result<(), Memory>
     ensures { OnOk result (string_bytes text.new
         ≡ string_bytes text.old
-        ++ flat_map spaced (constraint_texts names.now (meaning answer.now))) }
+        ++ flat_map behind_space (constraint_texts names.now (meaning answer.now))) }
 {
     print_differences(alloc, &answer.disequalities, names, text)?;
     print_list("num", &answer.numbers, text)?;

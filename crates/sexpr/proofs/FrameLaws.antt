@@ -8,7 +8,7 @@ use Rattle.kan_grammar.specs.Data.Written.{Written, single, deepest, is_allowed_
 use Rattle.kan_grammar.specs.Data.Enclosing.{Place, top, awaiting, depth, put}
 use Rattle.kan_grammar.specs.Data.Faults.{fault, refusal, after, begins, first_fault, is_out_of_range, is_reserved_name}
 use Rattle.sexpr.specs.Meaning.{prefix_of, shape_of}
-use Rattle.sexpr.specs.Seen.{written, as_kept}
+use Rattle.sexpr.specs.WrittenForms.{written_form, as_kept}
 use Rattle.kan_terms.specs.Table.{Table}
 use Rattle.sexpr.specs.Frames.{after_point, inside, place, enclosing_of, depth_inside, HasDepth, Takes}
 use Rattle.sexpr.specs.declared.data.Datum.{Datum}
@@ -18,7 +18,7 @@ use Rattle.sexpr.specs.declared.frame.ListFrame.{ListFrame}
 use Rattle.sexpr.specs.declared.frame.Frame.{Frame}
 use Rattle.sexpr.specs.declared.frame.Frame.TheVariants as frames
 use Rattle.sexpr.specs.declared.enclosing.Enclosing as stacks
-use Rattle.sexpr.proofs.SeenLaws.{written_prefixed}
+use Rattle.sexpr.proofs.WrittenFormLaws.{written_prefixed}
 
 -- a fold over one item more
 pub fold_push : {A X : Type 0} (f : A → X → A) (a : A) (xs : List X) (x : X) → fold f a (xs ++ x ∷ []) ≡ f (fold f a xs) x
@@ -29,12 +29,12 @@ map_count : {A B : Type 0} (f : A → B) (xs : List A) → length (map f xs) ≡
 map_count f [] = refl
 map_count f (x ∷ xs) = ap suc (map_count f xs)
 
-point_depth : (names : Table) (p : Place Written) (at : ℕ) (s : Shape) (ds : List Datum) (point : ℕ) → 0 < length ds → depth (after_point p at s (map (written names) ds) point) ≡ depth p + length ds
+point_depth : (names : Table) (p : Place Written) (at : ℕ) (s : Shape) (ds : List Datum) (point : ℕ) → 0 < length ds → depth (after_point p at s (map (written_form names) ds) point) ≡ depth p + length ds
 point_depth names p at s [] point h = absurd (omega arith)
-point_depth names p at s (d ∷ ds) point h = ap (λ n. depth p + suc n) (map_count (written names) ds)
+point_depth names p at s (d ∷ ds) point h = ap (λ n. depth p + suc n) (map_count (written_form names) ds)
 
 inside_depth : (names : Table) (p : Place Written) (f : Frame) → depth (inside names p f) ≡ depth_inside (depth p) f
-inside_depth names p (frames.List l) = ap (λ n. depth p + suc n) (map_count (written names) l.items)
+inside_depth names p (frames.List l) = ap (λ n. depth p + suc n) (map_count (written_form names) l.items)
 inside_depth names p (frames.Dotted l) = point_depth names p l.at (shape_of l.shape) l.items l.point l.has_first
 inside_depth names p (frames.Prefix at q) = refl
 
@@ -44,11 +44,11 @@ frames_depth names p (f ∷ fs) = frames_depth names (inside names p f) fs ∙ a
 
 -- what is kept as the depth is that of the next datum
 pub depth_is : (names : Table) (o : stacks.Enclosing) → o.depth ≡ fold depth_inside 0 o.frames.items → depth (place names o) ≡ o.depth
-depth_is names o h = frames_depth names (top (map (written names) o.top)) o.frames.items ∙ sym h
+depth_is names o h = frames_depth names (top (map (written_form names) o.top)) o.frames.items ∙ sym h
 
 -- one frame more
 pub grown_place : (names : Table) (o n : stacks.Enclosing) (f : Frame) → n.top ≡ o.top → n.frames.items ≡ o.frames.items ++ f ∷ [] → place names n ≡ inside names (place names o) f
-grown_place names o n f t e = rw (t, e) (fold_push (inside names) (top (map (written names) o.top)) o.frames.items f)
+grown_place names o n f t e = rw (t, e) (fold_push (inside names) (top (map (written_form names) o.top)) o.frames.items f)
 
 -- which questions refuse a token that begins a datum
 asked_deep : (p : Place Written) (at : ℕ) (t : Token) → begins t ≡ true → nat_le (depth p) deepest ≡ false → refusal (awaiting p) at t ≡ Some (fault at 6)
@@ -104,9 +104,9 @@ pub takes_prefix : (names : Table) (o n : stacks.Enclosing) (q : Prefix) (at : �
 takes_prefix names o n q at d e h s g m = takes_frame names o n (frames.Prefix at q) at (prefix (prefix_of q)) e (refused_last names o at d e h (prefix (prefix_of q)) refl) refl s g m
 
 -- a datum after a prefix goes where the prefixed datum goes
-pub put_prefixed : (names : Table) (o n : stacks.Enclosing) (at : ℕ) (q : Prefix) (d : Datum) → n.top ≡ o.top → o.frames.items ≡ n.frames.items ++ frames.Prefix at q ∷ [] → put as_kept (place names o) (written names d) ≡ put as_kept (place names n) (written names (record { at = at; kind = kinds.Prefixed q d }))
+pub put_prefixed : (names : Table) (o n : stacks.Enclosing) (at : ℕ) (q : Prefix) (d : Datum) → n.top ≡ o.top → o.frames.items ≡ n.frames.items ++ frames.Prefix at q ∷ [] → put as_kept (place names o) (written_form names d) ≡ put as_kept (place names n) (written_form names (record { at = at; kind = kinds.Prefixed q d }))
 put_prefixed names o n at q d t e =
-    ap (λ p. put as_kept p (written names d)) (grown_place names n o (frames.Prefix at q) (sym t) e)
+    ap (λ p. put as_kept p (written_form names d)) (grown_place names n o (frames.Prefix at q) (sym t) e)
     ∙ ap (put as_kept (place names n)) (sym (written_prefixed names at q d))
 
 -- what follows where a call succeeds
@@ -115,6 +115,6 @@ on_ok (Ok x) f p = f p
 on_ok (Err e) f p = p
 
 -- a datum of one token is taken
-pub takes_single : (names : Table) (o n : stacks.Enclosing) (at : ℕ) (a : Atom) (d : Datum) → HasDepth o → o.ended ≡ None → o.depth ≤ 2048 → is_allowed_atom a ≡ true → written names d ≡ single at a → enclosing_of names n ≡ put as_kept (place names o) (written names d) → Takes names o n at (atom a)
+pub takes_single : (names : Table) (o n : stacks.Enclosing) (at : ℕ) (a : Atom) (d : Datum) → HasDepth o → o.ended ≡ None → o.depth ≤ 2048 → is_allowed_atom a ≡ true → written_form names d ≡ single at a → enclosing_of names n ≡ put as_kept (place names o) (written_form names d) → Takes names o n at (atom a)
 takes_single names o n at a d k e h allowed w p =
     (refused_last names o at k e h (atom a) refl ∙ allowed_last at a allowed, p ∙ ap (put as_kept (place names o)) w ∙ ap (λ x. after as_kept x at (atom a)) (sym (enclosing_awaits names o e)))

@@ -12,24 +12,24 @@ use Rattle.kan_grammar.specs.Data.Printed.{Label, Named, pairs, pairs_within, pr
 use Rattle.kan_terms.specs.Tree.{leaf, nil, pair}
 use Rattle.kan_grammar.proofs.Data.Exactly.{reads_exactly}
 use Rattle.kan_grammar.proofs.Data.Carried.{read_text-map, made_carries}
-use Rattle.sexpr.specs.Seen.{written, as_kept}
+use Rattle.sexpr.specs.WrittenForms.{written_form, as_kept}
 use Rattle.sexpr.specs.Laws.{KeepsData, KeepsMeaning, ReadsNamed, is_named, are_named_within, are_named}
 
 pub keeps_data : KeepsData
 keeps_data bytes = read_text-map as_written as_kept (build_datum as_kept) (made_carries as_kept) bytes
 
 -- elements that are made, before the meaning of what else stands in their list
-abbrev joined : List Written → Named → Named
-joined [] t = t
-joined (d ∷ ds) t = pair (pairs d) (joined ds t)
+abbrev pairs_before : List Written → Named → Named
+pairs_before [] t = t
+pairs_before (d ∷ ds) t = pair (pairs d) (pairs_before ds t)
 
-joined_row : (ds : List Written) (inner : Within) → pairs_within (row ds inner) ≡ joined ds (pairs_within inner)
-joined_row [] inner = refl
-joined_row (d ∷ ds) inner = ap (pair (pairs d)) (joined_row ds inner)
+pairs_before_row : (ds : List Written) (inner : Within) → pairs_within (row ds inner) ≡ pairs_before ds (pairs_within inner)
+pairs_before_row [] inner = refl
+pairs_before_row (d ∷ ds) inner = ap (pair (pairs d)) (pairs_before_row ds inner)
 
-joined_push : (ds : List Written) (d : Written) (t : Named) → joined (ds ++ d ∷ []) t ≡ joined ds (pair (pairs d) t)
-joined_push [] d t = refl
-joined_push (e ∷ ds) d t = ap (pair (pairs e)) (joined_push ds d t)
+pairs_before_push : (ds : List Written) (d : Written) (t : Named) → pairs_before (ds ++ d ∷ []) t ≡ pairs_before ds (pair (pairs d) t)
+pairs_before_push [] d t = refl
+pairs_before_push (e ∷ ds) d t = ap (pair (pairs e)) (pairs_before_push ds d t)
 
 mutual
   pub keeps_meaning : KeepsMeaning
@@ -37,10 +37,10 @@ mutual
   keeps_meaning (list at s inner) = keeps_within at s [] inner
   keeps_meaning (prefixed at p d) = ap (λ t. pair (leaf (Label.name (prefix_name p))) (pair t nil)) (keeps_meaning d)
 
-  keeps_within : (at : ℕ) (s : Shape) (ds : List Written) (inner : Within) → pairs (build_within as_kept at s ds inner) ≡ joined ds (pairs_within inner)
-  keeps_within at s ds (close end) = joined_row ds (close 0)
-  keeps_within at s ds (dotted point d end) = joined_row ds (dotted 0 (build_datum as_kept d) 0) ∙ ap (joined ds) (keeps_meaning d)
-  keeps_within at s ds (element d inner) = keeps_within at s (ds ++ build_datum as_kept d ∷ []) inner ∙ joined_push ds (build_datum as_kept d) (pairs_within inner) ∙ ap (λ t. joined ds (pair t (pairs_within inner))) (keeps_meaning d)
+  keeps_within : (at : ℕ) (s : Shape) (ds : List Written) (inner : Within) → pairs (build_within as_kept at s ds inner) ≡ pairs_before ds (pairs_within inner)
+  keeps_within at s ds (close end) = pairs_before_row ds (close 0)
+  keeps_within at s ds (dotted point d end) = pairs_before_row ds (dotted 0 (build_datum as_kept d) 0) ∙ ap (pairs_before ds) (keeps_meaning d)
+  keeps_within at s ds (element d inner) = keeps_within at s (ds ++ build_datum as_kept d ∷ []) inner ∙ pairs_before_push ds (build_datum as_kept d) (pairs_within inner) ∙ ap (λ t. pairs_before ds (pair t (pairs_within inner))) (keeps_meaning d)
 
 -- tests that both hold
 both : (a b : Bool) → a ≡ true → b ≡ true → (a && b) ≡ true
@@ -93,4 +93,4 @@ named_reading (refused f) ds allowed h = absurd cc
 
 pub reads_named : ReadsNamed
 unfolding read_text
-reads_named bytes names ds h = named_reading (read_text as_written bytes) (map (written names) ds) (λ es e. allowed_text bytes (is_utf8 bytes) es e) (sym (keeps_data bytes) ∙ h)
+reads_named bytes names ds h = named_reading (read_text as_written bytes) (map (written_form names) ds) (λ es e. allowed_text bytes (is_utf8 bytes) es e) (sym (keeps_data bytes) ∙ h)

@@ -1,6 +1,6 @@
 pub mod StringLaws
 pub mod PieceLaws
-pub mod SeenLaws
+pub mod WrittenFormLaws
 pub mod FrameLaws
 pub mod ReadLaws
 pub mod PrintLaws

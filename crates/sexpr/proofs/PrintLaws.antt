@@ -13,7 +13,7 @@ use Rattle.kan_model.specs.Answers.Text.{truth_text}
 use Rattle.kan_model.specs.Answers.Decimals.{decimal_text, number_text}
 use Rattle.kan_model.proofs.Answering.DecimalLaws.{decimal_as_printed}
 use Rattle.sexpr.specs.Meaning.{prefix_of}
-use Rattle.sexpr.specs.Seen.{symbol_atom, string_atom, inner_of, list_of, written}
+use Rattle.sexpr.specs.WrittenForms.{symbol_atom, string_atom, inner_of, list_of, written_form}
 use Rattle.kan_terms.specs.Table.{Table}
 use Rattle.sexpr.specs.Printing.{string_atom_text, rest_text, within, work_text, works_text, cost, cost_within, work_cost, works_cost}
 use Rattle.sexpr.specs.declared.data.Datum.{Datum}
@@ -22,7 +22,7 @@ use Rattle.sexpr.specs.declared.data.DatumKind.TheVariants as kinds
 use Rattle.sexpr.specs.declared.data.Prefix.{Prefix}
 use Rattle.sexpr.specs.declared.printer.Work.{Work}
 use Rattle.sexpr.specs.declared.printer.Work.TheVariants as works
-use Rattle.sexpr.proofs.SeenLaws.{written_symbol, written_text, written_number, written_truth, written_list, written_dotted, written_prefixed}
+use Rattle.sexpr.proofs.WrittenFormLaws.{written_symbol, written_text, written_number, written_truth, written_list, written_dotted, written_prefixed}
 
 pub works_text_push : (names : Table) (ws : List Work) (w : Work) → works_text names (ws ++ w ∷ []) ≡ work_text names w ++ works_text names ws
 works_text_push names [] w = sym (append-nil (work_text names w))
@@ -42,8 +42,8 @@ inner_cons : (d : Written) (ds : List Written) (last : Option Written) → inner
 inner_cons d ds None = refl
 inner_cons d ds (Some x) = refl
 
-pub within_cons : (names : Table) (items rest : Bor (List Datum)) (first : Bor Datum) (last : Option (Bor Datum)) → items.now ≡ first.now ∷ rest.now → within names items last ≡ element (written names first.now) (within names rest last)
-within_cons names items rest first last e = ap (λ ds. inner_of (map (written names) ds) (option_map (written names) (option_copied last))) e ∙ inner_cons (written names first.now) (map (written names) rest.now) (option_map (written names) (option_copied last))
+pub within_cons : (names : Table) (items rest : Bor (List Datum)) (first : Bor Datum) (last : Option (Bor Datum)) → items.now ≡ first.now ∷ rest.now → within names items last ≡ element (written_form names first.now) (within names rest last)
+within_cons names items rest first last e = ap (λ ds. inner_of (map (written_form names) ds) (option_map (written_form names) (option_copied last))) e ∙ inner_cons (written_form names first.now) (map (written_form names) rest.now) (option_map (written_form names) (option_copied last))
 
 -- an opening, the first element and the rest with the close
 pub opened_text : (t u a b w v : List ℕ) → u ≡ t ++ 40 ∷ [] → v ≡ a ++ (b ++ (41 ∷ [] ++ w)) → u ++ v ≡ t ++ ((((40 ∷ a) ++ b) ++ 41 ∷ []) ++ w)
@@ -56,7 +56,7 @@ spaced_text t u a b w v e h = rw (e, h) (simp append_assoc)
 -- a list that begins
 pub list_opens : (names : Table) (items rest : Bor (List Datum)) (first : Bor Datum) (last : Option (Bor Datum)) (t u : List ℕ) (ws w1 w2 w3 : List Work) → items.now ≡ first.now ∷ rest.now → u ≡ t ++ 40 ∷ [] → w1 ≡ ws ++ works.Close ∷ [] → w2 ≡ w1 ++ works.Rest rest last ∷ [] → w3 ≡ w2 ++ works.Datum first ∷ [] → u ++ works_text names w3 ≡ t ++ (named_text (pairs_within (within names items last)) ++ works_text names ws)
 list_opens names items rest first last t u ws w1 w2 w3 i e e1 e2 e3 =
-    let a : List ℕ = named_text (pairs (written names first.now)) in
+    let a : List ℕ = named_text (pairs (written_form names first.now)) in
     let b : List ℕ = rest_text (pairs_within (within names rest last)) in
     let v : works_text names w3 ≡ a ++ (b ++ (41 ∷ [] ++ works_text names ws)) = pushed_text names w2 w3 (works.Datum first) e3 ∙ ap (λ x. a ++ x) (pushed_text names w1 w2 (works.Rest rest last) e2 ∙ ap (λ x. b ++ x) (pushed_text names ws w1 works.Close e1)) in
     opened_text t u a b (works_text names ws) (works_text names w3) e v
@@ -69,7 +69,7 @@ list_opens_falls names items rest first last ws w1 w2 w3 i e1 e2 e3 =
 -- a list that goes on
 pub list_goes_on : (names : Table) (items rest : Bor (List Datum)) (first : Bor Datum) (last : Option (Bor Datum)) (t u : List ℕ) (ws w1 w2 : List Work) → items.now ≡ first.now ∷ rest.now → u ≡ t ++ 32 ∷ [] → w1 ≡ ws ++ works.Rest rest last ∷ [] → w2 ≡ w1 ++ works.Datum first ∷ [] → u ++ works_text names w2 ≡ t ++ (rest_text (pairs_within (within names items last)) ++ works_text names ws)
 list_goes_on names items rest first last t u ws w1 w2 i e e1 e2 =
-    let a : List ℕ = named_text (pairs (written names first.now)) in
+    let a : List ℕ = named_text (pairs (written_form names first.now)) in
     let b : List ℕ = rest_text (pairs_within (within names rest last)) in
     let v : works_text names w2 ≡ a ++ (b ++ works_text names ws) = pushed_text names w1 w2 (works.Datum first) e2 ∙ ap (λ x. a ++ x) (pushed_text names ws w1 (works.Rest rest last) e1) in
     spaced_text t u a b (works_text names ws) (works_text names w2) e v
@@ -84,8 +84,8 @@ no_items : (ds : List Datum) → length ds ≡ 0 → ds ≡ []
 no_items [] h = refl
 no_items (d ∷ ds) h = absurd (omega arith)
 
-within_last : (names : Table) (items : Bor (List Datum)) (d : Bor Datum) (last : Option (Bor Datum)) → length items.now ≡ 0 → last ≡ Some d → within names items last ≡ dotted 0 (written names d.now) 0
-within_last names items d last h e = ap (λ ds. inner_of (map (written names) ds) (option_map (written names) (option_copied last))) (no_items items.now h) ∙ ap (λ (l : Option (Bor Datum)). inner_of [] (option_map (written names) (option_copied l))) e
+within_last : (names : Table) (items : Bor (List Datum)) (d : Bor Datum) (last : Option (Bor Datum)) → length items.now ≡ 0 → last ≡ Some d → within names items last ≡ dotted 0 (written_form names d.now) 0
+within_last names items d last h e = ap (λ ds. inner_of (map (written_form names) ds) (option_map (written_form names) (option_copied last))) (no_items items.now h) ∙ ap (λ (l : Option (Bor Datum)). inner_of [] (option_map (written_form names) (option_copied l))) e
 
 pub last_alone : (names : Table) (items : Bor (List Datum)) (d : Bor Datum) (last : Option (Bor Datum)) (t : List ℕ) (ws w1 : List Work) → length items.now ≡ 0 → last ≡ Some d → w1 ≡ ws ++ works.Datum d ∷ [] → t ++ works_text names w1 ≡ t ++ (named_text (pairs_within (within names items last)) ++ works_text names ws)
 last_alone names items d last t ws w1 h e e1 = ap (λ x. t ++ x) (pushed_text names ws w1 (works.Datum d) e1 ∙ ap (λ n. named_text (pairs_within n) ++ works_text names ws) (sym (within_last names items d last h e)))
@@ -100,11 +100,11 @@ pub last_behind_falls : (names : Table) (items : Bor (List Datum)) (d : Bor Datu
 last_behind_falls names items d last ws w1 h e e1 = omega (arith, pushed_cost names ws w1 (works.Tail d) e1, ap cost_within (within_last names items d last h e))
 
 -- a datum by its kind
-written_of : (names : Table) (d : Datum) (k : DatumKind) → d.kind ≡ k → written names d ≡ written names (record { at = d.at; kind = k })
-written_of names d k e = ap (λ x. written names (record { at = d.at; kind = x })) e
+written_of : (names : Table) (d : Datum) (k : DatumKind) → d.kind ≡ k → written_form names d ≡ written_form names (record { at = d.at; kind = k })
+written_of names d k e = ap (λ x. written_form names (record { at = d.at; kind = x })) e
 
-prefixed_is : (names : Table) (d : Datum) (q : Prefix) (x : Datum) (inner : Bor Datum) → d.kind ≡ kinds.Prefixed q x → inner.now ≡ x → written names d ≡ prefixed d.at (prefix_of q) (written names inner.now)
-prefixed_is names d q x inner e g = written_of names d (kinds.Prefixed q x) e ∙ written_prefixed names d.at q x ∙ ap (λ y. prefixed d.at (prefix_of q) (written names y)) (sym g)
+prefixed_is : (names : Table) (d : Datum) (q : Prefix) (x : Datum) (inner : Bor Datum) → d.kind ≡ kinds.Prefixed q x → inner.now ≡ x → written_form names d ≡ prefixed d.at (prefix_of q) (written_form names inner.now)
+prefixed_is names d q x inner e g = written_of names d (kinds.Prefixed q x) e ∙ written_prefixed names d.at q x ∙ ap (λ y. prefixed d.at (prefix_of q) (written_form names y)) (sym g)
 
 prefix_run : (u u1 u2 n v : List ℕ) → u1 ≡ u ++ n → u2 ≡ u1 ++ 32 ∷ [] → u2 ++ v ≡ u ++ (n ++ (32 ∷ v))
 prefix_run u u1 u2 n v e1 e2 = rw (e2, e1) (append_assoc (u ++ n) (32 ∷ []) v ∙ append_assoc u n (32 ∷ v))
@@ -119,42 +119,42 @@ spaced_prefix t u u1 u2 n a w v e e1 e2 h =
     prefix_run u u1 u2 n v e1 e2
     ∙ spaced_text t u n ((32 ∷ a) ++ []) w (n ++ (32 ∷ v)) e (ap (λ x. n ++ (32 ∷ x)) (h ∙ ap (λ y. y ++ w) (sym (append-nil a))))
 
-pub prefix_opens : (names : Table) (d : Datum) (q : Prefix) (x : Datum) (inner : Bor Datum) (t u u1 u2 n : List ℕ) (ws w1 w2 : List Work) → d.kind ≡ kinds.Prefixed q x → inner.now ≡ x → n ≡ prefix_name (prefix_of q) → u ≡ t ++ 40 ∷ [] → u1 ≡ u ++ n → u2 ≡ u1 ++ 32 ∷ [] → w1 ≡ ws ++ works.Close ∷ [] → w2 ≡ w1 ++ works.Datum inner ∷ [] → u2 ++ works_text names w2 ≡ t ++ (named_text (pairs (written names d)) ++ works_text names ws)
+pub prefix_opens : (names : Table) (d : Datum) (q : Prefix) (x : Datum) (inner : Bor Datum) (t u u1 u2 n : List ℕ) (ws w1 w2 : List Work) → d.kind ≡ kinds.Prefixed q x → inner.now ≡ x → n ≡ prefix_name (prefix_of q) → u ≡ t ++ 40 ∷ [] → u1 ≡ u ++ n → u2 ≡ u1 ++ 32 ∷ [] → w1 ≡ ws ++ works.Close ∷ [] → w2 ≡ w1 ++ works.Datum inner ∷ [] → u2 ++ works_text names w2 ≡ t ++ (named_text (pairs (written_form names d)) ++ works_text names ws)
 prefix_opens names d q x inner t u u1 u2 n ws w1 w2 k g m e e1 e2 f1 f2 =
-    let a : List ℕ = named_text (pairs (written names inner.now)) in
+    let a : List ℕ = named_text (pairs (written_form names inner.now)) in
     let v : works_text names w2 ≡ a ++ (41 ∷ [] ++ works_text names ws) = pushed_text names w1 w2 (works.Datum inner) f2 ∙ ap (λ y. a ++ y) (pushed_text names ws w1 works.Close f1) in
     opened_prefix t u u1 u2 (prefix_name (prefix_of q)) a (works_text names ws) (works_text names w2) e (e1 ∙ ap (λ y. u ++ y) m) e2 v
     ∙ ap (λ y. t ++ (named_text (pairs y) ++ works_text names ws)) (sym (prefixed_is names d q x inner k g))
 
-pub prefix_opens_falls : (names : Table) (d : Datum) (q : Prefix) (x : Datum) (inner : Bor Datum) (ws w1 w2 : List Work) → d.kind ≡ kinds.Prefixed q x → inner.now ≡ x → w1 ≡ ws ++ works.Close ∷ [] → w2 ≡ w1 ++ works.Datum inner ∷ [] → works_cost names w2 < cost (written names d) + works_cost names ws
+pub prefix_opens_falls : (names : Table) (d : Datum) (q : Prefix) (x : Datum) (inner : Bor Datum) (ws w1 w2 : List Work) → d.kind ≡ kinds.Prefixed q x → inner.now ≡ x → w1 ≡ ws ++ works.Close ∷ [] → w2 ≡ w1 ++ works.Datum inner ∷ [] → works_cost names w2 < cost (written_form names d) + works_cost names ws
 prefix_opens_falls names d q x inner ws w1 w2 k g f1 f2 =
     omega (arith, pushed_cost names w1 w2 (works.Datum inner) f2, pushed_cost names ws w1 works.Close f1, ap cost (prefixed_is names d q x inner k g))
 
-pub prefix_goes_on : (names : Table) (d : Datum) (q : Prefix) (x : Datum) (inner : Bor Datum) (t u u1 u2 n : List ℕ) (ws w1 : List Work) → d.kind ≡ kinds.Prefixed q x → inner.now ≡ x → n ≡ prefix_name (prefix_of q) → u ≡ t ++ 32 ∷ [] → u1 ≡ u ++ n → u2 ≡ u1 ++ 32 ∷ [] → w1 ≡ ws ++ works.Datum inner ∷ [] → u2 ++ works_text names w1 ≡ t ++ (rest_text (pairs (written names d)) ++ works_text names ws)
+pub prefix_goes_on : (names : Table) (d : Datum) (q : Prefix) (x : Datum) (inner : Bor Datum) (t u u1 u2 n : List ℕ) (ws w1 : List Work) → d.kind ≡ kinds.Prefixed q x → inner.now ≡ x → n ≡ prefix_name (prefix_of q) → u ≡ t ++ 32 ∷ [] → u1 ≡ u ++ n → u2 ≡ u1 ++ 32 ∷ [] → w1 ≡ ws ++ works.Datum inner ∷ [] → u2 ++ works_text names w1 ≡ t ++ (rest_text (pairs (written_form names d)) ++ works_text names ws)
 prefix_goes_on names d q x inner t u u1 u2 n ws w1 k g m e e1 e2 f1 =
-    let a : List ℕ = named_text (pairs (written names inner.now)) in
+    let a : List ℕ = named_text (pairs (written_form names inner.now)) in
     spaced_prefix t u u1 u2 (prefix_name (prefix_of q)) a (works_text names ws) (works_text names w1) e (e1 ∙ ap (λ y. u ++ y) m) e2 (pushed_text names ws w1 (works.Datum inner) f1)
     ∙ ap (λ y. t ++ (rest_text (pairs y) ++ works_text names ws)) (sym (prefixed_is names d q x inner k g))
 
-pub prefix_goes_on_falls : (names : Table) (d : Datum) (q : Prefix) (x : Datum) (inner : Bor Datum) (ws w1 : List Work) → d.kind ≡ kinds.Prefixed q x → inner.now ≡ x → w1 ≡ ws ++ works.Datum inner ∷ [] → works_cost names w1 < 2 + cost (written names d) + works_cost names ws
+pub prefix_goes_on_falls : (names : Table) (d : Datum) (q : Prefix) (x : Datum) (inner : Bor Datum) (ws w1 : List Work) → d.kind ≡ kinds.Prefixed q x → inner.now ≡ x → w1 ≡ ws ++ works.Datum inner ∷ [] → works_cost names w1 < 2 + cost (written_form names d) + works_cost names ws
 prefix_goes_on_falls names d q x inner ws w1 k g f1 =
     omega (arith, pushed_cost names ws w1 (works.Datum inner) f1, ap cost (prefixed_is names d q x inner k g))
 
 -- a list, by the elements and the last datum that are lent
-list_last : (names : Table) (at : ℕ) (ds : List Datum) (last : Option Datum) → written names (record { at = at; kind = kinds.List ds last }) ≡ list_of at (map (written names) ds) (option_map (written names) last)
+list_last : (names : Table) (at : ℕ) (ds : List Datum) (last : Option Datum) → written_form names (record { at = at; kind = kinds.List ds last }) ≡ list_of at (map (written_form names) ds) (option_map (written_form names) last)
 list_last names at ds None = written_list names at ds
 list_last names at ds (Some d) = written_dotted names at ds d
 
-list_is : (names : Table) (d : Datum) (ds : List Datum) (last : Option Datum) (items : Bor (List Datum)) (lent : Option (Bor Datum)) → d.kind ≡ kinds.List ds last → items.now ≡ ds → option_copied lent ≡ last → written names d ≡ list d.at round (within names items lent)
+list_is : (names : Table) (d : Datum) (ds : List Datum) (last : Option Datum) (items : Bor (List Datum)) (lent : Option (Bor Datum)) → d.kind ≡ kinds.List ds last → items.now ≡ ds → option_copied lent ≡ last → written_form names d ≡ list d.at round (within names items lent)
 list_is names d ds last items lent e i l =
     written_of names d (kinds.List ds last) e ∙ list_last names d.at ds last
-    ∙ ap (λ xs. list_of d.at (map (written names) xs) (option_map (written names) last)) (sym i)
-    ∙ ap (λ x. list_of d.at (map (written names) items.now) (option_map (written names) x)) (sym l)
+    ∙ ap (λ xs. list_of d.at (map (written_form names) xs) (option_map (written_form names) last)) (sym i)
+    ∙ ap (λ x. list_of d.at (map (written_form names) items.now) (option_map (written_form names) x)) (sym l)
 
-pub list_tail : (names : Table) (d : Datum) (ds : List Datum) (last : Option Datum) (items : Bor (List Datum)) (lent : Option (Bor Datum)) (t : List ℕ) (ws w1 : List Work) → d.kind ≡ kinds.List ds last → items.now ≡ ds → option_copied lent ≡ last → w1 ≡ ws ++ works.Rest items lent ∷ [] → t ++ works_text names w1 ≡ t ++ (rest_text (pairs (written names d)) ++ works_text names ws)
+pub list_tail : (names : Table) (d : Datum) (ds : List Datum) (last : Option Datum) (items : Bor (List Datum)) (lent : Option (Bor Datum)) (t : List ℕ) (ws w1 : List Work) → d.kind ≡ kinds.List ds last → items.now ≡ ds → option_copied lent ≡ last → w1 ≡ ws ++ works.Rest items lent ∷ [] → t ++ works_text names w1 ≡ t ++ (rest_text (pairs (written_form names d)) ++ works_text names ws)
 list_tail names d ds last items lent t ws w1 e i l f = ap (λ x. t ++ x) (pushed_text names ws w1 (works.Rest items lent) f ∙ ap (λ y. rest_text (pairs y) ++ works_text names ws) (sym (list_is names d ds last items lent e i l)))
 
-pub list_tail_falls : (names : Table) (d : Datum) (ds : List Datum) (last : Option Datum) (items : Bor (List Datum)) (lent : Option (Bor Datum)) (ws w1 : List Work) → d.kind ≡ kinds.List ds last → items.now ≡ ds → option_copied lent ≡ last → w1 ≡ ws ++ works.Rest items lent ∷ [] → works_cost names w1 < 2 + cost (written names d) + works_cost names ws
+pub list_tail_falls : (names : Table) (d : Datum) (ds : List Datum) (last : Option Datum) (items : Bor (List Datum)) (lent : Option (Bor Datum)) (ws w1 : List Work) → d.kind ≡ kinds.List ds last → items.now ≡ ds → option_copied lent ≡ last → w1 ≡ ws ++ works.Rest items lent ∷ [] → works_cost names w1 < 2 + cost (written_form names d) + works_cost names ws
 list_tail_falls names d ds last items lent ws w1 e i l f = omega (arith, pushed_cost names ws w1 (works.Rest items lent) f, ap cost (list_is names d ds last items lent e i l))
 
 -- an atom after a dot
@@ -169,34 +169,34 @@ string_tail at (Some s) = refl
 tail_same : (w v : Written) → w ≡ v → rest_text (pairs v) ≡ codes " . " ++ named_text (pairs v) → rest_text (pairs w) ≡ codes " . " ++ named_text (pairs w)
 tail_same w v e h = rw e h
 
-pub tail_symbol : (names : Table) (d : Datum) (s : ℕ) → d.kind ≡ kinds.Symbol s → rest_text (pairs (written names d)) ≡ codes " . " ++ named_text (pairs (written names d))
-tail_symbol names d s e = tail_same (written names d) (single d.at (symbol_atom (name_of names.symbols s))) (written_of names d (kinds.Symbol s) e ∙ written_symbol names d.at s) (symbol_tail d.at (name_of names.symbols s))
+pub tail_symbol : (names : Table) (d : Datum) (s : ℕ) → d.kind ≡ kinds.Symbol s → rest_text (pairs (written_form names d)) ≡ codes " . " ++ named_text (pairs (written_form names d))
+tail_symbol names d s e = tail_same (written_form names d) (single d.at (symbol_atom (name_of names.symbols s))) (written_of names d (kinds.Symbol s) e ∙ written_symbol names d.at s) (symbol_tail d.at (name_of names.symbols s))
 
-pub tail_text : (names : Table) (d : Datum) (s : ℕ) → d.kind ≡ kinds.Text s → rest_text (pairs (written names d)) ≡ codes " . " ++ named_text (pairs (written names d))
-tail_text names d s e = tail_same (written names d) (single d.at (string_atom (name_of names.strings s))) (written_of names d (kinds.Text s) e ∙ written_text names d.at s) (string_tail d.at (name_of names.strings s))
+pub tail_text : (names : Table) (d : Datum) (s : ℕ) → d.kind ≡ kinds.Text s → rest_text (pairs (written_form names d)) ≡ codes " . " ++ named_text (pairs (written_form names d))
+tail_text names d s e = tail_same (written_form names d) (single d.at (string_atom (name_of names.strings s))) (written_of names d (kinds.Text s) e ∙ written_text names d.at s) (string_tail d.at (name_of names.strings s))
 
 -- the text of a string's atom
 string_prints : (at : ℕ) (o : Option (List ℕ)) → named_text (pairs (single at (string_atom o))) ≡ string_atom_text o
 string_prints at None = refl
 string_prints at (Some s) = refl
 
-pub text_prints : (names : Table) (d : Datum) (s : ℕ) → d.kind ≡ kinds.Text s → named_text (pairs (written names d)) ≡ string_atom_text (name_of names.strings s)
+pub text_prints : (names : Table) (d : Datum) (s : ℕ) → d.kind ≡ kinds.Text s → named_text (pairs (written_form names d)) ≡ string_atom_text (name_of names.strings s)
 text_prints names d s e = ap (λ w. named_text (pairs w)) (written_of names d (kinds.Text s) e ∙ written_text names d.at s) ∙ string_prints d.at (name_of names.strings s)
 
-pub tail_number : (names : Table) (d : Datum) (n : ℤ) → d.kind ≡ kinds.Number n → rest_text (pairs (written names d)) ≡ codes " . " ++ named_text (pairs (written names d))
-tail_number names d n e = tail_same (written names d) (single d.at (number n)) (written_of names d (kinds.Number n) e ∙ written_number names d.at n) refl
+pub tail_number : (names : Table) (d : Datum) (n : ℤ) → d.kind ≡ kinds.Number n → rest_text (pairs (written_form names d)) ≡ codes " . " ++ named_text (pairs (written_form names d))
+tail_number names d n e = tail_same (written_form names d) (single d.at (number n)) (written_of names d (kinds.Number n) e ∙ written_number names d.at n) refl
 
-pub tail_truth : (names : Table) (d : Datum) (b : Bool) → d.kind ≡ kinds.Truth b → rest_text (pairs (written names d)) ≡ codes " . " ++ named_text (pairs (written names d))
-tail_truth names d b e = tail_same (written names d) (single d.at (truth b)) (written_of names d (kinds.Truth b) e ∙ written_truth names d.at b) refl
+pub tail_truth : (names : Table) (d : Datum) (b : Bool) → d.kind ≡ kinds.Truth b → rest_text (pairs (written_form names d)) ≡ codes " . " ++ named_text (pairs (written_form names d))
+tail_truth names d b e = tail_same (written_form names d) (single d.at (truth b)) (written_of names d (kinds.Truth b) e ∙ written_truth names d.at b) refl
 
 -- an atom, printed behind a text
 pub atom_prints : (t u x y ws : List ℕ) → u ≡ t ++ x → y ≡ x → u ++ ws ≡ t ++ (y ++ ws)
 atom_prints t u x y ws e h = ap (λ z. z ++ ws) e ∙ append_assoc t x ws ∙ ap (λ z. t ++ (z ++ ws)) (sym h)
 
-pub number_prints : (names : Table) (d : Datum) (n : ℤ) → d.kind ≡ kinds.Number n → named_text (pairs (written names d)) ≡ number_text n
+pub number_prints : (names : Table) (d : Datum) (n : ℤ) → d.kind ≡ kinds.Number n → named_text (pairs (written_form names d)) ≡ number_text n
 number_prints names d n e = ap (λ w. named_text (pairs w)) (written_of names d (kinds.Number n) e ∙ written_number names d.at n)
 
-pub truth_prints : (names : Table) (d : Datum) (b : Bool) → d.kind ≡ kinds.Truth b → named_text (pairs (written names d)) ≡ truth_text b
+pub truth_prints : (names : Table) (d : Datum) (b : Bool) → d.kind ≡ kinds.Truth b → named_text (pairs (written_form names d)) ≡ truth_text b
 truth_prints names d b e = ap (λ w. named_text (pairs w)) (written_of names d (kinds.Truth b) e ∙ written_truth names d.at b)
 
 -- a number of 128 bits is printed as std prints it
@@ -207,15 +207,15 @@ pub printed_number : (z : ℤ) → mag z < 2 ^ 127 → number_text z ≡ signed_
 printed_number (pos n) h = print_small n (omega (arith, h))
 printed_number (negsuc n) h = ap (λ x. 45 ∷ x) (print_small (suc n) (omega (arith, h)))
 
-pub last_prints : (names : Table) (d : Bor Datum) (t u : List ℕ) (ws w1 : List Work) → rest_text (pairs (written names d.now)) ≡ codes " . " ++ named_text (pairs (written names d.now)) → u ≡ t ++ codes " . " → w1 ≡ ws ++ works.Datum d ∷ [] → u ++ works_text names w1 ≡ t ++ (rest_text (pairs (written names d.now)) ++ works_text names ws)
+pub last_prints : (names : Table) (d : Bor Datum) (t u : List ℕ) (ws w1 : List Work) → rest_text (pairs (written_form names d.now)) ≡ codes " . " ++ named_text (pairs (written_form names d.now)) → u ≡ t ++ codes " . " → w1 ≡ ws ++ works.Datum d ∷ [] → u ++ works_text names w1 ≡ t ++ (rest_text (pairs (written_form names d.now)) ++ works_text names ws)
 last_prints names d t u ws w1 h e f =
-    let a : List ℕ = named_text (pairs (written names d.now)) in
+    let a : List ℕ = named_text (pairs (written_form names d.now)) in
     ap (λ x. x ++ works_text names w1) e
     ∙ append_assoc t (codes " . ") (works_text names w1)
     ∙ ap (λ x. t ++ (codes " . " ++ x)) (pushed_text names ws w1 (works.Datum d) f)
     ∙ ap (λ x. t ++ x) (sym (append_assoc (codes " . ") a (works_text names ws)) ∙ ap (λ x. x ++ works_text names ws) (sym h))
 
-pub last_falls : (names : Table) (d : Bor Datum) (ws w1 : List Work) → w1 ≡ ws ++ works.Datum d ∷ [] → works_cost names w1 < 2 + cost (written names d.now) + works_cost names ws
+pub last_falls : (names : Table) (d : Bor Datum) (ws w1 : List Work) → w1 ≡ ws ++ works.Datum d ∷ [] → works_cost names w1 < 2 + cost (written_form names d.now) + works_cost names ws
 last_falls names d ws w1 f = omega (arith, pushed_cost names ws w1 (works.Datum d) f)
 
 -- a step of the loop

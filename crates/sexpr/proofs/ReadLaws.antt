@@ -16,7 +16,7 @@ use Rattle.kan_grammar.specs.Texts.TextNames.{GoesOn, Extends, with_token, with_
 use Rattle.kan_grammar.proofs.Texts.NameLaws.{goes_on_further}
 use Rattle.sexpr.specs.Meaning.{token_of, piece_of, piece_with}
 use Rattle.sexpr.specs.Pieces.{first_piece}
-use Rattle.sexpr.specs.Seen.{symbol_atom, string_atom, written, as_kept}
+use Rattle.sexpr.specs.WrittenForms.{symbol_atom, string_atom, written_form, as_kept}
 use Rattle.kan_terms.specs.Table.{Table, name_of, number_of}
 use Rattle.sexpr.specs.Reads.{Answers, Reads, CanGrow, HasText, HasPieceText, ReadsPiece, RefusesPiece, with_piece}
 use Rattle.sexpr.specs.Frames.{enclosing_of, Takes, TakesToken, Refuses, RefusesToken}
@@ -27,16 +27,16 @@ use Rattle.sexpr.specs.declared.data.DatumKind.TheVariants as kinds
 use Rattle.sexpr.specs.declared.enclosing.Enclosing as stacks
 use Rattle.sexpr.specs.declared.lexer.Piece as pieces
 use Rattle.sexpr.specs.declared.token.Token as code
-use Rattle.sexpr.proofs.SeenLaws.{written_symbol, written_text}
+use Rattle.sexpr.proofs.WrittenFormLaws.{written_symbol, written_text}
 
 -- a symbol or a string that was just numbered stands for its text, under every table that goes on where this one ends
 name_later : (old new more : List (List ℕ)) (n : ℕ) (text : List ℕ) → number_of old text ≡ Some n → new ≡ old ++ more → name_of new n ≡ Some text
 name_later old new more n text h e = ap (λ t. name_of t n) e ∙ name_of-append old more text n (name_of-number_of old text n h)
 
-pub symbol_interned : (names later : Table) (at n : ℕ) (text : List ℕ) → number_of names.symbols text ≡ Some n → GoesOn names later → written later (record { at = at; kind = kinds.Symbol n }) ≡ single at (symbol text)
+pub symbol_interned : (names later : Table) (at n : ℕ) (text : List ℕ) → number_of names.symbols text ≡ Some n → GoesOn names later → written_form later (record { at = at; kind = kinds.Symbol n }) ≡ single at (symbol text)
 symbol_interned names later at n text h g = written_symbol later at n ∙ ap (λ o. single at (symbol_atom o)) (name_later names.symbols later.symbols g.symbols.0 n text h g.symbols.1)
 
-pub string_interned : (names later : Table) (at n : ℕ) (text : List ℕ) → number_of names.strings text ≡ Some n → GoesOn names later → written later (record { at = at; kind = kinds.Text n }) ≡ single at (string text)
+pub string_interned : (names later : Table) (at n : ℕ) (text : List ℕ) → number_of names.strings text ≡ Some n → GoesOn names later → written_form later (record { at = at; kind = kinds.Text n }) ≡ single at (string text)
 string_interned names later at n text h g = written_text later at n ∙ ap (λ o. single at (string_atom o)) (name_later names.strings later.strings g.strings.0 n text h g.strings.1)
 
 -- a token that no question refuses is read

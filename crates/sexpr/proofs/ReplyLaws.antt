@@ -15,7 +15,7 @@ use Rattle.kan_grammar.specs.Texts.ProgramText.{Meant, text_meaning}
 use Rattle.kan_grammar.specs.Texts.TextFaults.{faults_of, least}
 use Rattle.kan_grammar.specs.Texts.Reply.{Reply, reply, reply_to_data, reply_to_reading, data_of, unless_fault}
 use Rattle.kan_grammar.specs.Texts.Reply.{IsLibrary}
-use Rattle.sexpr.specs.Seen.{written, as_kept}
+use Rattle.sexpr.specs.WrittenForms.{written_form, as_kept}
 use Rattle.sexpr.specs.Reads.{Reads}
 use Rattle.sexpr.specs.Laws.{IsReply, KeepsSites, RepliesAsRead}
 use Rattle.sexpr.specs.declared.data.Datum.{Datum}
@@ -24,17 +24,17 @@ use Rattle.sexpr.specs.declared.data.ReadError.TheVariants as errors
 use Rattle.sexpr.proofs.KeptLaws.{keeps_data}
 
 -- elements before the sites of what else stands in their list
-abbrev joined : Table → ℕ → List Written → Sited → Sited
-joined table at [] t = t
-joined table at (d ∷ ds) t = Sited.pair at (with_sites table d) (joined table at ds t)
+abbrev pairs_before : Table → ℕ → List Written → Sited → Sited
+pairs_before table at [] t = t
+pairs_before table at (d ∷ ds) t = Sited.pair at (with_sites table d) (pairs_before table at ds t)
 
-joined_row : (table : Table) (at : ℕ) (ds : List Written) (inner : Within) → within_sites table at (row ds inner) ≡ joined table at ds (within_sites table at inner)
-joined_row table at [] inner = refl
-joined_row table at (d ∷ ds) inner = ap (Sited.pair at (with_sites table d)) (joined_row table at ds inner)
+pairs_before_row : (table : Table) (at : ℕ) (ds : List Written) (inner : Within) → within_sites table at (row ds inner) ≡ pairs_before table at ds (within_sites table at inner)
+pairs_before_row table at [] inner = refl
+pairs_before_row table at (d ∷ ds) inner = ap (Sited.pair at (with_sites table d)) (pairs_before_row table at ds inner)
 
-joined_push : (table : Table) (at : ℕ) (ds : List Written) (d : Written) (t : Sited) → joined table at (ds ++ d ∷ []) t ≡ joined table at ds (Sited.pair at (with_sites table d) t)
-joined_push table at [] d t = refl
-joined_push table at (e ∷ ds) d t = ap (Sited.pair at (with_sites table e)) (joined_push table at ds d t)
+pairs_before_push : (table : Table) (at : ℕ) (ds : List Written) (d : Written) (t : Sited) → pairs_before table at (ds ++ d ∷ []) t ≡ pairs_before table at ds (Sited.pair at (with_sites table d) t)
+pairs_before_push table at [] d t = refl
+pairs_before_push table at (e ∷ ds) d t = ap (Sited.pair at (with_sites table e)) (pairs_before_push table at ds d t)
 
 mutual
   pub keeps_sites : KeepsSites
@@ -42,13 +42,13 @@ mutual
   keeps_sites table (list at s inner) = keeps_within table at s [] inner
   keeps_sites table (prefixed at p d) = ap (λ t. Sited.pair at (Sited.name at (symbol_number table (prefix_name p))) (Sited.pair at t (Sited.nil at))) (keeps_sites table d)
 
-  keeps_within : (table : Table) (at : ℕ) (s : Shape) (ds : List Written) (inner : Within) → with_sites table (build_within as_kept at s ds inner) ≡ joined table at ds (within_sites table at inner)
-  keeps_within table at s ds (close end) = joined_row table at ds (close 0)
-  keeps_within table at s ds (dotted point d end) = joined_row table at ds (dotted 0 (build_datum as_kept d) 0) ∙ ap (joined table at ds) (keeps_sites table d)
+  keeps_within : (table : Table) (at : ℕ) (s : Shape) (ds : List Written) (inner : Within) → with_sites table (build_within as_kept at s ds inner) ≡ pairs_before table at ds (within_sites table at inner)
+  keeps_within table at s ds (close end) = pairs_before_row table at ds (close 0)
+  keeps_within table at s ds (dotted point d end) = pairs_before_row table at ds (dotted 0 (build_datum as_kept d) 0) ∙ ap (pairs_before table at ds) (keeps_sites table d)
   keeps_within table at s ds (element d inner) =
       keeps_within table at s (ds ++ build_datum as_kept d ∷ []) inner
-      ∙ joined_push table at ds (build_datum as_kept d) (within_sites table at inner)
-      ∙ ap (λ t. joined table at ds (Sited.pair at t (within_sites table at inner))) (keeps_sites table d)
+      ∙ pairs_before_push table at ds (build_datum as_kept d) (within_sites table at inner)
+      ∙ ap (λ t. pairs_before table at ds (Sited.pair at t (within_sites table at inner))) (keeps_sites table d)
 
 keep_all_sites : (table : Table) (ds : List Written) → map (with_sites table) (map (build_datum as_kept) ds) ≡ map (with_sites table) ds
 keep_all_sites table [] = refl
@@ -70,12 +70,12 @@ kept_library : (r : Reading Written) (ws : List Written) → map_reading (build_
 kept_library (data_are ds) ws h = let e : map (build_datum as_kept) ds ≡ ws = cc in e
 kept_library (refused f) ws h = absurd cc
 
-kept_reply : (dialect : Dialect) (table : Table) (ls ws : List Written) (r : Reading Written) (answer : Result (List Datum) ReadError) → map (build_datum as_kept) ls ≡ ws → ((ds : List Datum) → answer ≡ Ok ds → map_reading (build_datum as_kept) r ≡ data_are (map (written table) ds)) → ((at number : ℕ) → answer ≡ Err (errors.Fault at number) → map_reading (build_datum as_kept) r ≡ refused (fault at number)) → IsReply (reply_to_reading dialect table ls r) dialect table ws answer
+kept_reply : (dialect : Dialect) (table : Table) (ls ws : List Written) (r : Reading Written) (answer : Result (List Datum) ReadError) → map (build_datum as_kept) ls ≡ ws → ((ds : List Datum) → answer ≡ Ok ds → map_reading (build_datum as_kept) r ≡ data_are (map (written_form table) ds)) → ((at number : ℕ) → answer ≡ Err (errors.Fault at number) → map_reading (build_datum as_kept) r ≡ refused (fault at number)) → IsReply (reply_to_reading dialect table ls r) dialect table ws answer
 kept_reply dialect table ls ws (data_are es) (Ok ds) l h k =
-    let e : map (build_datum as_kept) es ≡ map (written table) ds = kept_library (data_are es) (map (written table) ds) (h ds refl) in
+    let e : map (build_datum as_kept) es ≡ map (written_form table) ds = kept_library (data_are es) (map (written_form table) ds) (h ds refl) in
     sym (same_reply dialect table ls es) ∙ ap (λ xs. reply_to_data dialect table xs (map (build_datum as_kept) es)) l ∙ ap (reply_to_data dialect table ws) e
 kept_reply dialect table ls ws (refused f) (Ok ds) l h k =
-    let e : map_reading (build_datum as_kept) (refused f) ≡ data_are (map (written table) ds) = h ds refl in absurd cc
+    let e : map_reading (build_datum as_kept) (refused f) ≡ data_are (map (written_form table) ds) = h ds refl in absurd cc
 kept_reply dialect table ls ws (data_are es) (Err (errors.Fault at number)) l h k =
     let e : data_are (map (build_datum as_kept) es) ≡ refused (fault at number) = k at number refl in absurd cc
 kept_reply dialect table ls ws (refused f) (Err (errors.Fault at number)) l h k =
@@ -83,8 +83,8 @@ kept_reply dialect table ls ws (refused f) (Err (errors.Fault at number)) l h k 
     let same : f ≡ fault at number = cc in ap Reply.refusal same
 kept_reply dialect table ls ws r (Err errors.Memory) l h k = tt
 
-read_data : (bytes : List ℕ) (table : Table) (answer : Result (List Datum) ReadError) → Reads bytes table answer → (ds : List Datum) → answer ≡ Ok ds → map_reading (build_datum as_kept) (read_text as_written bytes) ≡ data_are (map (written table) ds)
-read_data bytes table (Ok es) h ds e = let same : es ≡ ds = cc in sym (keeps_data bytes) ∙ h ∙ ap (λ xs. data_are (map (written table) xs)) same
+read_data : (bytes : List ℕ) (table : Table) (answer : Result (List Datum) ReadError) → Reads bytes table answer → (ds : List Datum) → answer ≡ Ok ds → map_reading (build_datum as_kept) (read_text as_written bytes) ≡ data_are (map (written_form table) ds)
+read_data bytes table (Ok es) h ds e = let same : es ≡ ds = cc in sym (keeps_data bytes) ∙ h ∙ ap (λ xs. data_are (map (written_form table) xs)) same
 read_data bytes table (Err x) h ds e = absurd cc
 
 read_fault : (bytes : List ℕ) (table : Table) (answer : Result (List Datum) ReadError) → Reads bytes table answer → (at number : ℕ) → answer ≡ Err (errors.Fault at number) → map_reading (build_datum as_kept) (read_text as_written bytes) ≡ refused (fault at number)
@@ -99,8 +99,8 @@ pub replies_as_read : RepliesAsRead
 unfolding reply
 replies_as_read library text dialect ls answer l t =
     let table : Table = text_table library text in
-    kept_reply dialect table (data_of (read_text as_written library)) (map (written table) ls) (read_text as_written text) answer
-    (kept_library (read_text as_written library) (map (written table) ls) (read_data library table (Ok ls) l ls refl))
+    kept_reply dialect table (data_of (read_text as_written library)) (map (written_form table) ls) (read_text as_written text) answer
+    (kept_library (read_text as_written library) (map (written_form table) ls) (read_data library table (Ok ls) l ls refl))
     (read_data text table answer t) (read_fault text table answer t)
 
 -- a library serves as it is kept where it serves as it is written
@@ -114,9 +114,9 @@ serves_kept table ds serves = record {
 }
 
 pub kept_serves : (bytes : List ℕ) (table : Table) (ls : List Datum) → Reads bytes table (Ok ls) →
-    IsLibrary table (data_of (read_text as_written bytes)) → IsLibrary table (map (written table) ls)
+    IsLibrary table (data_of (read_text as_written bytes)) → IsLibrary table (map (written_form table) ls)
 kept_serves bytes table ls read serves =
     subst (IsLibrary table)
-    (kept_library (read_text as_written bytes) (map (written table) ls)
+    (kept_library (read_text as_written bytes) (map (written_form table) ls)
     (read_data bytes table (Ok ls) read ls refl))
     (serves_kept table (data_of (read_text as_written bytes)) serves)

@@ -9,7 +9,7 @@ use Rattle.kan_grammar.specs.Data.Enclosing.{Enclosing, awaiting, ended}
 use Rattle.kan_grammar.specs.Data.Faults.{Fault, fault, refusal, after}
 use Rattle.kan_grammar.specs.Texts.TextNames.{GoesOn}
 use Rattle.sexpr.specs.Meaning.{shape_of, prefix_of}
-use Rattle.sexpr.specs.Seen.{written, as_kept}
+use Rattle.sexpr.specs.WrittenForms.{written_form, as_kept}
 use Rattle.kan_terms.specs.Table.{Table}
 use Rattle.sexpr.specs.declared.data.ReadError.{ReadError}
 use Rattle.sexpr.specs.declared.data.ReadError.TheVariants as errors
@@ -25,14 +25,15 @@ after_point p at s (e ∷ ds) point = after_dot p at s e ds point
 
 -- the place that a frame opens inside another
 abbrev pub inside : Table → Place Written → Frame → Place Written
-inside names p (frames.List l) = in_list p l.at (shape_of l.shape) (map (written names) l.items)
+inside names p (frames.List l) =
+    in_list p l.at (shape_of l.shape) (map (written_form names) l.items)
 inside names p (frames.Dotted l) =
-    after_point p l.at (shape_of l.shape) (map (written names) l.items) l.point
+    after_point p l.at (shape_of l.shape) (map (written_form names) l.items) l.point
 inside names p (frames.Prefix at q) = after_prefix p at (prefix_of q)
 
 -- the place inside all frames, of which the last is the innermost
 abbrev pub place : Table → stacks.Enclosing → Place Written
-place names o = fold (inside names) (top (map (written names) o.top)) o.frames.items
+place names o = fold (inside names) (top (map (written_form names) o.top)) o.frames.items
 
 -- a list with these elements, of which there is one, whose last datum is there
 abbrev pub ended_at : Place Written → ℕ → Shape → List Written → ℕ → Written → Enclosing Written
@@ -43,8 +44,9 @@ ended_at p at s (e ∷ ds) point d = ended p at s e ds point d
 abbrev pub ended_in : Table → Place Written → Option Ended → Enclosing Written
 ended_in names p None = awaiting p
 ended_in names p (Some e) =
-    ended_at p e.list.at (shape_of e.list.shape) (map (written names) e.list.items) e.list.point
-    (written names e.last)
+    ended_at p e.list.at (shape_of e.list.shape)
+        (map (written_form names) e.list.items) e.list.point
+    (written_form names e.last)
 
 -- what is open
 abbrev pub enclosing_of : Table → stacks.Enclosing → Enclosing Written

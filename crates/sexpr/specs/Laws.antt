@@ -12,7 +12,7 @@ use Rattle.kan_grammar.specs.Texts.Reply.{Reply, reply, reply_to_data}
 use Rattle.sexpr.specs.declared.data.ReadError.{ReadError}
 use Rattle.sexpr.specs.declared.data.ReadError.TheVariants.{Fault, Memory}
 use Rattle.kan_grammar.specs.Data.Builds.{build_datum, map_reading}
-use Rattle.sexpr.specs.Seen.{written, as_kept}
+use Rattle.sexpr.specs.WrittenForms.{written_form, as_kept}
 use Rattle.kan_terms.specs.Table.{Table}
 use Rattle.sexpr.specs.Reads.{Reads}
 use Rattle.sexpr.specs.declared.data.Datum.{Datum}
@@ -20,7 +20,7 @@ use Rattle.sexpr.specs.declared.data.Datum.{Datum}
 -- a reply is that to the data that were read, or to the fault; want of memory says nothing of it
 abbrev pub IsReply : Reply → Dialect → Table → List Written → Result (List Datum) ReadError → Type 0
 IsReply r dialect table library (Ok ds) =
-    r ≡ reply_to_data dialect table library (map (written table) ds)
+    r ≡ reply_to_data dialect table library (map (written_form table) ds)
 IsReply r dialect table library (Err (Fault at number)) = r ≡ Reply.refusal (fault at number)
 IsReply r dialect table library (Err Memory) = Unit {0}
 
@@ -48,7 +48,7 @@ RepliesAsRead =
     (answer : Result (List Datum) ReadError) →
     Reads library (text_table library text) (Ok ls) → Reads text (text_table library text) answer →
     IsReply (reply library text dialect) dialect (text_table library text)
-    (map (written (text_table library text)) ls) answer
+    (map (written_form (text_table library text)) ls) answer
 
 -- each atom in a datum, and in what stands in a list, is one that a datum may be
 abbrev mutual
@@ -71,4 +71,4 @@ are_named (d ∷ ds) = is_named d && are_named ds
 abbrev pub ReadsNamed : Type 0
 ReadsNamed =
     (bytes : List ℕ) (names : Table) (ds : List Datum) → Reads bytes names (Ok ds) →
-    IsTrue (are_named (map (written names) ds))
+    IsTrue (are_named (map (written_form names) ds))

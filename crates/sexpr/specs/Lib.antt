@@ -1,7 +1,7 @@
 pub mod Meaning
 pub mod Pieces
 pub mod Strings
-pub mod Seen
+pub mod WrittenForms
 pub mod Reads
 pub mod Frames
 pub mod Printing

@@ -6,7 +6,7 @@ use Rattle.kan_model.specs.Answers.Text.{in_quotes, print_rest}
 use Rattle.kan_grammar.specs.Data.Written.{Written, Within, single, list, prefixed, close, dotted}
 use Rattle.kan_grammar.specs.Data.Written.{element}
 use Rattle.kan_grammar.specs.Data.Printed.{Named, label_text, named_text, pairs, pairs_within}
-use Rattle.sexpr.specs.Seen.{inner_of, written}
+use Rattle.sexpr.specs.WrittenForms.{inner_of, written_form}
 use Rattle.kan_terms.specs.Table.{Table, no_names}
 use Rattle.sexpr.specs.declared.data.Datum.{Datum}
 use Rattle.sexpr.specs.declared.printer.Work.{Work}
@@ -24,13 +24,14 @@ rest_text t = print_rest label_text no_names t
 -- what elements and a datum after a dot stand for
 abbrev pub within : Table → Bor (List Datum) → Option (Bor Datum) → Within
 within names items last =
-    inner_of (map (written names) items.now) (option_map (written names) (option_copied last))
+    inner_of (map (written_form names) items.now)
+        (option_map (written_form names) (option_copied last))
 
 -- the text of a piece of work
 abbrev pub work_text : Table → Work → List ℕ
-work_text names (works.Datum d) = named_text (pairs (written names d.now))
+work_text names (works.Datum d) = named_text (pairs (written_form names d.now))
 work_text names (works.Rest items last) = rest_text (pairs_within (within names items last))
-work_text names (works.Tail d) = rest_text (pairs (written names d.now))
+work_text names (works.Tail d) = rest_text (pairs (written_form names d.now))
 work_text names works.Close = 41 ∷ []
 
 -- the text of work on a stack, the top first
@@ -52,9 +53,9 @@ abbrev mutual
 
 -- how much a piece of work takes
 abbrev pub work_cost : Table → Work → ℕ
-work_cost names (works.Datum d) = cost (written names d.now)
+work_cost names (works.Datum d) = cost (written_form names d.now)
 work_cost names (works.Rest items last) = 1 + cost_within (within names items last)
-work_cost names (works.Tail d) = 2 + cost (written names d.now)
+work_cost names (works.Tail d) = 2 + cost (written_form names d.now)
 work_cost names works.Close = 1
 
 -- how much work on a stack takes

@@ -7,7 +7,7 @@ use Rattle.kan_grammar.specs.Data.Faults.{fault, Reading, read_text, data_are, r
 use Rattle.kan_grammar.specs.Data.Faults.{finish}
 use Rattle.kan_grammar.specs.Data.Written.{Written}
 use Rattle.kan_grammar.specs.Texts.TextNames.{GoesOn, with_token}
-use Rattle.sexpr.specs.Seen.{written, as_kept}
+use Rattle.sexpr.specs.WrittenForms.{written_form, as_kept}
 use Rattle.sexpr.specs.Frames.{enclosing_of}
 use Rattle.sexpr.specs.declared.data.Datum.{Datum}
 use Rattle.sexpr.specs.declared.data.ReadError.{ReadError}
@@ -21,7 +21,7 @@ memory_wanted = Memory
 -- a reading comes to these data, under names, or to this first fault; want of memory says nothing
 -- of it
 abbrev pub Answers : Table → Reading Written → Result (List Datum) ReadError → Type 0
-Answers names reading (Ok ds) = reading ≡ data_are (map (written names) ds)
+Answers names reading (Ok ds) = reading ≡ data_are (map (written_form names) ds)
 Answers names reading (Err (Fault at number)) = reading ≡ refused (fault at number)
 Answers names reading (Err Memory) = Unit {0}
 

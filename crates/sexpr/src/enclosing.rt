@@ -9,7 +9,7 @@ ghost use Rattle.kan_grammar.specs.Data.Written.{is_allowed_atom, single};
 ghost use Rattle.kan_grammar.specs.Data.Enclosing.{top, in_list, awaiting, put};
 ghost use Rattle.kan_grammar.specs.Data.Faults.{refusal, begins, is_shape, fault, answer_at_end};
 ghost use Rattle.sexpr.specs.Meaning.{shape_of, prefix_of};
-ghost use Rattle.sexpr.specs.Seen.{list_of, written, as_kept};
+ghost use Rattle.sexpr.specs.WrittenForms.{list_of, written_form, as_kept};
 ghost use Rattle.kan_terms.specs.Table.{Table};
 ghost use Rattle.sexpr.specs.Reads.{Answers, memory_wanted};
 ghost use Rattle.sexpr.specs.Frames.{HasDepth, Refuses, RefusesToken, Takes, depth_inside, inside};
@@ -103,7 +103,7 @@ impl Enclosing {
     pub(crate) fn take_single(&mut self, at: u32, kind: DatumKind) -> Result<(), ReadError>
         requires { HasDepth self.old }
         ensures taken { OnOk result ((names : Table) (a : Atom) → is_allowed_atom a ≡ true
-            → written names (record { at = at; kind = kind }) ≡ single at a
+            → written_form names (record { at = at; kind = kind }) ≡ single at a
             → Takes names self.old self.new at (atom a)) }
         ensures refused { IfErr result (λ e. (a : Atom) → RefusesToken e self.old at (atom a)) }
         ensures depth { OnOk result (HasDepth self.new) }
@@ -201,7 +201,7 @@ impl Enclosing {
             (is_shape (Some (shape_of list.shape)) (shape_of shape) ≡ true) }
         ensures around { OnOk result ((names : Table) → enclosing_of names self.new
             ≡ put as_kept (place names self.old)
-            (list_of list.at (map (written names) list.items) None)) }
+            (list_of list.at (map (written_form names) list.items) None)) }
         ensures refused { IfErr result (λ e.
             Refuses e (if is_shape (Some (shape_of list.shape)) (shape_of shape)
             then None else Some (fault at 3))) }
@@ -224,8 +224,8 @@ impl Enclosing {
             (is_shape (Some (shape_of ended.list.shape)) (shape_of shape) ≡ true) }
         ensures around { OnOk result ((names : Table) → enclosing_of names self.new
             ≡ put as_kept (place names self.old)
-            (list_of ended.list.at (map (written names) ended.list.items)
-            (Some (written names ended.last)))) }
+            (list_of ended.list.at (map (written_form names) ended.list.items)
+            (Some (written_form names ended.last)))) }
         ensures refused { IfErr result (λ e.
             Refuses e (if is_shape (Some (shape_of ended.list.shape)) (shape_of shape)
             then None else Some (fault at 3))) }
@@ -263,7 +263,7 @@ impl Enclosing {
         requires place { self.old.ended ≡ None }
         ensures around { OnOk result ((names : Table) →
             enclosing_of names self.new
-            ≡ put as_kept (place names self.old) (written names datum)) }
+            ≡ put as_kept (place names self.old) (written_form names datum)) }
         ensures refused { IfErr result (λ e. e ≡ memory_wanted) }
         ensures depth { OnOk result (HasDepth self.new) }
     {
@@ -297,7 +297,7 @@ impl Enclosing {
         requires place { self.old.ended ≡ None }
         ensures around { OnOk result ((names : Table) → enclosing_of names self.new
             ≡ awaiting (in_list (place names self.old) list.at (shape_of list.shape)
-            (map (written names) list.items ++ written names datum ∷ []))) }
+            (map (written_form names) list.items ++ written_form names datum ∷ []))) }
         ensures refused { IfErr result (λ e. e ≡ memory_wanted) }
         ensures depth { OnOk result (HasDepth self.new) }
     {
@@ -315,7 +315,7 @@ impl Enclosing {
         requires room { self.old.depth < 2050 }
         ensures around { (names : Table) → enclosing_of names self.new
             ≡ put as_kept (inside names (place names self.old) (Frame.Dotted list))
-            (written names last) }
+            (written_form names last) }
         ensures depth { HasDepth self.new }
     {
         self.depth -= list.items.len();

@@ -5,7 +5,7 @@ ghost use Rattle.std.specs.Option.{option_copied};
 ghost use Rattle.kan_grammar.specs.Data.Printed.{datum_text, named_text, pairs, pairs_within};
 ghost use Rattle.kan_grammar.specs.Data.Printed.{prefix_name};
 ghost use Rattle.sexpr.specs.Meaning.{prefix_of};
-ghost use Rattle.sexpr.specs.Seen.{written};
+ghost use Rattle.sexpr.specs.WrittenForms.{written_form};
 ghost use Rattle.kan_terms.specs.Table.{name_of};
 ghost use Rattle.kan_model.specs.Answers.Decimals.{number_text};
 ghost use Rattle.kan_model.specs.Answers.Text.{truth_text};
@@ -36,7 +36,7 @@ pub(crate) enum Work<'a> {
 /// and prefixes written out as lists. A symbol without a name prints as nothing, and so does a
 /// string without a text.
 pub fn print(alloc: Global, datum: &Datum, names: &Names) -> Result<Vec<u8>, Memory>
-    ensures { IfOk result (λ text. text.items ≡ datum_text (written names.now datum.now)) }
+    ensures { IfOk result (λ text. text.items ≡ datum_text (written_form names.now datum.now)) }
 {
     let mut text = String::new(alloc);
     let mut works = Vec::new(alloc);
@@ -225,8 +225,8 @@ fn print_last<'a>(
     text: &mut String,
     works: &mut Vec<Work<'a>>,
 ) -> Result<(), Memory>
-    requires { rest_text (pairs (written names.now datum.now))
-        ≡ codes " . " ++ named_text (pairs (written names.now datum.now)) }
+    requires { rest_text (pairs (written_form names.now datum.now))
+        ≡ codes " . " ++ named_text (pairs (written_form names.now datum.now)) }
     ensures printed { OnOk result (Prints names.now
         (string_bytes text.old) (string_bytes text.new) works.old.items works.new.items
         (work_text names.now (work_variants.Tail datum.entry))) }

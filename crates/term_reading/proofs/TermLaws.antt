@@ -84,15 +84,15 @@ elements_open table n (x ∷ xs) more ok whole fine =
     ap opens (append_assoc (element_text table x) behind more) ∙ element_opens table x (behind ++ more) ok (and_parts (is_fine table x) (list_all (is_fine table) xs) fine).0
 
 -- how many terms are wanted
-abbrev pub wanted : Bool → ℕ → ℕ
-wanted element n = if element then suc n else n
+abbrev pub terms_wanted : Bool → ℕ → ℕ
+terms_wanted element n = if element then suc n else n
 
 -- what was read is the front of each term whose text these bytes begin with, and what is left is the text of the rest
 abbrev pub LeftTerm : Table → List ℕ → List Shape → Bool → ℕ → List ℕ → Type 0
 LeftTerm new start made element n rest =
     (table : Table) → Continues new table → (xs : List Shape) (more : List ℕ) → spells 1 xs ≡ true → list_all (is_fine table) xs ≡ true → ends more ≡ true →
     start ≡ text_from table true 0 xs ++ more →
-    (left : List Shape) × (xs ≡ made ++ left) × (spells (wanted element n) left ≡ true) × (list_all (is_fine table) left ≡ true) × (rest ≡ text_from table element n left ++ more)
+    (left : List Shape) × (xs ≡ made ++ left) × (spells (terms_wanted element n) left ≡ true) × (list_all (is_fine table) left ≡ true) × (rest ≡ text_from table element n left ++ more)
 
 pub term_begun : (new : Table) (start : List ℕ) → LeftTerm new start [] true 0 start
 term_begun new start table on xs more whole fine over is = (xs, refl, whole, fine, is)
@@ -101,7 +101,7 @@ pub continues_back : (old new table : Table) → GoesOn old new → Continues ne
 continues_back old new table goes on = record { goes_on = goes_on_further old new table goes on.goes_on; spelled = on.spelled }
 
 -- how many terms are wanted behind a shape
-element_next : (n : ℕ) (x : Shape) (xs : List Shape) → spells (suc n) (x ∷ xs) ≡ true → spells (wanted (is_pair x) (next_open n true (is_pair x))) xs ≡ true
+element_next : (n : ℕ) (x : Shape) (xs : List Shape) → spells (suc n) (x ∷ xs) ≡ true → spells (terms_wanted (is_pair x) (next_open n true (is_pair x))) xs ≡ true
 element_next n Pair xs whole = whole
 element_next n (Name m) xs whole = whole
 element_next n (Sym s) xs whole = whole
@@ -114,7 +114,7 @@ pub less_is : (n : ℕ) → 0 < n → n - 1 ≡ one_less n
 less_is zero some = absurd (let none : ⊥ = omega (arith, some) in none)
 less_is (suc n) some = omega arith
 
-rest_next : (n : ℕ) (x : Shape) (xs : List Shape) → spells (suc n) (x ∷ xs) ≡ true → spells (wanted (is_pair x) (next_open (suc n) false (is_pair x))) xs ≡ true
+rest_next : (n : ℕ) (x : Shape) (xs : List Shape) → spells (suc n) (x ∷ xs) ≡ true → spells (terms_wanted (is_pair x) (next_open (suc n) false (is_pair x))) xs ≡ true
 rest_next n Pair xs whole = whole
 rest_next n (Name m) xs whole = whole
 rest_next n (Sym s) xs whole = whole
@@ -153,21 +153,21 @@ term_goes_on old new start rest left made grown element pair lists next shape so
     by element lists some got counts h.0 h.1 h.2 h.3 h.4
   where
     Goal : Type 0
-    Goal = (ls : List Shape) × (xs ≡ grown ++ ls) × (spells (wanted pair next) ls ≡ true) × (list_all (is_fine table) ls ≡ true) × (left ≡ text_from table pair next ls ++ more)
+    Goal = (ls : List Shape) × (xs ≡ grown ++ ls) × (spells (terms_wanted pair next) ls ≡ true) × (list_all (is_fine table) ls ≡ true) × (left ≡ text_from table pair next ls ++ more)
 
     finish : (e : Bool) (n : ℕ) (x : Shape) (ls : List Shape) → next ≡ next_open n e pair → shape ≡ x → xs ≡ made ++ x ∷ ls → list_all (is_fine table) ls ≡ true →
-        spells (wanted (is_pair x) (next_open n e (is_pair x))) ls ≡ true → left ≡ text_from table (is_pair x) (next_open n e (is_pair x)) ls ++ more → Goal
+        spells (terms_wanted (is_pair x) (next_open n e (is_pair x))) ls ≡ true → left ≡ text_from table (is_pair x) (next_open n e (is_pair x)) ls ++ more → Goal
     finish e n x ls c same p f w l =
         let which : pair ≡ is_pair x = tells ∙ ap is_pair same in
         let many : next ≡ next_open n e (is_pair x) = c ∙ ap (next_open n e) which in (
           ls,
           p ∙ sym (append_assoc made (x ∷ []) ls) ∙ ap (λ l. l ++ ls) (sym (add ∙ ap (λ y. made ++ y ∷ []) same)),
-          ap₂ (λ b k. spells (wanted b k) ls) which many ∙ w,
+          ap₂ (λ b k. spells (terms_wanted b k) ls) which many ∙ w,
           f,
           l ∙ ap₂ (λ b k. text_from table b k ls ++ more) (sym which) (sym many),
         )
 
-    by : (e : Bool) (n : ℕ) → (e ≡ false → 0 < n) → GetsShape new e rest shape left → next ≡ next_open n e pair → (ls : List Shape) → xs ≡ made ++ ls → spells (wanted e n) ls ≡ true → list_all (is_fine table) ls ≡ true →
+    by : (e : Bool) (n : ℕ) → (e ≡ false → 0 < n) → GetsShape new e rest shape left → next ≡ next_open n e pair → (ls : List Shape) → xs ≡ made ++ ls → spells (terms_wanted e n) ls ≡ true → list_all (is_fine table) ls ≡ true →
         rest ≡ text_from table e n ls ++ more → Goal
     by true n s g c [] p w f r = absurd (true≢false (sym w))
     by true n s g c (x ∷ ls) p w f r =
@@ -214,7 +214,7 @@ term_ends new start made element n rest held ended table on xs more whole fine o
     short [] u some none e = omega (arith, some)
     short (b ∷ bs) u some none e = omega (arith, none, ap length e)
 
-    by : (e : Bool) (k : ℕ) → ((e ≡ true → ⊥) × (k ≡ 0)) ⊎ (length rest ≡ 0) → (ls : List Shape) → xs ≡ made ++ ls → spells (wanted e k) ls ≡ true → list_all (is_fine table) ls ≡ true → rest ≡ text_from table e k ls ++ more → (made ≡ xs) × (rest ≡ more)
+    by : (e : Bool) (k : ℕ) → ((e ≡ true → ⊥) × (k ≡ 0)) ⊎ (length rest ≡ 0) → (ls : List Shape) → xs ≡ made ++ ls → spells (terms_wanted e k) ls ≡ true → list_all (is_fine table) ls ≡ true → rest ≡ text_from table e k ls ++ more → (made ≡ xs) × (rest ≡ more)
     by false zero done [] p w f r = (sym (p ∙ append-nil made), r)
     by false zero done (x ∷ ls) p w f r = absurd (true≢false (sym w))
     by false (suc k) (inl d) ls p w f r = absurd (let none : ⊥ = omega (arith, d.1) in none)

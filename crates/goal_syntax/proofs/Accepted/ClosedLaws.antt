@@ -21,7 +21,7 @@ use Rattle.kan_grammar.specs.Texts.ProgramText.{slot_list, relations_in, queries
 use Rattle.kan_grammar.specs.Texts.TextFaults.{again_faults, goals_faults, form_faults, forms_faults, faults_of}
 use Rattle.goal_syntax.proofs.Accepted.InScopeLaws.{none_parts, both_none, conjunction_in_scope, suspended_in_scope, goals_below, within_length}
 use Rattle.goal_syntax.proofs.Accepted.CallsLaws.{TakeAs, conjunction_there, suspended_there, goals_there, goals_more}
-use Rattle.goal_syntax.proofs.Accepted.DefinedLaws.{worded, relation_params, defined_params, forms_define}
+use Rattle.goal_syntax.proofs.Accepted.DefinedLaws.{form_of_word, relation_params, defined_params, forms_define}
 
 -- what a relation's form has no faults in
 relation_parts : (t : Table) (ds before : List Defined) (name : Option NameAt) (params : Checked (List ℕ)) (gs : GoalForms) →
@@ -106,7 +106,7 @@ relation_asks_one t at (Sited.bool a b) = tt
 relation_asks_one t at (Sited.nil a) = tt
 relation_asks_one t at (Sited.pair a hd goals) = either_asks_one (is_proper goals) (relation (head_name hd) (head t hd) (goal_forms t goals)) (misshapen at) tt tt
 
-word_asks_one : (t : Table) (at : ℕ) (parts : Sited) (w : Word) → AsksOne (worded t at parts w)
+word_asks_one : (t : Table) (at : ℕ) (parts : Sited) (w : Word) → AsksOne (form_of_word t at parts w)
 word_asks_one t at parts Word.defrel = relation_asks_one t at parts
 word_asks_one t at parts Word.run = limited_asks_one t at parts
 word_asks_one t at parts Word.run_all = run_asks_one t at no_limit parts

@@ -117,11 +117,11 @@ limited_defines dialect rs t at (Sited.nil a) = refl
 limited_defines dialect rs t at (Sited.pair a l parts) = run_defines dialect rs t at (limit l) parts
 
 -- a form behind a word
-abbrev pub worded : Table → ℕ → Sited → Word → Form
-worded t at parts w = elim w [ Word.defrel ↦ relation_form t at parts | Word.run ↦ limited_form t at parts | Word.run_all ↦ run_form t at no_limit parts | _ ↦ unknown at ]
+abbrev pub form_of_word : Table → ℕ → Sited → Word → Form
+form_of_word t at parts w = elim w [ Word.defrel ↦ relation_form t at parts | Word.run ↦ limited_form t at parts | Word.run_all ↦ run_form t at no_limit parts | _ ↦ unknown at ]
 
 -- a form whose parts define no relation behind defrel
-word_defines : (dialect : Dialect) (rs : List Defined) (t : Table) (at : ℕ) (parts : Sited) (w : Word) → relations_in dialect rs (relation_form t at parts) ≡ [] → relations_in dialect rs (worded t at parts w) ≡ []
+word_defines : (dialect : Dialect) (rs : List Defined) (t : Table) (at : ℕ) (parts : Sited) (w : Word) → relations_in dialect rs (relation_form t at parts) ≡ [] → relations_in dialect rs (form_of_word t at parts w) ≡ []
 word_defines dialect rs t at parts Word.defrel h = h
 word_defines dialect rs t at parts Word.run h = limited_defines dialect rs t at parts
 word_defines dialect rs t at parts Word.run_all h = run_defines dialect rs t at no_limit parts
@@ -149,8 +149,8 @@ form_defines dialect t ds before rs (Sited.pair at w (Sited.pair a hd goals)) h 
         let both = none_parts (again_faults t before (head_name hd)) (head t hd).faults front.0 in
         sym (head_defines t before hd both.0 both.1)
 
-    by_word : (v : Word) → form_faults t ds before (worded t at (Sited.pair a hd goals) v) ≡ [] →
-        relation_params (relations_in dialect rs (worded t at (Sited.pair a hd goals) v)) ≡ defined_params (elim v as (λ x. List Defined) [ Word.defrel ↦ definitions_of_head t (elements hd) | _ ↦ [] ])
+    by_word : (v : Word) → form_faults t ds before (form_of_word t at (Sited.pair a hd goals) v) ≡ [] →
+        relation_params (relations_in dialect rs (form_of_word t at (Sited.pair a hd goals) v)) ≡ defined_params (elim v as (λ x. List Defined) [ Word.defrel ↦ definitions_of_head t (elements hd) | _ ↦ [] ])
     by_word Word.defrel e = by_goals (is_proper goals) e
     by_word Word.run e = ap relation_params (run_defines dialect rs t at (limit hd) goals)
     by_word Word.run_all e = ap relation_params (run_defines dialect rs t at no_limit (Sited.pair a hd goals))

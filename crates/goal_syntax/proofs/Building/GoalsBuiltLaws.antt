@@ -10,8 +10,8 @@ use Rattle.kan_model.specs.Programs.Calls.{call_there}
 use Rattle.kan_model.specs.Programs.Tables.{Tables, GoalEntry, RelationEntry, goal_at, goals_of, is_goal_grown}
 use Rattle.goal_syntax.specs.Building.GrownTables.{HasGoal, Grows}
 use Rattle.goal_syntax.specs.Building.CallsThere.{calls_named, are_there}
-use Rattle.goal_syntax.specs.Building.GoalsBuilt.{Built, built, entry_goal, with_entry, with_goal, with_maybe, Stands, StandsFor}
-use Rattle.goal_syntax.specs.Building.GoalsLeft.{both_of, empty_entry, join_entry, joined, row_goal}
+use Rattle.goal_syntax.specs.Building.GoalsBuilt.{Built, stack_goals, entry_goal, with_entry, with_goal, with_maybe, Stands, StandsFor}
+use Rattle.goal_syntax.specs.Building.GoalsLeft.{both_of, empty_entry, join_entry, with_last_joined, row_goal}
 use Rattle.goal_syntax.specs.declared.join_goal.Row.{Row}
 use Rattle.goal_syntax.specs.declared.join_goal.Row.TheVariants as rows
 use Rattle.goal_forms.specs.Places.{are_below}
@@ -45,7 +45,7 @@ abbrev pub built_from : List Goal → (List RelationEntry → Bool) → Built
 built_from gs called = record { made = gs; called = called }
 
 -- what was built stays as it is in tables that grew
-pub built_kept : (ts us : Tables) (ps : List ℕ) → Grows ts us → us.goals ≡ ts.goals → are_below (length ts.goals) ps ≡ true → built us ps ≡ built ts ps
+pub built_kept : (ts us : Tables) (ps : List ℕ) → Grows ts us → us.goals ≡ ts.goals → are_below (length ts.goals) ps ≡ true → stack_goals us ps ≡ stack_goals ts ps
 built_kept ts us ps grows same below =
     let goals = goals_kept ts us (reverse ps) grows (below_top (length ts.goals) ps below) in
     λ i. built_from (goals i) (λ rows. are_there rows (same i))
@@ -53,7 +53,7 @@ built_kept ts us ps grows same below =
 -- the goal of an entry that is added comes on top
 pub made_top : (ts us : Tables) (ps qs : List ℕ) (at : ℕ) (e : GoalEntry) → are_below (length ts.goals) ps ≡ true → Grows ts us →
     HasGoal us at (entry_goal ts e) →
-    ((rows : List RelationEntry) → are_there rows us.goals ≡ (are_there rows ts.goals && call_there rows e)) → qs ≡ ps ++ at ∷ [] → built us qs ≡ with_entry ts e (built ts ps)
+    ((rows : List RelationEntry) → are_there rows us.goals ≡ (are_there rows ts.goals && call_there rows e)) → qs ≡ ps ++ at ∷ [] → stack_goals us qs ≡ with_entry ts e (stack_goals ts ps)
 made_top ts us ps qs at e below grows added called pushed =
     let top : reverse qs ≡ at ∷ reverse ps = ap reverse pushed ∙ reverse-append ps (at ∷ []) in
     let goals = ap (map (goal_at (goals_of us))) top ∙ ap₂ (λ x xs. x ∷ xs) added.is (goals_kept ts us (reverse ps) grows (below_top (length ts.goals) ps below)) in
@@ -95,7 +95,7 @@ join_grown ts rows.One g h e is first second = ap (is_goal_grown ts (length ts.g
 join_grown ts rows.Clauses g h e is first second = ap (is_goal_grown ts (length ts.goals)) is ∙ and_from _ _ (lt-ltb g (length ts.goals) first) (lt-ltb h (length ts.goals) second)
 
 -- the one goal that is left is that of all
-pub goal_made : (ts us : Tables) (ps popped : List ℕ) (at : ℕ) (g : Goal) → ps ≡ popped ++ at ∷ [] → are_below (length us.goals) ps ≡ true → built us ps ≡ with_goal g (built ts []) → HasGoal us at g
+pub goal_made : (ts us : Tables) (ps popped : List ℕ) (at : ℕ) (g : Goal) → ps ≡ popped ++ at ∷ [] → are_below (length us.goals) ps ≡ true → stack_goals us ps ≡ with_goal g (stack_goals ts []) → HasGoal us at g
 goal_made ts us ps popped at g split below made =
     let top : reverse ps ≡ at ∷ reverse popped = ap reverse split ∙ reverse-append popped (at ∷ []) in
     let all : map (goal_at (goals_of us)) (reverse ps) ≡ g ∷ [] = ap (λ (b : Built). b.made) made in
@@ -108,7 +108,7 @@ goal_made ts us ps popped at g split below made =
     first_of z [] = z
     first_of z (x ∷ xs) = x
 
-pub goal_called : (ts us : Tables) (ps : List ℕ) (g : Goal) → built us ps ≡ with_goal g (built ts []) → (rows : List RelationEntry) → are_there rows us.goals ≡ (are_there rows ts.goals && calls_named rows g)
+pub goal_called : (ts us : Tables) (ps : List ℕ) (g : Goal) → stack_goals us ps ≡ with_goal g (stack_goals ts []) → (rows : List RelationEntry) → are_there rows us.goals ≡ (are_there rows ts.goals && calls_named rows g)
 goal_called ts us ps g made = λ rows. ap (λ (b : Built). b.called rows) made
 
 and_true : (x : Bool) → (x && true) ≡ x
@@ -123,11 +123,11 @@ join_entry_added ts rows.Clauses g h b = λ i. built_from (both_of rows.Clauses 
 
 -- the two goals on top are joined
 pub two_joined : (ts : Tables) (row : Row) (p0 p1 p2 : List ℕ) (g h : ℕ) (e : GoalEntry) (after : Built) → p0 ≡ p1 ++ h ∷ [] → p1 ≡ p2 ++ g ∷ [] → e ≡ join_entry row g h →
-    after ≡ with_entry ts e (built ts p2) → after ≡ joined row (built ts p0)
+    after ≡ with_entry ts e (stack_goals ts p2) → after ≡ with_last_joined row (stack_goals ts p0)
 two_joined ts row p0 p1 p2 g h e after top next is added =
     let all : reverse p0 ≡ h ∷ g ∷ reverse p2 = ap reverse top ∙ reverse-append p1 (h ∷ []) ∙ ap (λ l. h ∷ l) (ap reverse next ∙ reverse-append p2 (g ∷ [])) in
-    added ∙ ap (λ x. with_entry ts x (built ts p2)) is ∙ join_entry_added ts row g h (built ts p2)
-    ∙ sym (ap (λ l. joined row (built_from (map (goal_at (goals_of ts)) l) (λ entries. are_there entries ts.goals))) all)
+    added ∙ ap (λ x. with_entry ts x (stack_goals ts p2)) is ∙ join_entry_added ts row g h (stack_goals ts p2)
+    ∙ sym (ap (λ l. with_last_joined row (built_from (map (goal_at (goals_of ts)) l) (λ entries. are_there entries ts.goals))) all)
 
 -- the goal of an empty row
 pub empty_stands : (ts : Tables) (row : Row) → Stands ts (empty_entry row) (row_goal row [])
@@ -136,6 +136,6 @@ empty_stands ts rows.One = record { grown = refl; is = refl; called = λ entries
 empty_stands ts rows.Clauses = record { grown = refl; is = refl; called = λ entries. refl }
 
 -- a goal that was built has its place on the stack
-pub goal_left : (ts us : Tables) (ps : List ℕ) (g : Goal) → built us ps ≡ with_goal g (built ts []) → length ps ≡ 0 → ⊥
+pub goal_left : (ts us : Tables) (ps : List ℕ) (g : Goal) → stack_goals us ps ≡ with_goal g (stack_goals ts []) → length ps ≡ 0 → ⊥
 goal_left ts us [] g made none = let all : [] ≡ g ∷ [] = ap (λ (b : Built). b.made) made in cc
 goal_left ts us (p ∷ ps) g made none = omega (arith, none)

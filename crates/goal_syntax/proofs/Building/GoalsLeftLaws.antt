@@ -18,7 +18,7 @@ use Rattle.goal_forms.specs.GoalSteps.{inner_names}
 use Rattle.goal_syntax.specs.Building.GoalsBuilt.{Built, with_goal, with_maybe, own_goal}
 use Rattle.goal_forms.specs.Shapes.{parts}
 use Rattle.goal_syntax.specs.Building.CallsThere.{calls_named}
-use Rattle.goal_syntax.specs.Building.GoalsLeft.{both_of, suspended, finish, first_form, first_work, inner_works, joined, other_works, row_forms, row_goal, row_size, work_size, works_size}
+use Rattle.goal_syntax.specs.Building.GoalsLeft.{both_of, with_last_suspended, finish, first_form, first_work, inner_works, with_last_joined, other_works, row_forms, row_goal, row_size, work_size, works_size}
 use Rattle.goal_syntax.proofs.Judging.GoalsLeftLaws.{clauses-none, goals-none, parts-is}
 use Rattle.goal_syntax.proofs.Building.GoalsBuiltLaws.{built_from}
 use Rattle.goal_forms.specs.declared.goal.Goal as opened
@@ -38,7 +38,7 @@ size-push ds [] vs = omega arith
 size-push ds (w ∷ ws) vs = rw (size-push ds ws vs) (omega arith)
 
 -- the goal built last suspends
-suspended-goal : (dialect : Dialect) (g : Goal) (b : Built) → suspended dialect (with_goal g b) ≡ with_goal (suspended_in dialect g) b
+suspended-goal : (dialect : Dialect) (g : Goal) (b : Built) → with_last_suspended dialect (with_goal g b) ≡ with_goal (suspended_in dialect g) b
 suspended-goal Book g b = refl
 suspended-goal All g b = refl
 
@@ -59,7 +59,7 @@ inner-finish dialect rs t ds ns (Fresh p gs) ws b =
     let fresh = Goal.fresh (length bound.value) inner in
     let left = works.Suspend ∷ works.Fresh (length bound.value) ∷ works.Leave (length ns) ∷ works.Row rows.All gs ∷ [] in
     ap (λ l. finish dialect rs t ds (within ns bound.value) l b) (reverse-append ws left)
-    ∙ ap (λ (n : Names). finish dialect rs t ds n (reverse ws) (suspended dialect (with_goal fresh b))) (take-append_seam ns (map (λ s. Some s) bound.value))
+    ∙ ap (λ (n : Names). finish dialect rs t ds n (reverse ws) (with_last_suspended dialect (with_goal fresh b))) (take-append_seam ns (map (λ s. Some s) bound.value))
     ∙ ap (finish dialect rs t ds ns (reverse ws)) (suspended-goal dialect fresh b)
 inner-finish dialect rs t ds ns (AllOf gs) ws b = ap (λ l. finish dialect rs t ds ns l b) (top-push ws (works.Row rows.All gs))
 inner-finish dialect rs t ds ns (OneOf gs) ws b = ap (λ l. finish dialect rs t ds ns l b) (top-push ws (works.Row rows.One gs))
@@ -134,7 +134,7 @@ and-assoc true y z = refl
 and-assoc false y z = refl
 
 -- the goals of a first element and of the others are joined
-joined-goal : (row : Row) (g h : Goal) (b : Built) → joined row (with_goal h (with_goal g b)) ≡ with_goal (both_of row g h) b
+joined-goal : (row : Row) (g h : Goal) (b : Built) → with_last_joined row (with_goal h (with_goal g b)) ≡ with_goal (both_of row g h) b
 joined-goal rows.All g h b = λ i. built_from (Goal.both g h ∷ b.made) (λ rows. and-assoc (b.called rows) (calls_named rows g) (calls_named rows h) i)
 joined-goal rows.One g h b = λ i. built_from (Goal.either g h ∷ b.made) (λ rows. and-assoc (b.called rows) (calls_named rows g) (calls_named rows h) i)
 joined-goal rows.Clauses g h b = λ i. built_from (Goal.either g h ∷ b.made) (λ rows. and-assoc (b.called rows) (calls_named rows g) (calls_named rows h) i)

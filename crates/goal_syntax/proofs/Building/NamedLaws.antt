@@ -21,7 +21,7 @@ use Rattle.goal_syntax.specs.Building.FormsBuilt.{name_symbol}
 use Rattle.goal_syntax.specs.Building.GoalsLeft.{empty_entry, join_entry}
 use Rattle.goal_syntax.specs.declared.join_goal.Row.{Row}
 use Rattle.goal_syntax.specs.declared.join_goal.Row.TheVariants as rows
-use Rattle.goal_syntax.specs.Building.Named.{term_unnamed, goal_unnamed, relation_unnamed, terms_unnamed, goals_unnamed, relations_unnamed, unnamed, tree_unnamed}
+use Rattle.goal_syntax.specs.Building.Named.{term_unnamed, goal_unnamed, relation_unnamed, terms_unnamed, goals_unnamed, relations_unnamed, tables_unnamed, tree_unnamed}
 use Rattle.goal_syntax.specs.Compiling.SymbolNames.{are_named, has_name, has_text, is_term_named, is_goal_named, is_relation_named}
 
 -- one entry more
@@ -37,17 +37,17 @@ relations-push : (names : Table) (es : List RelationEntry) (e : RelationEntry) �
 relations-push names [] e = omega arith
 relations-push names (x ∷ es) e = omega (arith, relations-push names es e)
 
-pub term_named : (names : Table) (ts us : Tables) (e : TermEntry) → us ≡ with_term ts e → unnamed names us ≡ max (unnamed names ts) (term_unnamed names e)
-term_named names ts us e is = ap (unnamed names) is ∙ omega (arith, terms-push names ts.terms e)
+pub term_named : (names : Table) (ts us : Tables) (e : TermEntry) → us ≡ with_term ts e → tables_unnamed names us ≡ max (tables_unnamed names ts) (term_unnamed names e)
+term_named names ts us e is = ap (tables_unnamed names) is ∙ omega (arith, terms-push names ts.terms e)
 
-pub argument_named : (names : Table) (ts us : Tables) (a : ℕ) → us ≡ with_argument ts a → unnamed names us ≡ unnamed names ts
-argument_named names ts us a is = ap (unnamed names) is
+pub argument_named : (names : Table) (ts us : Tables) (a : ℕ) → us ≡ with_argument ts a → tables_unnamed names us ≡ tables_unnamed names ts
+argument_named names ts us a is = ap (tables_unnamed names) is
 
-pub goal_named : (names : Table) (ts us : Tables) (e : GoalEntry) → us ≡ with_goal ts e → unnamed names us ≡ max (unnamed names ts) (goal_unnamed names e)
-goal_named names ts us e is = ap (unnamed names) is ∙ omega (arith, goals-push names ts.goals e)
+pub goal_named : (names : Table) (ts us : Tables) (e : GoalEntry) → us ≡ with_goal ts e → tables_unnamed names us ≡ max (tables_unnamed names ts) (goal_unnamed names e)
+goal_named names ts us e is = ap (tables_unnamed names) is ∙ omega (arith, goals-push names ts.goals e)
 
-pub relation_named : (names : Table) (ts us : Tables) (r : RelationEntry) → us ≡ with_relation ts r → unnamed names us ≡ max (unnamed names ts) (relation_unnamed names r)
-relation_named names ts us r is = ap (unnamed names) is ∙ omega (arith, relations-push names ts.relations r)
+pub relation_named : (names : Table) (ts us : Tables) (r : RelationEntry) → us ≡ with_relation ts r → tables_unnamed names us ≡ max (tables_unnamed names ts) (relation_unnamed names r)
+relation_named names ts us r is = ap (tables_unnamed names) is ∙ omega (arith, relations-push names ts.relations r)
 
 -- a term has names where its datum has
 constant_named : (names : Table) (d : Sited) → tree_unnamed {V = Use} names (constant d) ≡ site_unnamed names d
@@ -206,7 +206,7 @@ relations_are : (n : Table) (es : List RelationEntry) → relations_unnamed n es
 relations_are n [] few = refl
 relations_are n (e ∷ es) few = and_from (is_relation_named n e) (list_all (is_relation_named n) es) (lacks_none (has_name n e.name) (omega (arith, few))) (relations_are n es (omega (arith, few)))
 
-pub all_named : (n : Table) (ts : Tables) → unnamed n ts ≤ 0 → are_named n ts ≡ true
+pub all_named : (n : Table) (ts : Tables) → tables_unnamed n ts ≤ 0 → are_named n ts ≡ true
 all_named n ts few =
     and_from (list_all (is_term_named n) ts.terms && list_all (is_goal_named n) ts.goals) (list_all (is_relation_named n) ts.relations)
     (and_from (list_all (is_term_named n) ts.terms) (list_all (is_goal_named n) ts.goals) (terms_are n ts.terms (omega (arith, few))) (goals_are n ts.goals (omega (arith, few))))

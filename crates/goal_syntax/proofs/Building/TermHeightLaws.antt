@@ -13,7 +13,7 @@ use Rattle.kan_model.specs.Programs.Scope.{height, is_low}
 use Rattle.kan_model.specs.Programs.Tables.{TermEntry, Tables, template_at, template_of, templates_of, with_term}
 use Rattle.kan_grammar.specs.Texts.Resolved.{Names, template_in}
 use Rattle.kan_model.proofs.Programs.TableLaws.{templates-more}
-use Rattle.goal_syntax.specs.Building.TermsLeft.{built, paired, finish}
+use Rattle.goal_syntax.specs.Building.TermsLeft.{stack_templates, pair_of_last_two, finish}
 use Rattle.goal_syntax.specs.Building.GrownTables.{HasTemplate}
 use Rattle.goal_forms.specs.Places.{are_below}
 use Rattle.kan_grammar.specs.Texts.ProgramText.{slot_list}
@@ -53,40 +53,40 @@ pair_parts_low a d h =
 -- the pair of the two templates built last
 pub join_low : (ts us : List Template) (p0 p1 p2 : List ℕ) (a d : ℕ) → p0 ≡ p1 ++ d ∷ [] → p1 ≡ p2 ++ a ∷ [] →
     (is_low (template_of ts (TermEntry.pair a d)) ≡ true → list_all is_low ts ≡ true → list_all is_low us ≡ true) →
-    list_all is_low (paired (built ts p0)) ≡ true → list_all is_low ts ≡ true → list_all is_low us ≡ true
+    list_all is_low (pair_of_last_two (stack_templates ts p0)) ≡ true → list_all is_low ts ≡ true → list_all is_low us ≡ true
 join_low ts us p0 p1 p2 a d top next put low there =
-    let tops : built ts p0 ≡ template_at ts d ∷ template_at ts a ∷ built ts p2 =
-    ap (built ts) top ∙ built-push ts p1 d ∙ ap (λ l. template_at ts d ∷ l) (ap (built ts) next ∙ built-push ts p2 a) in
-    let made : list_all is_low (Tree.pair (template_at ts a) (template_at ts d) ∷ built ts p2) ≡ true = sym (ap (λ l. list_all is_low (paired l)) tops) ∙ low in
-    put (and_parts (is_low (Tree.pair (template_at ts a) (template_at ts d))) (list_all is_low (built ts p2)) made).0 there
+    let tops : stack_templates ts p0 ≡ template_at ts d ∷ template_at ts a ∷ stack_templates ts p2 =
+    ap (stack_templates ts) top ∙ built-push ts p1 d ∙ ap (λ l. template_at ts d ∷ l) (ap (stack_templates ts) next ∙ built-push ts p2 a) in
+    let made : list_all is_low (Tree.pair (template_at ts a) (template_at ts d) ∷ stack_templates ts p2) ≡ true = sym (ap (λ l. list_all is_low (pair_of_last_two l)) tops) ∙ low in
+    put (and_parts (is_low (Tree.pair (template_at ts a) (template_at ts d))) (list_all is_low (stack_templates ts p2)) made).0 there
 
 -- what is built already is low
 pub made_low : (ds : List Sited) (t : Table) (ns : Names) (ws : List Work) (made : List Template) → all_low ds t ns ws made ≡ true → list_all is_low made ≡ true
 made_low ds t ns [] made h = h
 made_low ds t ns (Term task ∷ ws) made h =
     let x = template_in ns (task_form ds t task) in (and_parts (is_low x) (list_all is_low made) (made_low ds t ns ws (x ∷ made) h)).1
-made_low ds t ns (Pair ∷ ws) made h = (and_parts (list_all is_low made) (all_low ds t ns ws (paired made)) h).0
+made_low ds t ns (Pair ∷ ws) made h = (and_parts (list_all is_low made) (all_low ds t ns ws (pair_of_last_two made)) h).0
 
 -- the one built last
 pub top_low : (ds : List Sited) (t : Table) (ns : Names) (ws : List Work) (x : Template) (made : List Template) → all_low ds t ns ws (x ∷ made) ≡ true → is_low x ≡ true
 top_low ds t ns ws x made h = (and_parts (is_low x) (list_all is_low made) (made_low ds t ns ws (x ∷ made) h)).0
 
 -- a template without parts that is put
-pub put_works_low : (ds : List Sited) (t : Table) (ns : Names) (ws : List Work) (ts us : List Template) (p0 p1 : List ℕ) (x y : Template) → built us p1 ≡ x ∷ built ts p0 → x ≡ y →
-    (is_low x ≡ true → list_all is_low ts ≡ true → list_all is_low us ≡ true) → all_low ds t ns ws (y ∷ built ts p0) ≡ true → list_all is_low ts ≡ true → WorksLow ds t ns ws us p1
+pub put_works_low : (ds : List Sited) (t : Table) (ns : Names) (ws : List Work) (ts us : List Template) (p0 p1 : List ℕ) (x y : Template) → stack_templates us p1 ≡ x ∷ stack_templates ts p0 → x ≡ y →
+    (is_low x ≡ true → list_all is_low ts ≡ true → list_all is_low us ≡ true) → all_low ds t ns ws (y ∷ stack_templates ts p0) ≡ true → list_all is_low ts ≡ true → WorksLow ds t ns ws us p1
 put_works_low ds t ns ws ts us p0 p1 x y made same put left there =
-    let all : all_low ds t ns ws (x ∷ built ts p0) ≡ true = ap (λ z. all_low ds t ns ws (z ∷ built ts p0)) same ∙ left in
-    record { left = ap (all_low ds t ns ws) made ∙ all; there = put (top_low ds t ns ws x (built ts p0) all) there }
+    let all : all_low ds t ns ws (x ∷ stack_templates ts p0) ≡ true = ap (λ z. all_low ds t ns ws (z ∷ stack_templates ts p0)) same ∙ left in
+    record { left = ap (all_low ds t ns ws) made ∙ all; there = put (top_low ds t ns ws x (stack_templates ts p0) all) there }
 
 -- a pair as far as its parts
 pub pair_low : (ds : List Sited) (t : Table) (ns : Names) (ws w1 w2 w3 : List Work) (a d : Task) (ts : List Template) (places : List ℕ) → w1 ≡ ws ++ Pair ∷ [] → w2 ≡ w1 ++ Term d ∷ [] → w3 ≡ w2 ++ Term a ∷ [] →
-    all_low ds t ns (reverse ws) (Tree.pair (template_in ns (task_form ds t a)) (template_in ns (task_form ds t d)) ∷ built ts places) ≡ true → list_all is_low ts ≡ true → WorksLow ds t ns (reverse w3) ts places
+    all_low ds t ns (reverse ws) (Tree.pair (template_in ns (task_form ds t a)) (template_in ns (task_form ds t d)) ∷ stack_templates ts places) ≡ true → list_all is_low ts ≡ true → WorksLow ds t ns (reverse w3) ts places
 pair_low ds t ns ws w1 w2 w3 a d ts places e1 e2 e3 all there =
     let top : reverse w3 ≡ Term a ∷ Term d ∷ Pair ∷ reverse ws =
     ap reverse e3 ∙ reverse-append w2 (Term a ∷ []) ∙ ap (λ l. Term a ∷ l) (ap reverse e2 ∙ reverse-append w1 (Term d ∷ []) ∙ ap (λ l. Term d ∷ l) (ap reverse e1 ∙ reverse-append ws (Pair ∷ []))) in
     let x = template_in ns (task_form ds t a) in
     let y = template_in ns (task_form ds t d) in
-    let made = built ts places in
+    let made = stack_templates ts places in
     let both = and_parts (is_low (Tree.pair x y)) (list_all is_low made) (made_low ds t ns (reverse ws) (Tree.pair x y ∷ made) all) in
     let parts_low = pair_parts_low x y both.0 in
     record {
@@ -97,18 +97,18 @@ pair_low ds t ns ws w1 w2 w3 a d ts places e1 e2 e3 all there =
     }
 
 pub same_low : (ds : List Sited) (t : Table) (ns : Names) (ws w1 : List Work) (a : Task) (ts : List Template) (places : List ℕ) → w1 ≡ ws ++ Term a ∷ [] →
-    all_low ds t ns (reverse ws) (template_in ns (task_form ds t a) ∷ built ts places) ≡ true → list_all is_low ts ≡ true → WorksLow ds t ns (reverse w1) ts places
+    all_low ds t ns (reverse ws) (template_in ns (task_form ds t a) ∷ stack_templates ts places) ≡ true → list_all is_low ts ≡ true → WorksLow ds t ns (reverse w1) ts places
 same_low ds t ns ws w1 a ts places e all there = record {
-  left = ap (λ l. all_low ds t ns l (built ts places)) (ap reverse e ∙ reverse-append ws (Term a ∷ [])) ∙ all;
+  left = ap (λ l. all_low ds t ns l (stack_templates ts places)) (ap reverse e ∙ reverse-append ws (Term a ∷ [])) ∙ all;
   there = there;
 }
 
 -- what was joined
-pub joined_low : (ds : List Sited) (t : Table) (ns : Names) (ws : List Work) (ts us : List Template) (p0 p1 : List ℕ) → built us p1 ≡ paired (built ts p0) →
-    (list_all is_low (paired (built ts p0)) ≡ true → list_all is_low ts ≡ true → list_all is_low us ≡ true) → WorksLow ds t ns (Pair ∷ ws) ts p0 → WorksLow ds t ns ws us p1
+pub joined_low : (ds : List Sited) (t : Table) (ns : Names) (ws : List Work) (ts us : List Template) (p0 p1 : List ℕ) → stack_templates us p1 ≡ pair_of_last_two (stack_templates ts p0) →
+    (list_all is_low (pair_of_last_two (stack_templates ts p0)) ≡ true → list_all is_low ts ≡ true → list_all is_low us ≡ true) → WorksLow ds t ns (Pair ∷ ws) ts p0 → WorksLow ds t ns ws us p1
 joined_low ds t ns ws ts us p0 p1 made low works =
-    let all = (and_parts (list_all is_low (built ts p0)) (all_low ds t ns ws (paired (built ts p0))) works.left).1 in
-    record { left = ap (all_low ds t ns ws) made ∙ all; there = low (made_low ds t ns ws (paired (built ts p0)) all) works.there }
+    let all = (and_parts (list_all is_low (stack_templates ts p0)) (all_low ds t ns ws (pair_of_last_two (stack_templates ts p0))) works.left).1 in
+    record { left = ap (all_low ds t ns ws) made ∙ all; there = low (made_low ds t ns ws (pair_of_last_two (stack_templates ts p0)) all) works.there }
 
 -- the work on top is done
 pub work_low : (ds : List Sited) (t : Table) (ns : Names) (old popped new : List Work) (w : Work) (ts us : List Template) (p0 p1 : List ℕ) → old ≡ popped ++ w ∷ [] →
@@ -133,7 +133,7 @@ first_low ds t ns task ws ts places e f h there =
     rw (e, f) (record { left = and_from (is_low (template_in ns (task_form ds t task))) true (task_low ds t ns task h) refl; there = there })
 
 pub first_made : (ds : List Sited) (t : Table) (ns : Names) (task : Task) (ws : List Work) (ts : List Template) (places : List ℕ) → ws ≡ Term task ∷ [] → places ≡ [] →
-    finish ds t ns (reverse ws) (built ts places) ≡ template_in ns (task_form ds t task) ∷ []
+    finish ds t ns (reverse ws) (stack_templates ts places) ≡ template_in ns (task_form ds t task) ∷ []
 first_made ds t ns task ws ts places e f = rw (e, f) refl
 
 pub first_below : (n : ℕ) (places : List ℕ) → places ≡ [] → are_below n places ≡ true

@@ -13,7 +13,7 @@ use Rattle.kan_grammar.specs.Texts.TermForms.{term_form}
 use Rattle.kan_grammar.specs.Texts.GoalForms.{term_forms}
 use Rattle.kan_grammar.specs.Texts.ProgramText.{slot_list}
 use Rattle.kan_grammar.specs.Texts.Resolved.{Names, template_in}
-use Rattle.goal_syntax.specs.Building.TermsLeft.{AddsTerms, with_arguments, built, paired, finish, work_size, works_size}
+use Rattle.goal_syntax.specs.Building.TermsLeft.{AddsTerms, with_arguments, stack_templates, pair_of_last_two, finish, work_size, works_size}
 use Rattle.goal_syntax.specs.Building.GrownTables.{HasTemplate, HasArguments, Grows}
 use Rattle.goal_forms.specs.Shapes.{parts}
 use Rattle.goal_forms.specs.Places.{are_below}
@@ -32,7 +32,7 @@ pub adds_on : (ts us vs : Tables) → AddsTerms ts us → AddsTerms us vs → Ad
 adds_on ts us vs first next = record { grows = grows_on ts us vs first.grows next.grows; same = next.same ∙ first.same }
 
 -- the top of the stack comes first
-pub built-push : (ts : List Template) (ps : List ℕ) (p : ℕ) → built ts (ps ++ p ∷ []) ≡ template_at ts p ∷ built ts ps
+pub built-push : (ts : List Template) (ps : List ℕ) (p : ℕ) → stack_templates ts (ps ++ p ∷ []) ≡ template_at ts p ∷ stack_templates ts ps
 built-push ts [] p = refl
 built-push ts (q ∷ ps) p = ap (λ l. l ++ template_at ts q ∷ []) (built-push ts ps p)
 
@@ -40,7 +40,7 @@ built-push ts (q ∷ ps) p = ap (λ l. l ++ template_at ts q ∷ []) (built-push
 stays : (ts us : Tables) (p : ℕ) → Grows ts us → nat_lt p (length ts.terms) ≡ true → HasTemplate us p (template_at (templates_of ts.terms) p)
 stays ts us p grows below = grows.templates p _ (record { there = ltb-true p (length ts.terms) below; is = refl })
 
-pub built_grown : (ts us : Tables) (ps : List ℕ) → Grows ts us → are_below (length ts.terms) ps ≡ true → built (templates_of us.terms) ps ≡ built (templates_of ts.terms) ps
+pub built_grown : (ts us : Tables) (ps : List ℕ) → Grows ts us → are_below (length ts.terms) ps ≡ true → stack_templates (templates_of us.terms) ps ≡ stack_templates (templates_of ts.terms) ps
 built_grown ts us [] grows below = refl
 built_grown ts us (p ∷ ps) grows below =
     let both = and_parts _ _ below in
@@ -54,9 +54,9 @@ below_grown ts us (p ∷ ps) grows below =
 
 -- a template that is put is the one built last
 pub put_built : (ts us : Tables) (ps qs : List ℕ) (p : ℕ) (t : Template) → qs ≡ ps ++ p ∷ [] → HasTemplate us p t → Grows ts us → are_below (length ts.terms) ps ≡ true →
-    built (templates_of us.terms) qs ≡ t ∷ built (templates_of ts.terms) ps
+    stack_templates (templates_of us.terms) qs ≡ t ∷ stack_templates (templates_of ts.terms) ps
 put_built ts us ps qs p t pushed new grows below =
-    ap (built (templates_of us.terms)) pushed ∙ built-push (templates_of us.terms) ps p ∙ ap₂ (λ x l. x ∷ l) new.is (built_grown ts us ps grows below)
+    ap (stack_templates (templates_of us.terms)) pushed ∙ built-push (templates_of us.terms) ps p ∙ ap₂ (λ x l. x ∷ l) new.is (built_grown ts us ps grows below)
 
 pub put_below : (ts us : Tables) (ps qs : List ℕ) (p : ℕ) (t : Template) → qs ≡ ps ++ p ∷ [] → HasTemplate us p t → Grows ts us → are_below (length ts.terms) ps ≡ true →
     are_below (length us.terms) qs ≡ true
@@ -81,11 +81,11 @@ pair_there n p0 p1 p2 a d top next below =
 
 -- the pair of the two templates built last
 pub join_made : (ts : List Template) (p0 p1 p2 : List ℕ) (a d : ℕ) (made : List Template) → p0 ≡ p1 ++ d ∷ [] → p1 ≡ p2 ++ a ∷ [] →
-    made ≡ template_of ts (TermEntry.pair a d) ∷ built ts p2 → made ≡ paired (built ts p0)
+    made ≡ template_of ts (TermEntry.pair a d) ∷ stack_templates ts p2 → made ≡ pair_of_last_two (stack_templates ts p0)
 join_made ts p0 p1 p2 a d made top next put =
-    let tops : built ts p0 ≡ template_at ts d ∷ template_at ts a ∷ built ts p2 =
-    ap (built ts) top ∙ built-push ts p1 d ∙ ap (λ l. template_at ts d ∷ l) (ap (built ts) next ∙ built-push ts p2 a) in
-    put ∙ sym (ap paired tops)
+    let tops : stack_templates ts p0 ≡ template_at ts d ∷ template_at ts a ∷ stack_templates ts p2 =
+    ap (stack_templates ts) top ∙ built-push ts p1 d ∙ ap (λ l. template_at ts d ∷ l) (ap (stack_templates ts) next ∙ built-push ts p2 a) in
+    put ∙ sym (ap pair_of_last_two tops)
 
 works_size-push : (ds : List Sited) (ws : List Work) (w : Work) → works_size ds (ws ++ w ∷ []) ≡ work_size ds w + works_size ds ws
 works_size-push ds [] w = refl
@@ -114,10 +114,10 @@ pub work_falls : (ds : List Sited) (old popped new : List Work) (w : Work) → o
 work_falls ds old popped new w split falls = omega (arith, pushed_size ds popped old w split)
 
 -- the one template that was built
-pub last_built : (ts : Tables) (old popped : List ℕ) (p : ℕ) (t : Template) → old ≡ popped ++ p ∷ [] → are_below (length ts.terms) old ≡ true → built (templates_of ts.terms) old ≡ t ∷ [] → HasTemplate ts p t
+pub last_built : (ts : Tables) (old popped : List ℕ) (p : ℕ) (t : Template) → old ≡ popped ++ p ∷ [] → are_below (length ts.terms) old ≡ true → stack_templates (templates_of ts.terms) old ≡ t ∷ [] → HasTemplate ts p t
 last_built ts old popped p t split below is =
     let us = templates_of ts.terms in
-    let top : template_at us p ∷ built us popped ≡ t ∷ [] = sym (built-push us popped p) ∙ sym (ap (built us) split) ∙ is in
+    let top : template_at us p ∷ stack_templates us popped ≡ t ∷ [] = sym (built-push us popped p) ∙ sym (ap (stack_templates us) split) ∙ is in
     record { there = (below-split (length ts.terms) popped p (sym (ap (are_below (length ts.terms)) split) ∙ below)).1; is = cc }
 
 -- the templates at places stay as they are
@@ -225,6 +225,6 @@ both_there ts us a d t u first rest grows =
     and_from _ _ (lt-ltb a (length us.terms) first.there) (lt-ltb d (length us.terms) later.there)
 
 -- a template that was built has its place on the stack
-pub place_left : (ts : List Template) (ps : List ℕ) (t : Template) → built ts ps ≡ t ∷ [] → length ps ≡ 0 → ⊥
+pub place_left : (ts : List Template) (ps : List ℕ) (t : Template) → stack_templates ts ps ≡ t ∷ [] → length ps ≡ 0 → ⊥
 place_left ts [] t made none = cc
 place_left ts (p ∷ ps) t made none = omega (arith, none)

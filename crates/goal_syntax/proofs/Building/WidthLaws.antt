@@ -22,7 +22,7 @@ use Rattle.goal_forms.specs.declared.goal.Goal as opened
 use Rattle.goal_forms.specs.declared.goal.Goal.TheVariants.{Succeed, Fail, Same, Differ, Symbol, Number, Text, Absent, Fresh, AllOf, OneOf, Clauses, Call, Misshapen}
 use Rattle.goal_syntax.specs.Building.GrownTables.{HasGoal, Grows}
 use Rattle.goal_syntax.specs.Building.GoalsBuilt.{Built, entry_goal, own_goal, with_maybe}
-use Rattle.goal_syntax.specs.Building.GoalsLeft.{clause_form, empty_entry, first_form, first_work, freshened, inner_works, join_last, joined, other_works, row_forms, suspended, work_width, works_width, both_of}
+use Rattle.goal_syntax.specs.Building.GoalsLeft.{clause_form, empty_entry, first_form, first_work, with_last_fresh, inner_works, join_last, with_last_joined, other_works, row_forms, with_last_suspended, work_width, works_width, both_of}
 use Rattle.goal_syntax.specs.Building.Widths.{widest, widths, widest_in, made_width, goal_width, goals_width}
 use Rattle.goal_syntax.specs.declared.join_goal.Row.{Row}
 use Rattle.goal_syntax.specs.declared.join_goal.Row.TheVariants as rows
@@ -60,7 +60,7 @@ widest_kept ts us grows same =
     (λ p below. (grows.goals p (goal_at (goals_of ts) p) (record { there = omega (arith, below, old); is = refl })).is)
 
 -- goals that are joined are as wide as they are together
-pub joined_width : (row : Row) (b : Built) → made_width (joined row b) ≤ made_width b
+pub joined_width : (row : Row) (b : Built) → made_width (with_last_joined row b) ≤ made_width b
 joined_width row b = by_made row b.made
   where
     by_row : (row : Row) (g h : Goal) → width (both_of row g h) ≡ width g + width h
@@ -73,18 +73,18 @@ joined_width row b = by_made row b.made
     by_made row (h ∷ []) = omega arith
     by_made row (h ∷ g ∷ made) = omega (arith, by_row row g h)
 
-pub freshened_width : (k : ℕ) (b : Built) → made_width (freshened k b) ≤ k + made_width b
+pub freshened_width : (k : ℕ) (b : Built) → made_width (with_last_fresh k b) ≤ k + made_width b
 freshened_width k b = by_made b.made
   where
-    by_made : (gs : List Goal) → made_width (freshened k (record { made = gs; called = b.called })) ≤ k + widths gs
+    by_made : (gs : List Goal) → made_width (with_last_fresh k (record { made = gs; called = b.called })) ≤ k + widths gs
     by_made [] = omega arith
     by_made (g ∷ made) = omega arith
 
-pub suspended_width : (dialect : Dialect) (b : Built) → made_width (suspended dialect b) ≤ made_width b
+pub suspended_width : (dialect : Dialect) (b : Built) → made_width (with_last_suspended dialect b) ≤ made_width b
 suspended_width Book b = omega arith
 suspended_width All b = by_made b.made
   where
-    by_made : (gs : List Goal) → made_width (suspended All (record { made = gs; called = b.called })) ≤ widths gs
+    by_made : (gs : List Goal) → made_width (with_last_suspended All (record { made = gs; called = b.called })) ≤ widths gs
     by_made [] = omega arith
     by_made (g ∷ made) = omega arith
 

@@ -37,7 +37,7 @@ use Rattle.goal_syntax.specs.declared.compiler.Compiled.{Compiled}
 use Rattle.kan_grammar.specs.Texts.TextNames.{Extends, with_prefixes}
 use Rattle.goal_forms.specs.Flattening.{meaning}
 use Rattle.goal_forms.proofs.HeightLaws.{text_low}
-use Rattle.sexpr.specs.Seen.{written}
+use Rattle.sexpr.specs.WrittenForms.{written_form}
 use Rattle.sexpr.specs.declared.data.Datum.{Datum}
 use Rattle.goal_syntax.proofs.Accepted.ClosedLaws.{body_there, query_in_scope, query_there, means_closed}
 use Rattle.goal_syntax.proofs.Compiling.CompilingLaws.{empty_tables, nothing_means}
@@ -129,20 +129,20 @@ nothing_is_open dialect t ds library forms rules start mid last none queries spl
 pub of_text_low : (old new : Table) (ds : List Datum) → new ≡ with_prefixes old → AreOfText (with_prefixes old) ds → AreLow (map (meaning new) ds)
 of_text_low old new ds is text =
     let table = with_prefixes old in
-    let low : AreLow (map (with_sites table) (map (written table) ds)) = text_low table text.bytes (map (written table) ds) text.are in
-    rw is (ap (list_all is_low_datum) (sym (map_map (with_sites table) (written table) ds)) ∙ low)
+    let low : AreLow (map (with_sites table) (map (written_form table) ds)) = text_low table text.bytes (map (written_form table) ds) text.are in
+    rw is (ap (list_all is_low_datum) (sym (map_map (with_sites table) (written_form table) ds)) ∙ low)
   where
     map_map : {A B C : Type 0} (f : B → C) (g : A → B) (xs : List A) → map f (map g xs) ≡ map (λ x. f (g x)) xs
     map_map f g [] = refl
     map_map f g (x ∷ xs) = ap (λ l. f (g x) ∷ l) (map_map f g xs)
 
 -- and a library that is accepted by itself is so under it
-pub alone_still : (old new : Table) (library : List Datum) → new ≡ with_prefixes old → IsAcceptedAlone (with_prefixes old) library → IsAccepted new [] (map (written new) library)
+pub alone_still : (old new : Table) (library : List Datum) → new ≡ with_prefixes old → IsAcceptedAlone (with_prefixes old) library → IsAccepted new [] (map (written_form new) library)
 alone_still old new library is alone = rw is (no_faults _ alone.faultless)
 
 -- what the forms of data give is what the data give
 pub compiled_of : (dialect : Dialect) (names : Table) (library text : List Datum) (r : Result Compiled SyntaxError) →
-    CompilesForms dialect names (map (with_sites names) (map (written names) library)) (map (with_sites names) (map (written names) text)) r → Compiles dialect names library text r
+    CompilesForms dialect names (map (with_sites names) (map (written_form names) library)) (map (with_sites names) (map (written_form names) text)) r → Compiles dialect names library text r
 compiled_of dialect names library text (Ok c) (accepted, is, named, heads) = record {
   accepted = accepted;
   relations = is.relations;

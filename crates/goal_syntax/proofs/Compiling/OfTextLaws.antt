@@ -22,7 +22,7 @@ use Rattle.goal_syntax.proofs.Building.FormWidthLaws.{forms_narrow}
 use Rattle.goal_syntax.specs.Building.Entries.{forms_size}
 use Rattle.goal_syntax.proofs.Building.FormEntryLaws.{forms_small}
 use Rattle.kan_grammar.proofs.Data.CountLaws.{few_data}
-use Rattle.sexpr.specs.Seen.{as_kept, written}
+use Rattle.sexpr.specs.WrittenForms.{as_kept, written_form}
 use Rattle.sexpr.specs.declared.data.Datum.{Datum}
 use Rattle.goal_syntax.specs.Compiling.Compiles.{AreOfText, IsAcceptedAlone}
 
@@ -59,8 +59,8 @@ few_of_text : (names : Table) (ds : List Datum) → AreOfText names ds → lengt
 few_of_text names ds of =
     omega (
       arith,
-      few_data as_kept of.bytes (map (written names) ds) of.are,
-      length-map ds (written names),
+      few_data as_kept of.bytes (map (written_form names) ds) of.are,
+      length-map ds (written_form names),
       of.few,
     )
 
@@ -76,33 +76,33 @@ parts_of_text old new ds is of =
     rw is (
     omega (
       arith,
-      text_parts table of.bytes (map (written table) ds) of.are,
+      text_parts table of.bytes (map (written_form table) ds) of.are,
       ap parts_in (map-meaning table ds),
-      length-map ds (written table),
+      length-map ds (written_form table),
       of.few,
     )
     )
 
-pub forms_of_data : (names : Table) (ds : List Datum) → forms_size names (map (with_sites names) (map (written names) ds)) ≤ parts_in (map (meaning names) ds) + 3 * length ds
+pub forms_of_data : (names : Table) (ds : List Datum) → forms_size names (map (with_sites names) (map (written_form names) ds)) ≤ parts_in (map (meaning names) ds) + 3 * length ds
 forms_of_data names ds =
     omega (
       arith,
-      forms_small names (map (with_sites names) (map (written names) ds)),
+      forms_small names (map (with_sites names) (map (written_form names) ds)),
       ap parts_in (map-meaning names ds),
-      length-map (map (written names) ds) (with_sites names),
-      length-map ds (written names),
+      length-map (map (written_form names) ds) (with_sites names),
+      length-map ds (written_form names),
     )
 
 -- and their goals are narrow
-pub narrow_data : (names : Table) (ds : List Datum) → parts_in (map (meaning names) ds) + 3 * length ds ≤ 2 ^ 22 → forms_width names (map (with_sites names) (map (written names) ds)) < 2 ^ 21
+pub narrow_data : (names : Table) (ds : List Datum) → parts_in (map (meaning names) ds) + 3 * length ds ≤ 2 ^ 22 → forms_width names (map (with_sites names) (map (written_form names) ds)) < 2 ^ 21
 narrow_data names ds few =
-    forms_narrow names (map (with_sites names) (map (written names) ds))
+    forms_narrow names (map (with_sites names) (map (written_form names) ds))
     (
     omega (
       arith,
       few,
       ap parts_in (map-meaning names ds),
-      length-map (map (written names) ds) (with_sites names),
-      length-map ds (written names),
+      length-map (map (written_form names) ds) (with_sites names),
+      length-map ds (written_form names),
     )
     )

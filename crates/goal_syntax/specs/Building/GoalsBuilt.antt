@@ -24,8 +24,8 @@ pub record Built : Type 0 where
   pub called : List RelationEntry → Bool
 
 -- the goals at the places on a stack
-abbrev pub built : Tables → List ℕ → Built
-built ts places =
+abbrev pub stack_goals : Tables → List ℕ → Built
+stack_goals ts places =
     record {
       made = map (goal_at (goals_of ts)) (reverse places);
       called = λ rows. are_there rows ts.goals;

@@ -68,16 +68,16 @@ later_last [] = []
 later_last (g ∷ made) = Goal.later g ∷ made
 
 -- so for what was built
-abbrev pub joined : Row → Built → Built
-joined row b = record b { made = join_last row b.made }
+abbrev pub with_last_joined : Row → Built → Built
+with_last_joined row b = record b { made = join_last row b.made }
 
-abbrev pub freshened : ℕ → Built → Built
-freshened k b = record b { made = fresh_last k b.made }
+abbrev pub with_last_fresh : ℕ → Built → Built
+with_last_fresh k b = record b { made = fresh_last k b.made }
 
 -- the goal built last suspends, in the dialect in which fresh and conde do
-abbrev pub suspended : Dialect → Built → Built
-suspended Book b = b
-suspended All b = record b { made = later_last b.made }
+abbrev pub with_last_suspended : Dialect → Built → Built
+with_last_suspended Book b = b
+with_last_suspended All b = record b { made = later_last b.made }
 
 -- the work on the first element of a row, and on the others, where there are any; the entries of an
 -- empty row, and of two goals that are joined
@@ -111,10 +111,12 @@ finish dialect rs t ds ns (works.Clause p ∷ ws) b =
 finish dialect rs t ds ns (works.Row row p ∷ ws) b =
     finish dialect rs t ds ns ws
     (with_goal (row_goal row (goals_in dialect rs ns (row_forms row t (site_at ds p)))) b)
-finish dialect rs t ds ns (works.Join row ∷ ws) b = finish dialect rs t ds ns ws (joined row b)
-finish dialect rs t ds ns (works.Fresh k ∷ ws) b = finish dialect rs t ds ns ws (freshened k b)
+finish dialect rs t ds ns (works.Join row ∷ ws) b =
+    finish dialect rs t ds ns ws (with_last_joined row b)
+finish dialect rs t ds ns (works.Fresh k ∷ ws) b =
+    finish dialect rs t ds ns ws (with_last_fresh k b)
 finish dialect rs t ds ns (works.Suspend ∷ ws) b =
-    finish dialect rs t ds ns ws (suspended dialect b)
+    finish dialect rs t ds ns ws (with_last_suspended dialect b)
 finish dialect rs t ds ns (works.Leave n ∷ ws) b = finish dialect rs t ds (take n ns) ws b
 
 -- how much work a row is, a goal and a clause

@@ -35,8 +35,8 @@ relations_unnamed names [] = 0
 relations_unnamed names (r ∷ rs) = max (relation_unnamed names r) (relations_unnamed names rs)
 
 -- all entries of tables
-abbrev pub unnamed : Table → Tables → ℕ
-unnamed names ts =
+abbrev pub tables_unnamed : Table → Tables → ℕ
+tables_unnamed names ts =
     max (terms_unnamed names ts.terms)
     (max (goals_unnamed names ts.goals) (relations_unnamed names ts.relations))
 
@@ -61,4 +61,4 @@ data_unnamed names ds = max (symbol_unnamed names 0) (sites_unnamed names ds)
 
 -- entries that came to tables lack names only where something does
 abbrev pub Lacks : Table → ℕ → Tables → Tables → Type 0
-Lacks names most ts us = unnamed names us ≤ max (unnamed names ts) most
+Lacks names most ts us = tables_unnamed names us ≤ max (tables_unnamed names ts) most

@@ -6,7 +6,7 @@ use Rattle.kan_model.specs.Programs.Goals.{Template}
 use Rattle.kan_grammar.specs.Texts.Sited.{Sited}
 use Rattle.kan_model.specs.Programs.Scope.{is_low}
 use Rattle.kan_grammar.specs.Texts.Resolved.{Names, template_in}
-use Rattle.goal_syntax.specs.Building.TermsLeft.{built, paired}
+use Rattle.goal_syntax.specs.Building.TermsLeft.{stack_templates, pair_of_last_two}
 use Rattle.goal_forms.specs.TermSteps.{task_form}
 use Rattle.goal_syntax.specs.declared.build_term.Work.{Work}
 use Rattle.goal_syntax.specs.declared.build_term.Work.TheVariants.{Term, Pair}
@@ -17,10 +17,11 @@ abbrev pub all_low : List Sited → Table → Names → List Work → List Templ
 all_low ds t ns [] made = list_all is_low made
 all_low ds t ns (Term task ∷ ws) made =
     all_low ds t ns ws (template_in ns (task_form ds t task) ∷ made)
-all_low ds t ns (Pair ∷ ws) made = list_all is_low made && all_low ds t ns ws (paired made)
+all_low ds t ns (Pair ∷ ws) made =
+    list_all is_low made && all_low ds t ns ws (pair_of_last_two made)
 
 -- with those of a table
 pub record WorksLow (ds : List Sited) (t : Table) (ns : Names) (ws : List Work) (ts : List Template)
     (places : List ℕ) : Type 0 where
-  pub left : all_low ds t ns ws (built ts places) ≡ true
+  pub left : all_low ds t ns ws (stack_templates ts places) ≡ true
   pub there : list_all is_low ts ≡ true

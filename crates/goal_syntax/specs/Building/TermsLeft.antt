@@ -27,22 +27,22 @@ abbrev pub with_arguments : Tables → List ℕ → Tables
 with_arguments ts ps = record ts { arguments = ts.arguments ++ ps }
 
 -- the templates at the places on a stack, the top first
-abbrev pub built : List Template → List ℕ → List Template
-built ts [] = []
-built ts (p ∷ ps) = built ts ps ++ template_at ts p ∷ []
+abbrev pub stack_templates : List Template → List ℕ → List Template
+stack_templates ts [] = []
+stack_templates ts (p ∷ ps) = stack_templates ts ps ++ template_at ts p ∷ []
 
 -- the pair of the two templates built last
-abbrev pub paired : List Template → List Template
-paired [] = []
-paired (d ∷ []) = []
-paired (d ∷ a ∷ made) = Tree.pair a d ∷ made
+abbrev pub pair_of_last_two : List Template → List Template
+pair_of_last_two [] = []
+pair_of_last_two (d ∷ []) = []
+pair_of_last_two (d ∷ a ∷ made) = Tree.pair a d ∷ made
 
 -- what is built once all work on a stack is done, the top first, and the template built last
 abbrev pub finish : List Sited → Table → Names → List Work → List Template → List Template
 finish ds t ns [] made = made
 finish ds t ns (Term task ∷ ws) made =
     finish ds t ns ws (template_in ns (task_form ds t task) ∷ made)
-finish ds t ns (Pair ∷ ws) made = finish ds t ns ws (paired made)
+finish ds t ns (Pair ∷ ws) made = finish ds t ns ws (pair_of_last_two made)
 
 -- how much work is left at most
 abbrev pub work_size : List Sited → Work → ℕ

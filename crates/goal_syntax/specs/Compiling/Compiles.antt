@@ -17,7 +17,7 @@ use Rattle.kan_grammar.specs.Texts.TextFaults.{fault_of_text}
 use Rattle.kan_grammar.specs.Texts.Reply.{IsLibrary}
 use Rattle.kan_grammar.specs.Texts.TextNames.{Extends, with_prefixes}
 use Rattle.kan_grammar.specs.Texts.ProgramText.{program_of_text, queries_of_text}
-use Rattle.sexpr.specs.Seen.{written, as_kept}
+use Rattle.sexpr.specs.WrittenForms.{written_form, as_kept}
 use Rattle.sexpr.specs.declared.data.Datum.{Datum}
 use Rattle.goal_syntax.specs.Building.GrownTables.{HasRoom}
 use Rattle.goal_syntax.specs.Building.FormsBuilt.{entry_names, relation_names}
@@ -29,21 +29,21 @@ use Rattle.goal_syntax.specs.declared.compiler.Compiled.{Compiled}
 -- the fault of a text behind a library that is answered, where it has one
 abbrev pub fault_found : Table → List Datum → List Datum → Option faults.Fault
 fault_found names library text =
-    fault_of_text names (map (written names) library) (map (written names) text)
+    fault_of_text names (map (written_form names) library) (map (written_form names) text)
 
 -- the relations of a text behind a library, and its runs
 abbrev pub relations_meant : Dialect → Table → List Datum → List Datum → List model.Relation
 relations_meant dialect names library text =
-    (program_of_text dialect names (map (written names) library)
-    (map (written names) text)).relations
+    (program_of_text dialect names (map (written_form names) library)
+    (map (written_form names) text)).relations
 
 abbrev pub queries_meant : Dialect → Table → List Datum → List Datum → List model.Query
 queries_meant dialect names library text =
-    queries_of_text dialect names (map (written names) library) (map (written names) text)
+    queries_of_text dialect names (map (written_form names) library) (map (written_form names) text)
 
 -- data as trees of pairs
 abbrev pub sites_of : Table → List Datum → List Sited
-sites_of names ds = map (with_sites names) (map (written names) ds)
+sites_of names ds = map (with_sites names) (map (written_form names) ds)
 
 -- a program and its runs are those of a text that has no fault
 pub record IsCompiled (dialect : Dialect) (names : Table) (library text : List Datum)
@@ -83,8 +83,8 @@ TableAfter before after (Err Memory) = Extends 3 before after
 pub record AreOfText (names : Table) (ds : List Datum) : Type 0 where
   pub bytes : List ℕ
   pub few : length bytes ≤ 2 ^ 20
-  pub are : read_text as_kept bytes ≡ data_are (map (written names) ds)
+  pub are : read_text as_kept bytes ≡ data_are (map (written_form names) ds)
 
 -- a library is accepted by itself: it has no fault, and no run
 abbrev pub IsAcceptedAlone : Table → List Datum → Type 0
-IsAcceptedAlone names library = IsLibrary names (map (written names) library)
+IsAcceptedAlone names library = IsLibrary names (map (written_form names) library)

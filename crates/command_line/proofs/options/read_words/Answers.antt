@@ -1,4 +1,4 @@
-use Rattle.command_line.specs.Asked.{line_seen}
+use Rattle.command_line.specs.WordsRead.{line_seen}
 use Rattle.command_line.specs.Lines.{texts}
 use Rattle.command_line.proofs.RangeLaws.{asked_in_its_range}
 use Rattle.command_line.proofs.options.read_words.Goals as goal

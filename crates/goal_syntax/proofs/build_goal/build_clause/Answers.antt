@@ -2,7 +2,7 @@ use Rattle.goal_forms.specs.Parts.{sites}
 use Rattle.goal_syntax.proofs.Building.GoalsLeftLaws.{clause_falls}
 use Rattle.std.proofs.Common.{sym}
 use Rattle.kan_model.specs.Programs.Drafts.{tables}
-use Rattle.goal_syntax.specs.Building.GoalsBuilt.{built}
+use Rattle.goal_syntax.specs.Building.GoalsBuilt.{stack_goals}
 use Rattle.goal_forms.specs.RelationTables.{relations}
 use Rattle.goal_syntax.proofs.Building.GoalsLeftLaws.{clause_fails}
 use Rattle.std.proofs.Common.{arith}
@@ -21,7 +21,7 @@ returns-in_ok-push-clause-falls c = clause_falls (sites c.args.context.now.flat.
 pub returns-in_ok-make-clause-made : goal.returns-in_ok-make-clause-made
 returns-in_ok-make-clause-made c = λ ns.
     clause_fails c.args.context.now.dialect (relations c.args.context.now.relations.now) c.args.context.now.names.now (sites c.args.context.now.flat.now) ns c.args.clause c.args.works.now.items
-    (built (tables c.args.draft.now) c.args.places.now.items) _ (sym c.if-is_proper.ensures) c.in_ok-make.ensures.made
+    (stack_goals (tables c.args.draft.now) c.args.places.now.items) _ (sym c.if-is_proper.ensures) c.in_ok-make.ensures.made
 
 pub returns-in_ok-push-clause-room : goal.returns-in_ok-push-clause-room
 returns-in_ok-push-clause-room c =

@@ -3,7 +3,7 @@ use Rattle.goal_forms.specs.RelationTables.{relations}
 use Rattle.goal_syntax.proofs.Building.GoalsLeftLaws.{row_waits, row_falls}
 use Rattle.std.proofs.Common.{[], ◌∙◌, ap}
 use Rattle.kan_model.specs.Programs.Drafts.{tables}
-use Rattle.goal_syntax.specs.Building.GoalsBuilt.{built, with_entry}
+use Rattle.goal_syntax.specs.Building.GoalsBuilt.{stack_goals, with_entry}
 use Rattle.goal_syntax.specs.Building.GoalsLeft.{empty_entry, row_goal}
 use Rattle.goal_syntax.proofs.Building.GoalsBuiltLaws.{stands_added, empty_stands}
 use Rattle.goal_syntax.proofs.Building.GoalsLeftLaws.{empty_row}
@@ -28,7 +28,7 @@ returns-in_ok-push-clause-falls c =
 pub returns-in_ok-make-clause-made : goal.returns-in_ok-make-clause-made
 returns-in_ok-make-clause-made c = λ ns.
     let ts = tables c.args.draft.now in
-    let before = built ts c.args.places.now.items in
+    let before = stack_goals ts c.args.places.now.items in
     empty_row c.args.context.now.dialect (relations c.args.context.now.relations.now) c.args.context.now.names.now (sites c.args.context.now.flat.now) ns c.args.row c.args.place c.args.works.now.items before _ c.in_default.ensures.parts
     (c.in_ok-make.ensures.made ∙ ap (λ e. with_entry ts e before) c.empty.ensures ∙ stands_added ts (empty_entry c.args.row) (row_goal c.args.row []) before (empty_stands ts c.args.row))
 

@@ -14,7 +14,7 @@ use Rattle.std.proofs.Common.{ap}
 use Rattle.std.proofs.Common.{◌∙◌}
 use Rattle.goal_syntax.proofs.Building.NamedLaws.{all_named}
 use Rattle.goal_syntax.specs.Compiling.SymbolNames.{are_named}
-use Rattle.goal_syntax.specs.Building.Named.{unnamed}
+use Rattle.goal_syntax.specs.Building.Named.{tables_unnamed}
 use Rattle.goal_syntax.proofs.compiler.build_program.Goals as goal
 
 pub returns-clause-meant : goal.returns-clause-meant
@@ -60,4 +60,4 @@ pub returns-clause-named : goal.returns-clause-named
 returns-clause-named c =
     ap (are_named c.args.context.now.names.now) c.close-compiled.ensures.tables
     ∙ all_named c.args.context.now.names.now (tables c.build_text.new.draft)
-    (omega (arith, ap (unnamed c.args.context.now.names.now) c.new-draft.ensures, c.in_ok-build_library.ensures.named, c.in_ok-build_text.ensures.named, c.requires.named))
+    (omega (arith, ap (tables_unnamed c.args.context.now.names.now) c.new-draft.ensures, c.in_ok-build_library.ensures.named, c.in_ok-build_text.ensures.named, c.requires.named))

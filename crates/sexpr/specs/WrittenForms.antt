@@ -37,8 +37,9 @@ kind_of names (DatumKind-F.List ds last) at = list_of at ds last
 kind_of names (DatumKind-F.Prefixed p d) at = prefixed at (prefix_of p) d
 
 -- what a datum stands for, where symbols and strings have these texts
-abbrev pub written : Table → Datum → Written
-written names d = fold-Datum (ℕ → Written) Written (kind_of names) (λ layer. layer.kind layer.at) d
+abbrev pub written_form : Table → Datum → Written
+written_form names d =
+    fold-Datum (ℕ → Written) Written (kind_of names) (λ layer. layer.kind layer.at) d
 
 -- data as a datum keeps them
 abbrev pub as_kept : Build Written

@@ -1,7 +1,7 @@
 -- What reading the words answers.
 use Rattle.std.specs.Prelude.{◌≡◌, Option, Some, None, Result, Ok, Err}
 use Rattle.command_line.specs.Lines as lines
-use Rattle.command_line.specs.Seen.{text_of}
+use Rattle.command_line.specs.CodeValues.{text_of}
 use Rattle.command_line.specs.declared.options.Line.{Line}
 use Rattle.command_line.specs.declared.options.Options.{Options}
 use Rattle.command_line.specs.declared.fault.WordsFault.{WordsFault}

@@ -5,7 +5,7 @@ use Rattle.kan_terms.specs.Table.{name_of}
 use Rattle.kan_grammar.specs.Data.Words.{number, truth}
 use Rattle.kan_grammar.specs.Data.Written.{Written, single, prefixed}
 use Rattle.sexpr.specs.Meaning.{prefix_of}
-use Rattle.sexpr.specs.Seen.{symbol_atom, string_atom, list_of, kind_of, written}
+use Rattle.sexpr.specs.WrittenForms.{symbol_atom, string_atom, list_of, kind_of, written_form}
 use Rattle.kan_terms.specs.Table.{Table}
 use Rattle.sexpr.specs.declared.data.Datum.{Datum, fold_out-Datum}
 use Rattle.sexpr.specs.declared.data.DatumKind.{DatumKind, roll-DatumKind, fold-DatumKind, fold-roll-DatumKind, map-DatumKind}
@@ -17,35 +17,35 @@ use Rattle.sexpr.specs.declared.data.DatumKind.TheVariants.{rolls-Symbol, rolls-
 kind_written : Table → DatumKind → ℕ → Written
 kind_written names k = fold-DatumKind (ℕ → Written) Written (kind_of names) (λ layer. layer.kind layer.at) k
 
-by_kind : (names : Table) (at : ℕ) (k : DatumKind) → written names (record { at = at; kind = k }) ≡ kind_written names k at
+by_kind : (names : Table) (at : ℕ) (k : DatumKind) → written_form names (record { at = at; kind = k }) ≡ kind_written names k at
 unfolding kind_written
 by_kind names at k = fold_out-Datum (ℕ → Written) Written (kind_of names) (λ layer. layer.kind layer.at) (record { at = at; kind = k })
 
-by_layer : (names : Table) (at : ℕ) (k : DatumKind) (l : DatumKind-F DatumKind Datum) → roll-DatumKind l ≡ k → written names (record { at = at; kind = k }) ≡ kind_written names (roll-DatumKind l) at
+by_layer : (names : Table) (at : ℕ) (k : DatumKind) (l : DatumKind-F DatumKind Datum) → roll-DatumKind l ≡ k → written_form names (record { at = at; kind = k }) ≡ kind_written names (roll-DatumKind l) at
 by_layer names at k l e = by_kind names at k ∙ ap (λ x. kind_written names x at) (sym e)
 
 -- the fold's own equation at a layer
-layer_written : (names : Table) (at : ℕ) (l : DatumKind-F DatumKind Datum) → kind_written names (roll-DatumKind l) at ≡ kind_of names (map-DatumKind DatumKind Datum (ℕ → Written) Written (kind_written names) (written names) l) at
+layer_written : (names : Table) (at : ℕ) (l : DatumKind-F DatumKind Datum) → kind_written names (roll-DatumKind l) at ≡ kind_of names (map-DatumKind DatumKind Datum (ℕ → Written) Written (kind_written names) (written_form names) l) at
 unfolding kind_written
 layer_written names at l = ap (λ (f : ℕ → Written). f at) (fold-roll-DatumKind (ℕ → Written) Written (kind_of names) (λ layer. layer.kind layer.at) l)
 
-pub written_symbol : (names : Table) (at s : ℕ) → written names (record { at = at; kind = kinds.Symbol s }) ≡ single at (symbol_atom (name_of names.symbols s))
+pub written_symbol : (names : Table) (at s : ℕ) → written_form names (record { at = at; kind = kinds.Symbol s }) ≡ single at (symbol_atom (name_of names.symbols s))
 written_symbol names at s = by_layer names at (kinds.Symbol s) (DatumKind-F.Symbol s) (rolls-Symbol s) ∙ layer_written names at (DatumKind-F.Symbol s)
 
-pub written_text : (names : Table) (at s : ℕ) → written names (record { at = at; kind = kinds.Text s }) ≡ single at (string_atom (name_of names.strings s))
+pub written_text : (names : Table) (at s : ℕ) → written_form names (record { at = at; kind = kinds.Text s }) ≡ single at (string_atom (name_of names.strings s))
 written_text names at s = by_layer names at (kinds.Text s) (DatumKind-F.Text s) (rolls-Text s) ∙ layer_written names at (DatumKind-F.Text s)
 
-pub written_number : (names : Table) (at : ℕ) (n : ℤ) → written names (record { at = at; kind = kinds.Number n }) ≡ single at (number n)
+pub written_number : (names : Table) (at : ℕ) (n : ℤ) → written_form names (record { at = at; kind = kinds.Number n }) ≡ single at (number n)
 written_number names at n = by_layer names at (kinds.Number n) (DatumKind-F.Number n) (rolls-Number n) ∙ layer_written names at (DatumKind-F.Number n)
 
-pub written_truth : (names : Table) (at : ℕ) (b : Bool) → written names (record { at = at; kind = kinds.Truth b }) ≡ single at (truth b)
+pub written_truth : (names : Table) (at : ℕ) (b : Bool) → written_form names (record { at = at; kind = kinds.Truth b }) ≡ single at (truth b)
 written_truth names at b = by_layer names at (kinds.Truth b) (DatumKind-F.Truth b) (rolls-Truth b) ∙ layer_written names at (DatumKind-F.Truth b)
 
-pub written_list : (names : Table) (at : ℕ) (ds : List Datum) → written names (record { at = at; kind = kinds.List ds None }) ≡ list_of at (map (written names) ds) None
+pub written_list : (names : Table) (at : ℕ) (ds : List Datum) → written_form names (record { at = at; kind = kinds.List ds None }) ≡ list_of at (map (written_form names) ds) None
 written_list names at ds = by_layer names at (kinds.List ds None) (DatumKind-F.List ds None) (rolls-List ds None) ∙ layer_written names at (DatumKind-F.List ds None)
 
-pub written_dotted : (names : Table) (at : ℕ) (ds : List Datum) (d : Datum) → written names (record { at = at; kind = kinds.List ds (Some d) }) ≡ list_of at (map (written names) ds) (Some (written names d))
+pub written_dotted : (names : Table) (at : ℕ) (ds : List Datum) (d : Datum) → written_form names (record { at = at; kind = kinds.List ds (Some d) }) ≡ list_of at (map (written_form names) ds) (Some (written_form names d))
 written_dotted names at ds d = by_layer names at (kinds.List ds (Some d)) (DatumKind-F.List ds (Some d)) (rolls-List ds (Some d)) ∙ layer_written names at (DatumKind-F.List ds (Some d))
 
-pub written_prefixed : (names : Table) (at : ℕ) (p : Prefix) (d : Datum) → written names (record { at = at; kind = kinds.Prefixed p d }) ≡ prefixed at (prefix_of p) (written names d)
+pub written_prefixed : (names : Table) (at : ℕ) (p : Prefix) (d : Datum) → written_form names (record { at = at; kind = kinds.Prefixed p d }) ≡ prefixed at (prefix_of p) (written_form names d)
 written_prefixed names at p d = by_layer names at (kinds.Prefixed p d) (DatumKind-F.Prefixed p d) (rolls-Prefixed p d) ∙ layer_written names at (DatumKind-F.Prefixed p d)
