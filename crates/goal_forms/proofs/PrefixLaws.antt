@@ -13,8 +13,8 @@ use Rattle.kan_grammar.proofs.Texts.NameLaws.{extends_same, extends_further, ext
 pub keeps_number : (table new : Table) (other text : List ℕ) (n : ℕ) → new ≡ with_symbol table other → number_of table.symbols text ≡ Some n → number_of new.symbols text ≡ Some n
 keeps_number table new other text n grown number = ap (λ (t : Table). number_of t.symbols text) grown ∙ number_of-with_text table.symbols other text n number
 
-pub numbered : (table : Table) (text : List ℕ) (n : ℕ) → number_of table.symbols text ≡ Some n → symbol_number table text ≡ n
-numbered table text n number = ap (λ r. unwrap_or r (length table.symbols)) number
+pub interned_number : (table : Table) (text : List ℕ) (n : ℕ) → number_of table.symbols text ≡ Some n → symbol_number table text ≡ n
+interned_number table text n number = ap (λ r. unwrap_or r (length table.symbols)) number
 
 -- the table with the three symbols
 pub prefixes_added : (a b c d : Table) → b ≡ with_prefix a quote → c ≡ with_prefix b quasiquote → d ≡ with_prefix c unquote → d ≡ with_prefixes a

@@ -89,7 +89,7 @@ string_moves old new text is =
     })
 
 -- the bytes of a string behind its first mark
-pub quoted : (table : Table) (s : ℕ) (bytes more : List ℕ) → s < length table.strings → 34 ∷ bytes ≡ string_text table s ++ more → bytes ≡ flat_map string_byte_text (get_or table.strings s []) ++ 34 ∷ more
-quoted table s bytes more low is =
+pub quoted_bytes : (table : Table) (s : ℕ) (bytes more : List ℕ) → s < length table.strings → 34 ∷ bytes ≡ string_text table s ++ more → bytes ≡ flat_map string_byte_text (get_or table.strings s []) ++ 34 ∷ more
+quoted_bytes table s bytes more low is =
     ap (drop 1) is ∙ append_assoc (flat_map string_byte_text (unwrap_or (name_of table.strings s) [])) (34 ∷ []) more
     ∙ ap (λ o. flat_map string_byte_text (unwrap_or o []) ++ 34 ∷ more) (text_at table.strings s low)
