@@ -7,7 +7,7 @@ use Rattle.kan_grammar.specs.Data.Printed.{prefix_name}
 use Rattle.kan_grammar.specs.Data.Words.{quote, quasiquote, unquote}
 use Rattle.kan_grammar.specs.Texts.Sited.{symbol_number}
 use Rattle.kan_grammar.specs.Texts.TextNames.{Extends, with_prefix, with_prefixes}
-use Rattle.kan_grammar.proofs.Texts.NameLaws.{extends_same, extends_further, extends_symbol, extends_prefixes}
+use Rattle.kan_grammar.proofs.Texts.NameLaws.{extends_same, extends_further, extends_symbol}
 
 -- a text keeps its number
 pub keeps_number : (table new : Table) (other text : List ℕ) (n : ℕ) → new ≡ with_symbol table other → number_of table.symbols text ≡ Some n → number_of new.symbols text ≡ Some n
@@ -23,12 +23,6 @@ prefixes_added a b c d first second third = third ∙ ap (λ t. with_prefix t un
 -- tables that have one more, two more or all three
 pub one_more : (a b : Table) → b ≡ with_prefix a quote → Extends 3 a b
 one_more a b first = rw first (extends_further 1 0 3 a (with_prefix a quote) (with_prefix a quote) (extends_symbol a (prefix_name quote)) (extends_same 0 (with_prefix a quote)) (omega arith))
-
-pub two_more : (a b c : Table) → b ≡ with_prefix a quote → c ≡ with_prefix b quasiquote → Extends 3 a c
-two_more a b c first second = rw second (extends_further 1 1 3 a b (with_prefix b quasiquote) (rw first (extends_symbol a (prefix_name quote))) (extends_symbol b (prefix_name quasiquote)) (omega arith))
-
-pub three_more : (a b c d : Table) → b ≡ with_prefix a quote → c ≡ with_prefix b quasiquote → d ≡ with_prefix c unquote → Extends 3 a d
-three_more a b c d first second third = rw (prefixes_added a b c d first second third) (extends_prefixes a)
 
 pub none_more : (a b : Table) → b ≡ a → Extends 3 a b
 none_more a b same = rw same (extends_same 3 a)

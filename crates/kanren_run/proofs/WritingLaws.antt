@@ -99,9 +99,6 @@ stops_on text rest Fault a b c w (front, more) =
     (front_on text rest a.put b.put c.put w.front w.parts w.put_front front, more ∙ ap one_more w.still)
 stops_on text rest Memory a b c w (front, still) = (front_on text rest a.put b.put c.put w.front w.parts w.put_front front, still ∙ w.still)
 
-pub ends_on : {A B : Type 0} (text rest : List ℕ) (x : A) (y : B) (a b c : SinkView) → Written text a b rest → Puts {A = A} rest b c (Ok x) → Puts {A = B} text a c (Ok y)
-ends_on text rest x y a b c w (put, still) = (subst (Appends a.put c.put) (sym w.parts) (Appends-trans a.put b.put c.put w.front rest w.put_front put), still ∙ w.still)
-
 -- want of memory before anything was put
 pub nothing_put : (text : List ℕ) (a : SinkView) → Stops text a a Memory
 nothing_put text a = (record { front = []; rest = text; parts = refl; put = Appends-nil a.put }, refl)
@@ -201,9 +198,6 @@ pub run_ended : (total : List ℕ) (table : Table) (before : Taken) (n p : ℕ) 
 run_ended total table before n p after m q a b c o e is w next =
     let (put, still, ending) = subst (λ x. WritesNext table before n p after m q b c (Ok x)) is next in
     (subst (Appends a.put c.put) (sym w.parts) (Appends-trans a.put b.put c.put w.front (rest_text table n p before) w.put_front put), still ∙ w.still)
-
-pub run_ending : (table : Table) (before : Taken) (n p : ℕ) (after : Taken) (m q : ℕ) (b c : SinkView) (o : Option Ended) (e : Ended) → o ≡ Some e → WritesNext table before n p after m q b c (Ok o) → ending_of e ≡ before.ending
-run_ending table before n p after m q b c o e is next = (subst (λ x. WritesNext table before n p after m q b c (Ok x)) is next).2
 
 pub run_goes_on : (table : Table) (before : Taken) (n p : ℕ) (after : Taken) (m q : ℕ) (b c : SinkView) (o : Option Ended) → ((e : Ended) → o ≡ Some e → ⊥) → WritesNext table before n p after m q b c (Ok o) →
     Continues table before n p after m q b c

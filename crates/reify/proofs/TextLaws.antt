@@ -4,7 +4,6 @@ use Rattle.std.specs.Prelude.{codes, ◌&&◌}
 use Rattle.std.specs.List.{flat_map, list_all}
 use Rattle.std.proofs.lemmas.Bool.{and_parts}
 use Rattle.std.proofs.lemmas.List.{map-append, take_more, length-map, length-take-le}
-use Rattle.std.proofs.lemmas.Grind.{flat_map-append}
 use Rattle.kan_model.specs.Answers.Text.{with_spaces}
 use Rattle.kan_model.specs.Answers.AnswerText.{where_text, names_texts, constraint_texts, difference_text, absence_text}
 use Rattle.kan_terms.specs.Table.{Table}
@@ -69,13 +68,6 @@ put_next front grown y i old text middle after more many before gone put =
     put ∙ ap (λ l. l ++ y) (gone ∙ ap (λ l. l ++ gap i) before)
     ∙ append_assoc (old ++ with_spaces front) (gap i) y ∙ append_assoc old (with_spaces front) (gap i ++ y)
     ∙ ap (λ l. old ++ l) (ap (λ n. with_spaces front ++ (gap n ++ y)) (sym many) ∙ sym (with_spaces-push front y) ∙ ap with_spaces (sym more))
-
--- the next text put behind a space
-pub put_spaced : (front grown : List (List ℕ)) (y : List ℕ) (old text middle after : List ℕ) → grown ≡ front ++ y ∷ [] →
-    text ≡ old ++ flat_map behind_space front → middle ≡ text ++ 32 ∷ [] → after ≡ middle ++ y → after ≡ old ++ flat_map behind_space grown
-put_spaced front grown y old text middle after more before gone put =
-    put ∙ ap (λ l. l ++ y) gone ∙ append_assoc text (32 ∷ []) y ∙ ap (λ l. l ++ 32 ∷ y) before ∙ append_assoc old (flat_map behind_space front) (32 ∷ y)
-    ∙ ap (λ l. old ++ l) (ap (λ l. flat_map behind_space front ++ l) (sym (append-nil (32 ∷ y))) ∙ sym (flat_map-append behind_space front (y ∷ [])) ∙ ap (flat_map behind_space) (sym more))
 
 -- texts with that of the next item
 pub one_more : {X Y : Type 0} (f : X → Y) (xs : List X) (i : ℕ) (d : X) → i < length xs → map f (take (i + 1) xs) ≡ map f (take i xs) ++ f (get_or xs i d) ∷ []

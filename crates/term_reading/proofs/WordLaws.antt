@@ -203,12 +203,6 @@ stays table size = record { goes_on = goes_on_same table; symbols = omega arith;
 pub moves_from : (old other new : Table) (size left : ℕ) → old ≡ other → Moves other size new left → Moves old size new left
 moves_from old other new size left same m = subst (λ t. Moves t size new left) (sym same) m
 
-pub moves_to : (old new other : Table) (size left : ℕ) → other ≡ new → Moves old size new left → Moves old size other left
-moves_to old new other size left same m = subst (λ t. Moves old size t left) (sym same) m
-
-pub stays_as : (old new : Table) (size : ℕ) → new ≡ old → Moves old size new 0
-stays_as old new size same = moves_to old old new size 0 same (stays old size)
-
 -- a shape that is a word
 pub word_is_name : (table : Table) (word : List ℕ) (x : Shape) (n : ℕ) → is_worded x ≡ true → is_fine table x ≡ true → IsSpelled table → is_reserved word ≡ true → word ≡ atom_text table x →
     ((m : ℕ) → m < 2 ^ 32 → word ≡ name_text m → n ≡ m) → Name n ≡ x

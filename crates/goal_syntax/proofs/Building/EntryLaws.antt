@@ -2,7 +2,7 @@
 use Rattle.std.proofs.Common.{◌≡◌, ℕ, ◌+◌, ◌<◌, ◌≤◌, ◌^◌, List, [], ◌∷◌, ◌++◌, length, map, refl, sym, ◌∙◌, ap, arith, length-append, Option, Some, None}
 use Rattle.std.specs.Prelude.{Bool, true, false, unwrap_or}
 use Rattle.std.proofs.lemmas.List.{length-map}
-use Rattle.kan_terms.specs.Tree.{Tree, size}
+use Rattle.kan_terms.specs.Tree.{size}
 use Rattle.kan_terms.specs.Table.{Table}
 use Rattle.kan_grammar.specs.declared.dialect.Dialect.{Dialect}
 use Rattle.kan_grammar.specs.Texts.Sited.{Sited, site, is_proper}
@@ -52,16 +52,6 @@ relation_adds ts us r is = ap entries is ∙ omega (arith, longer ts.relations r
 -- tables of few entries have room
 pub room_left : (ts : Tables) → entries ts < 2 ^ 24 → HasRoom ts
 room_left ts few = record { terms = omega (arith, few); arguments = omega (arith, few); goals = omega (arith, few); relations = omega (arith, few) }
-
--- each tree has a part
-pub some_size : {V : Type 0} (t : Tree V) → 1 ≤ size t
-some_size (Tree.leaf v) = omega arith
-some_size (Tree.sym s) = omega arith
-some_size (Tree.str s) = omega arith
-some_size (Tree.num n) = omega arith
-some_size (Tree.truth b) = omega arith
-some_size Tree.nil = omega arith
-some_size (Tree.pair a b) = omega arith
 
 -- work on terms that is put on a stack
 terms-push : (ds : List Sited) (t : Table) (ws : List term_work.Work) (w : term_work.Work) → terms.works_entries ds t (ws ++ w ∷ []) ≡ terms.work_entries ds t w + terms.works_entries ds t ws

@@ -1,5 +1,5 @@
 -- What stands in tables while goals are built.
-use Rattle.std.proofs.Common.{◌≡◌, ℕ, ◌<◌, List, [], ◌∷◌, ◌++◌, length, map, reverse, refl, sym, ◌∙◌, ap, ap₂, arith, Option, Some, None}
+use Rattle.std.proofs.Common.{◌≡◌, ℕ, ◌<◌, List, [], ◌∷◌, ◌++◌, length, map, reverse, refl, sym, ◌∙◌, ap, ap₂, Option, Some, None}
 use Rattle.std.specs.Prelude.{Bool, true, false, ◌&&◌}
 use Rattle.std.proofs.lemmas.Bool.{and_from, and_parts, ltb-true, lt-ltb}
 use Rattle.std.proofs.lemmas.List.{reverse-append}
@@ -134,8 +134,3 @@ pub empty_stands : (ts : Tables) (row : Row) → Stands ts (empty_entry row) (ro
 empty_stands ts rows.All = record { grown = refl; is = refl; called = λ entries. refl }
 empty_stands ts rows.One = record { grown = refl; is = refl; called = λ entries. refl }
 empty_stands ts rows.Clauses = record { grown = refl; is = refl; called = λ entries. refl }
-
--- a goal that was built has its place on the stack
-pub goal_left : (ts us : Tables) (ps : List ℕ) (g : Goal) → stack_goals us ps ≡ with_goal g (stack_goals ts []) → length ps ≡ 0 → ⊥
-goal_left ts us [] g made none = let all : [] ≡ g ∷ [] = ap (λ (b : Built). b.made) made in cc
-goal_left ts us (p ∷ ps) g made none = omega (arith, none)

@@ -67,17 +67,6 @@ made_low ds t ns (Term task ∷ ws) made h =
     let x = template_in ns (task_form ds t task) in (and_parts (is_low x) (list_all is_low made) (made_low ds t ns ws (x ∷ made) h)).1
 made_low ds t ns (Pair ∷ ws) made h = (and_parts (list_all is_low made) (all_low ds t ns ws (pair_of_last_two made)) h).0
 
--- the one built last
-pub top_low : (ds : List Sited) (t : Table) (ns : Names) (ws : List Work) (x : Template) (made : List Template) → all_low ds t ns ws (x ∷ made) ≡ true → is_low x ≡ true
-top_low ds t ns ws x made h = (and_parts (is_low x) (list_all is_low made) (made_low ds t ns ws (x ∷ made) h)).0
-
--- a template without parts that is put
-pub put_works_low : (ds : List Sited) (t : Table) (ns : Names) (ws : List Work) (ts us : List Template) (p0 p1 : List ℕ) (x y : Template) → stack_templates us p1 ≡ x ∷ stack_templates ts p0 → x ≡ y →
-    (is_low x ≡ true → list_all is_low ts ≡ true → list_all is_low us ≡ true) → all_low ds t ns ws (y ∷ stack_templates ts p0) ≡ true → list_all is_low ts ≡ true → WorksLow ds t ns ws us p1
-put_works_low ds t ns ws ts us p0 p1 x y made same put left there =
-    let all : all_low ds t ns ws (x ∷ stack_templates ts p0) ≡ true = ap (λ z. all_low ds t ns ws (z ∷ stack_templates ts p0)) same ∙ left in
-    record { left = ap (all_low ds t ns ws) made ∙ all; there = put (top_low ds t ns ws x (stack_templates ts p0) all) there }
-
 -- a pair as far as its parts
 pub pair_low : (ds : List Sited) (t : Table) (ns : Names) (ws w1 w2 w3 : List Work) (a d : Task) (ts : List Template) (places : List ℕ) → w1 ≡ ws ++ Pair ∷ [] → w2 ≡ w1 ++ Term d ∷ [] → w3 ≡ w2 ++ Term a ∷ [] →
     all_low ds t ns (reverse ws) (Tree.pair (template_in ns (task_form ds t a)) (template_in ns (task_form ds t d)) ∷ stack_templates ts places) ≡ true → list_all is_low ts ≡ true → WorksLow ds t ns (reverse w3) ts places
@@ -96,11 +85,6 @@ pair_low ds t ns ws w1 w2 w3 a d ts places e1 e2 e3 all there =
       there = there;
     }
 
-pub same_low : (ds : List Sited) (t : Table) (ns : Names) (ws w1 : List Work) (a : Task) (ts : List Template) (places : List ℕ) → w1 ≡ ws ++ Term a ∷ [] →
-    all_low ds t ns (reverse ws) (template_in ns (task_form ds t a) ∷ stack_templates ts places) ≡ true → list_all is_low ts ≡ true → WorksLow ds t ns (reverse w1) ts places
-same_low ds t ns ws w1 a ts places e all there = record {
-  left = ap (λ l. all_low ds t ns l (stack_templates ts places)) (ap reverse e ∙ reverse-append ws (Term a ∷ [])) ∙ all;
-  there = there;
 }
 
 -- what was joined

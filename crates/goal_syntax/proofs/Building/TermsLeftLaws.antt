@@ -188,10 +188,6 @@ arguments_put ts us vs ps rest p at split first place later =
     later ∙ ap (λ u. with_arguments u rest) first ∙ ap (λ l. record ts { arguments = l }) (append_assoc ts.arguments (p ∷ []) rest) ∙ ap (with_arguments ts) (sym split) in
     rw place (arguments_there ts vs ps whole)
 
-pub no_arguments : (ts : Tables) (ps : List ℕ) → length ps ≡ 0 → HasArguments ts 0 (length ps) (map (template_at (templates_of ts.terms)) ps)
-no_arguments ts [] none = record { there = omega arith; are = refl; counted = refl }
-no_arguments ts (p ∷ ps) none = absurd (omega arith)
-
 -- the places behind the first one
 pub later_below : (ts us : Tables) (ps rest : List ℕ) (p : ℕ) → ps ≡ p ∷ rest → us ≡ with_argument ts p → are_below (length ts.terms) ps ≡ true → are_below (length us.terms) rest ≡ true
 later_below ts us ps rest p split put below = rw put (and_parts _ _ (sym (ap (are_below (length ts.terms)) split) ∙ below)).1
@@ -223,8 +219,3 @@ pub both_there : (ts us : Tables) (a d : ℕ) (t u : Template) → HasTemplate u
 both_there ts us a d t u first rest grows =
     let later = grows.templates d u rest in
     and_from _ _ (lt-ltb a (length us.terms) first.there) (lt-ltb d (length us.terms) later.there)
-
--- a template that was built has its place on the stack
-pub place_left : (ts : List Template) (ps : List ℕ) (t : Template) → stack_templates ts ps ≡ t ∷ [] → length ps ≡ 0 → ⊥
-place_left ts [] t made none = cc
-place_left ts (p ∷ ps) t made none = omega (arith, none)

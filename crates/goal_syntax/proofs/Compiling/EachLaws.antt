@@ -1,5 +1,5 @@
 -- Tests of each entry of a table that is read entry after entry.
-use Rattle.std.proofs.Common.{◌≡◌, ℕ, zero, suc, ◌+◌, Bool, true, false, List, [], ◌∷◌, drop, Some, None, unwrap_or, sym, ap, ◌∙◌, arith}
+use Rattle.std.proofs.Common.{◌≡◌, ℕ, zero, suc, ◌+◌, Bool, true, false, List, [], ◌∷◌, drop, Some, None, unwrap_or, sym, ap, ◌∙◌}
 use Rattle.std.specs.Prelude.{◌&&◌, slice_get}
 use Rattle.std.specs.List.{list_all}
 use Rattle.std.proofs.Math.Seq.{drop-nil}
@@ -19,11 +19,6 @@ module _ {X : Type 0} (test : X → Bool) where
   -- one entry that fails, one that passes, and the end
   pub one_fails : (xs : List X) (i : ℕ) (x : X) → Some x ≡ slice_get xs i → test x ≡ false → list_all test (drop i xs) ≡ list_all test xs → false ≡ list_all test xs
   one_fails xs i x is fails all = ap (λ b. b && list_all test (drop (suc i) xs)) (sym fails) ∙ sym (from_place xs i x is) ∙ all
-
-  pub one_passes : (xs : List X) (i : ℕ) (x : X) → Some x ≡ slice_get xs i → test x ≡ true → list_all test (drop i xs) ≡ list_all test xs → list_all test (drop (i + 1) xs) ≡ list_all test xs
-  one_passes xs i x is passes all =
-      let next : i + 1 ≡ suc i = omega arith in
-      ap (λ k. list_all test (drop k xs)) next ∙ ap (λ b. b && list_all test (drop (suc i) xs)) (sym passes) ∙ sym (from_place xs i x is) ∙ all
 
   pub all_pass : (xs : List X) (i : ℕ) → None ≡ slice_get xs i → list_all test (drop i xs) ≡ list_all test xs → true ≡ list_all test xs
   all_pass xs i is all = sym (past_end xs i is) ∙ all
