@@ -1,17 +1,7 @@
 -- The elements of lists, counted from the first on.
 use Rattle.std.proofs.Common.{◌≡◌, ℕ, ◌+◌, ◌∷◌, sym, ◌∙◌, ap, Option, Some, None}
-use Rattle.std.specs.Prelude.{false, option_map}
-use Rattle.kan_grammar.specs.Texts.Sited.{Sited, count}
-use Rattle.goal_forms.specs.Shapes.{parts, is_end, only, two}
-
--- what is no pair ends the count
-pub count_none : (k : ℕ) (s whole : Sited) → None ≡ parts s → false ≡ is_end s → option_map (λ n. k + n) (count s) ≡ count whole → None ≡ count whole
-count_none k (Sited.name at s) whole none ends kept = kept
-count_none k (Sited.text at n) whole none ends kept = kept
-count_none k (Sited.num at n) whole none ends kept = kept
-count_none k (Sited.bool at b) whole none ends kept = kept
-count_none k (Sited.nil at) whole none ends kept = cc
-count_none k (Sited.pair at b c) whole none ends kept = cc
+use Rattle.kan_grammar.specs.Texts.Sited.{Sited}
+use Rattle.goal_forms.specs.Shapes.{only, two}
 
 -- a list of one is a pair before an end
 pub only-is : (s a : Sited) → Some a ≡ only s → (at : ℕ) × (end : ℕ) × (s ≡ Sited.pair at a (Sited.nil end))

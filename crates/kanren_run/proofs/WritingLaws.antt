@@ -68,9 +68,6 @@ rest-joined table n p sts k t =
     ∙ append_assoc (answer_lines table sts) (answer_lines table t.stores) (summary_line (n + length sts + length t.stores) (p + k + t.pulls) t.ending)
 
 -- pieces of a text, put one after the other
-pub begun : (text : List ℕ) (sink : SinkView) → Written text sink sink text
-begun text sink = record { front = []; parts = refl; put_front = Appends-nil sink.put; still = refl }
-
 pub written_more : (text rest last piece : List ℕ) (a b c : SinkView) → Written text a b rest → rest ≡ piece ++ last → Appends b.put c.put piece → c.faults ≡ b.faults → Written text a c last
 written_more text rest last piece a b c w parts put still = record {
   front = w.front ++ piece;
@@ -81,9 +78,6 @@ written_more text rest last piece a b c w parts put still = record {
 
 pub written_on : (text rest last : List ℕ) (a b c : SinkView) → Written text a b rest → Written rest b c last → Written text a c last
 written_on text rest last a b c w v = written_more text rest last v.front a b c w v.parts v.put_front v.still
-
-pub all_written : {A : Type 0} (text : List ℕ) (x : A) (a b : SinkView) → Written text a b [] → Puts text a b (Ok x)
-all_written text x a b w = (subst (Appends a.put b.put) (sym (w.parts ∙ append-nil w.front)) w.put_front, w.still)
 
 -- a front of what is left is one of the whole text
 front_on : (text rest : List ℕ) (a b c : Option (List ℕ)) (front : List ℕ) → text ≡ front ++ rest → Appends a b front → PutsFront b c rest → PutsFront a c text

@@ -1,8 +1,7 @@
 -- Texts with spaces between them.
-use Rattle.std.proofs.Common.{◌≡◌, ℕ, zero, suc, ◌+◌, ◌<◌, Bool, true, false, List, [], ◌∷◌, ◌++◌, length, map, get_or, take, refl, sym, ◌∙◌, ap, ap₂, append_assoc, append-nil, arith, true≢false}
+use Rattle.std.proofs.Common.{◌≡◌, ℕ, ◌+◌, ◌<◌, true, false, List, [], ◌∷◌, ◌++◌, length, map, get_or, take, refl, sym, ◌∙◌, ap, ap₂, append_assoc, append-nil, arith, true≢false}
 use Rattle.std.specs.Prelude.{codes, ◌&&◌}
-use Rattle.std.specs.List.{flat_map, list_all}
-use Rattle.std.proofs.lemmas.Bool.{and_parts}
+use Rattle.std.specs.List.{flat_map}
 use Rattle.std.proofs.lemmas.List.{map-append, take_more, length-map, length-take-le}
 use Rattle.kan_model.specs.Answers.Text.{with_spaces}
 use Rattle.kan_model.specs.Answers.AnswerText.{where_text, names_texts, constraint_texts, difference_text, absence_text}
@@ -85,12 +84,3 @@ so_many f xs i below = length-map (take i xs) f ∙ length-take-le i xs (omega (
 
 pub so_many_twice : {X Y Z : Type 0} (f : Y → Z) (g : X → Y) (xs : List X) (i : ℕ) → i < length xs → length (map f (map g (take i xs))) ≡ i
 so_many_twice f g xs i below = length-map (map g (take i xs)) f ∙ so_many g xs i below
-
--- what all items pass each one passes
-pub passes_at : {X : Type 0} (p : X → Bool) (xs : List X) (i : ℕ) (x : X) → i < length xs → x ≡ get_or xs i x → list_all p xs ≡ true → p x ≡ true
-passes_at {X = X} p xs i x below is all = ap p is ∙ at xs i below all
-  where
-    at : (ys : List X) (k : ℕ) → k < length ys → list_all p ys ≡ true → p (get_or ys k x) ≡ true
-    at [] k below all = absurd (let none : ⊥ = omega (arith, below) in none)
-    at (y ∷ ys) zero below all = (and_parts (p y) (list_all p ys) all).0
-    at (y ∷ ys) (suc k) below all = at ys k (let b : k < length ys = omega (arith, below) in b) (and_parts (p y) (list_all p ys) all).1

@@ -1,5 +1,5 @@
 -- Strings: where one ends, what its characters mean, and that a table may hold its text.
-use Rattle.std.proofs.Common.{◌≡◌, ℕ, zero, suc, ◌+◌, ◌<◌, ◌≤◌, Bool, true, false, cond, List, [], ◌∷◌, ◌++◌, length, take, drop, get_or, refl, sym, ap, ◌∙◌, arith, append_assoc, append-nil}
+use Rattle.std.proofs.Common.{◌≡◌, ℕ, zero, suc, ◌+◌, ◌<◌, ◌≤◌, Bool, true, false, cond, List, [], ◌∷◌, ◌++◌, length, take, refl, sym, ap, ◌∙◌, arith, append_assoc, append-nil}
 use Rattle.std.specs.Prelude.{◌==◌, ◌&&◌, nat_lt, if◌then◌else◌, Option, None, Some, encode_utf8}
 use Rattle.std.specs.List.{list_all, flat_map}
 use Rattle.std.proofs.lemmas.Bool.Decides.{nat_tests}
@@ -173,15 +173,3 @@ meaning_text e (b ∷ bs) zero h = refl
 meaning_text e (b ∷ bs) (suc n) h =
     let p = part_of (role e b) (string_length (begins_escape e b) bs) n h in
     byte_text e b (string_meaning (begins_escape e b) (take n bs)) p.0 (meaning_text (begins_escape e b) bs n p.1)
-
--- a string's length, byte after byte
-front : (bs : List ℕ) (at : ℕ) (d : ℕ) → at < length bs → drop at bs ≡ get_or bs at d ∷ drop (suc at) bs
-front [] at d h = absurd (omega arith)
-front (b ∷ bs) zero d h = refl
-front (b ∷ bs) (suc at) d h = front bs at d (omega arith)
-
-dropped : (bs : List ℕ) (at : ℕ) → length bs ≤ at → drop at bs ≡ []
-dropped [] zero h = refl
-dropped [] (suc at) h = refl
-dropped (b ∷ bs) zero h = absurd (omega arith)
-dropped (b ∷ bs) (suc at) h = dropped bs at (omega arith)

@@ -1,5 +1,5 @@
 -- Shapes at the front of a text.
-use Rattle.std.proofs.Common.{◌≡◌, ℕ, zero, suc, ◌+◌, ◌-◌, ◌<◌, ◌≤◌, ◌^◌, Bool, true, false, List, [], ◌∷◌, ◌++◌, length, take, drop, get_or, refl, sym, ap, ap₂, ◌∙◌, arith, append_assoc, true≢false}
+use Rattle.std.proofs.Common.{◌≡◌, ℕ, zero, suc, ◌+◌, ◌-◌, ◌<◌, ◌≤◌, ◌^◌, Bool, true, false, List, [], ◌∷◌, ◌++◌, length, take, drop, refl, sym, ap, ap₂, ◌∙◌, arith, append_assoc, true≢false}
 use Rattle.std.specs.Prelude.{◌==◌, ◌&&◌, not, eqb, if◌then◌else◌, codes, pos, negsuc}
 use Rattle.std.specs.List.{list_all, prefix_len}
 use Rattle.std.specs.Char.{is_ascii_digit}
@@ -18,7 +18,7 @@ use Rattle.term_reading.specs.declared.shapes.Lead.{Lead}
 use Rattle.term_reading.specs.declared.shapes.Lead.TheVariants as fronts
 use Rattle.term_reading.specs.declared.shapes.Step.{Step}
 use Rattle.term_reading.specs.declared.shapes.Step.TheVariants as turns
-use Rattle.term_reading.specs.Words.{Continues, IsSpelled, Moves, ends, is_fine, is_worded}
+use Rattle.term_reading.specs.Words.{Continues, IsSpelled, ends, is_fine, is_worded}
 use Rattle.term_reading.specs.Reading.{GetsDotted, GetsOpen, GetsShape, GetsTruth, follows, front, is_atom, opens, turn}
 use Rattle.term_reading.proofs.WordLaws.{digits_all, digits_begin, plain_of, plain_parts, symbol_spelled}
 
@@ -210,10 +210,6 @@ word_shape_got new bytes left shape found got table on Nil more fine over is = a
 word_shape_got new bytes left shape found got table on (Truth b) more fine over is = absurd (let e : 3 ≡ 1 = front_known table (Truth b) bytes more fronts.Word on.spelled fine is found in omega (arith, e))
 word_shape_got new bytes left shape found got table on (Str s) more fine over is = absurd (let e : 3 ≡ 2 = front_known table (Str s) bytes more fronts.Word on.spelled fine is found in omega (arith, e))
 
--- behind the open of a list
-pub pair_got : (bytes left : List ℕ) → (get_or bytes 0 0 ≡ 41 → ⊥) → left ≡ bytes → GetsOpen bytes Pair left
-pair_got bytes left other same = (λ more over is. (refl, same ∙ is), λ more is. absurd (other (ap (λ l. get_or l 0 0) is)))
-
 -- what comes behind an element
 abbrev pub turn_of : Shape → Step
 turn_of Pair = turns.Next
@@ -280,7 +276,3 @@ dotted_got new bytes rest left shape got cut table on x more atom fine is = by x
     by (Str s) atom fine is = done (Str s) (got table on (Str s) (41 ∷ more) fine refl is)
     by (Num z) atom fine is = done (Num z) (got table on (Num z) (41 ∷ more) fine refl is)
     by (Truth b) atom fine is = done (Truth b) (got table on (Truth b) (41 ∷ more) fine refl is)
-
--- moves in a longer text
-pub wider : (old new : Table) (a b size left k : ℕ) → Moves old a new b → a + k ≤ size → left ≤ b + k → Moves old size new left
-wider old new a b size left k m fits less = record { goes_on = m.goes_on; symbols = omega (arith, m.symbols, fits, less); strings = omega (arith, m.strings, fits, less); spelled = m.spelled }

@@ -66,10 +66,6 @@ behind_shorter (b ∷ c ∷ cs) behind some is = by (b == 92) (ap length is)
 pub string_is : (new table : Table) (bytes text : List ℕ) (k s : ℕ) → Continues new table → number_of new.strings text ≡ Some k → text ≡ bytes → s < length table.strings → bytes ≡ get_or table.strings s [] → k ≡ s
 string_is new table bytes text k s on known same low is = string_found new table text k s on known low (same ∙ is)
 
-pub no_string : (new table : Table) (bytes : List ℕ) (s : ℕ) → Continues new table → is_string_text bytes ≡ false → s < length table.strings → bytes ≡ get_or table.strings s [] → ⊥
-no_string new table bytes s on other low is =
-    true≢false (sym (and_parts (is_string_text (get_or table.strings s [])) (is_utf8 (get_or table.strings s [])) (string_spelled table s on.spelled low)).0 ∙ ap is_string_text (sym is) ∙ other)
-
 pub no_text : (new table : Table) (bytes : List ℕ) (s : ℕ) → Continues new table → (IsUtf8 bytes → ⊥) → s < length table.strings → bytes ≡ get_or table.strings s [] → ⊥
 no_text new table bytes s on other low is =
     other (subst IsUtf8 (sym is) (IsUtf8-from_is_utf8 _ (and_parts (is_string_text (get_or table.strings s [])) (is_utf8 (get_or table.strings s [])) (string_spelled table s on.spelled low)).1))

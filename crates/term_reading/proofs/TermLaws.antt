@@ -17,7 +17,7 @@ use Rattle.reify.specs.declared.shaping.Shape.TheVariants.{Pair, Name, Sym, Str,
 use Rattle.reify.specs.Printing.{element_text, rest_text}
 use Rattle.reify.specs.Shapes.{spelling, spells}
 use Rattle.kan_grammar.proofs.Texts.NameLaws.{goes_on_further}
-use Rattle.term_reading.specs.Words.{Continues, HasRoom, IsSpelled, Moves, ends, is_fine}
+use Rattle.term_reading.specs.Words.{Continues, IsSpelled, Moves, ends, is_fine}
 use Rattle.term_reading.specs.Reading.{GetsShape, GetsTerm, follows, is_open, is_pair, next_open, opens, text_from}
 use Rattle.term_reading.proofs.WordLaws.{digits_begin}
 use Rattle.term_reading.proofs.ShapeLaws.{symbol_parts, word_bytes}
@@ -254,9 +254,6 @@ term_printed table t =
     ap (text_from table true 0) (sym (append-nil (spelling t))) ∙ element_printed table 0 t [] ∙ append-nil (term_text table t)
 
 -- there is room for what is left
-pub room_left : (old new : Table) (size left : ℕ) → HasRoom old size → Moves old size new left → HasRoom new left
-room_left old new size left room m = (omega (arith, room.0, m.symbols), omega (arith, room.1, m.strings))
-
 pub moves_on : (old middle new : Table) (size left less : ℕ) → Moves old size middle left → Moves middle left new less → Moves old size new less
 moves_on old middle new size left less m n = record {
   goes_on = goes_on_further old middle new m.goes_on n.goes_on;

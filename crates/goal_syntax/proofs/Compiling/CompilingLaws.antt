@@ -1,6 +1,6 @@
 -- The relations and the runs of top forms, as they are built one after the other, and the widths of goals.
-use Rattle.std.proofs.Common.{◌≡◌, ℕ, zero, suc, ◌+◌, ◌<◌, ◌≤◌, ◌^◌, List, [], ◌∷◌, ◌++◌, length, map, take, get_or, refl, sym, ◌∙◌, ap, arith, append_assoc, append-nil, Some, None}
-use Rattle.std.specs.Prelude.{true, slice_get, option_map, unwrap_or}
+use Rattle.std.proofs.Common.{◌≡◌, ℕ, suc, ◌+◌, ◌<◌, ◌≤◌, ◌^◌, List, [], ◌∷◌, ◌++◌, length, map, take, get_or, refl, sym, ◌∙◌, ap, arith, append_assoc, append-nil}
+use Rattle.std.specs.Prelude.{true}
 use Rattle.std.specs.List.{flat_map}
 use Rattle.std.proofs.Math.Seq.{take-suc}
 use Rattle.std.proofs.lemmas.Grind.{flat_map-append}
@@ -9,8 +9,6 @@ use Rattle.kan_terms.specs.Table.{Table}
 use Rattle.kan_grammar.specs.declared.dialect.Dialect.{Dialect}
 use Rattle.kan_grammar.specs.Texts.Sited.{Sited}
 use Rattle.kan_model.specs.Programs.Goals as model
-use Rattle.kan_model.specs.Programs.Goals.{Goal}
-use Rattle.kan_model.specs.Programs.Measures.{noted_width}
 use Rattle.kan_grammar.specs.Texts.ProgramText.{relations_in, relations_of, queries_in, queries_of, text_meaning}
 use Rattle.kan_model.specs.Programs.Scope.{is_small}
 use Rattle.kan_model.specs.Programs.Nodes.{goal_place}
@@ -80,17 +78,6 @@ pub names_both : (t : Table) (library forms : List Sited) (start mid last made :
     entry_names made ≡ relation_names t (library ++ forms)
 names_both t library forms start mid last made begins first second same =
     ap entry_names same ∙ second ∙ ap (λ l. l ++ relation_names t forms) (first ∙ ap (λ (ts : Tables). entry_names ts ++ relation_names t library) begins) ∙ sym (flat_map-append (λ d. names_in (form t d)) library forms)
-
--- a goal that is there has the width that is noted
-found_width : (gs : List Goal) (i w : ℕ) → Some w ≡ option_map noted_width (slice_get gs i) → (i < length gs) × (w ≡ noted_width (get_or gs i Goal.fail))
-found_width [] i w e = cc
-found_width (g ∷ gs) zero w e = (omega arith, ap (λ r. unwrap_or r w) e)
-found_width (g ∷ gs) (suc i) w e = let rest = found_width gs i w e in (omega (arith, rest.0), rest.1)
-
-no_width : (gs : List Goal) (i : ℕ) → None ≡ option_map noted_width (slice_get gs i) → length gs ≤ i
-no_width [] i e = omega arith
-no_width (g ∷ gs) zero e = cc
-no_width (g ∷ gs) (suc i) e = let rest = no_width gs i e in omega (arith, rest)
 
 -- the program and the runs that were built of a text are those that are meant
 pub program_meant : (dialect : Dialect) (t : Table) (library forms : List Sited) (rules : List Defined) (start mid last : Tables) (program : Program) (none queries closed_with : List Query) →

@@ -144,11 +144,6 @@ clauses-none t (Sited.bool at b) e = refl
 clauses-none t (Sited.nil at) e = refl
 clauses-none t (Sited.pair at b c) e = cc
 
--- no goals have no faults
-pub no_goals : (rs : List Defined) (t : Table) (ds : List Sited) (ns : Names) (place : ℕ) (ws : List Waiting) → None ≡ parts (site_at ds place) →
-    stack_faults rs t ds ns (reverse ws) ≡ stack_faults rs t ds ns (waiting.Goals place ∷ reverse ws)
-no_goals rs t ds ns place ws e = sym (ap (λ gs. goals_faults rs ns gs ++ stack_faults rs t ds ns (reverse ws)) (goals-none t (site_at ds place) e))
-
 -- the first of some goals waits, and the others
 pub first_parts : (ds : List Sited) (place : ℕ) (a d : ℕ) (ws mid new : List Waiting) (v w : Waiting) → Some (site_at ds a, site_at ds d) ≡ parts (site_at ds place) →
     mid ≡ ws ++ v ∷ [] → new ≡ mid ++ w ∷ [] → waiting_parts ds v ≡ site_size (site_at ds d) → waiting_parts ds w ≡ site_size (site_at ds a) →
