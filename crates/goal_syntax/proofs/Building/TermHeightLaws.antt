@@ -26,7 +26,7 @@ use Rattle.goal_forms.specs.declared.term.Task.{Task}
 use Rattle.goal_forms.specs.declared.term.Task.TheVariants.{Term as TermOf, Terms, Template as TemplateOf, Constant}
 use Rattle.goal_syntax.specs.declared.build_term.Work.{Work}
 use Rattle.goal_syntax.specs.declared.build_term.Work.TheVariants.{Term, Pair}
-use Rattle.goal_syntax.proofs.Building.TermsLeftLaws.{built-push}
+use Rattle.goal_syntax.proofs.Building.TermsLeftLaws.{stack_templates-push}
 use Rattle.goal_forms.proofs.HeightLaws.{site_low, term_high, list_high, template_high, constant_low, slots_high}
 
 -- templates stay low from step to step
@@ -56,7 +56,7 @@ pub join_low : (ts us : List Template) (p0 p1 p2 : List ℕ) (a d : ℕ) → p0 
     list_all is_low (pair_of_last_two (stack_templates ts p0)) ≡ true → list_all is_low ts ≡ true → list_all is_low us ≡ true
 join_low ts us p0 p1 p2 a d top next put low there =
     let tops : stack_templates ts p0 ≡ template_at ts d ∷ template_at ts a ∷ stack_templates ts p2 =
-    ap (stack_templates ts) top ∙ built-push ts p1 d ∙ ap (λ l. template_at ts d ∷ l) (ap (stack_templates ts) next ∙ built-push ts p2 a) in
+    ap (stack_templates ts) top ∙ stack_templates-push ts p1 d ∙ ap (λ l. template_at ts d ∷ l) (ap (stack_templates ts) next ∙ stack_templates-push ts p2 a) in
     let made : list_all is_low (Tree.pair (template_at ts a) (template_at ts d) ∷ stack_templates ts p2) ≡ true = sym (ap (λ l. list_all is_low (pair_of_last_two l)) tops) ∙ low in
     put (and_parts (is_low (Tree.pair (template_at ts a) (template_at ts d))) (list_all is_low (stack_templates ts p2)) made).0 there
 
