@@ -24,7 +24,7 @@ pub first_numbers_kept : (first second third : Table) (q k : ℕ) → second ≡
     number_of first.symbols (prefix_name quote) ≡ Some q → number_of second.symbols (prefix_name quasiquote) ≡ Some k →
     (number_of third.symbols (prefix_name quote) ≡ Some q) × (number_of third.symbols (prefix_name quasiquote) ≡ Some k)
 first_numbers_kept first second third q k second_is third_is quoted quasiquoted = (
-    keeps_number second third (prefix_name unquote) (prefix_name quote) q third_is
-    (keeps_number first second (prefix_name quasiquote) (prefix_name quote) q second_is quoted),
-    keeps_number second third (prefix_name unquote) (prefix_name quasiquote) k third_is quasiquoted,
-  )
+  keeps_number second third (prefix_name unquote) (prefix_name quote) q third_is
+      (keeps_number first second (prefix_name quasiquote) (prefix_name quote) q second_is quoted),
+  keeps_number second third (prefix_name unquote) (prefix_name quasiquote) k third_is quasiquoted,
+)

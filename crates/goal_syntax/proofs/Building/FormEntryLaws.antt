@@ -158,23 +158,23 @@ clause_small t false c goals = omega (arith, some_parts c)
 -- the form of a goal whose head is a name, by whether it has as many parts as the name wants, and by its word
 abbrev pub goal_form_of_word : Table → ℕ → ℕ → ℕ → Sited → Bool → Word → GoalForm
 goal_form_of_word t at head s parts as_many w = elim as_many as (λ x. GoalForm) [
-    | false ↦ GoalForm.misshapen at
-    | true ↦ elim w as (λ x. GoalForm) [
-      | Word.same ↦ GoalForm.same (term_one t parts) (term_two t parts)
-      | Word.differ ↦ GoalForm.differ (term_one t parts) (term_two t parts)
-      | Word.symbolo ↦ GoalForm.symbol (term_one t parts)
-      | Word.numbero ↦ GoalForm.number (term_one t parts)
-      | Word.stringo ↦ GoalForm.text (term_one t parts)
-      | Word.absento ↦ GoalForm.absent (tag t (first parts)) (term_two t parts)
-      | Word.fresh ↦ fresh_form t at parts
-      | Word.conde ↦ GoalForm.clauses (clause_forms t parts)
-      | Word.conj ↦ GoalForm.all_of (goal_forms t parts)
-      | Word.disj ↦ GoalForm.one_of (goal_forms t parts)
-      | Word.conj_two ↦ GoalForm.all_of (goal_forms t parts)
-      | Word.disj_two ↦ GoalForm.one_of (goal_forms t parts)
-      | Word.other ↦ GoalForm.call head s (term_forms t parts)
-      | _ ↦ GoalForm.misshapen at
-    ]
+  | false ↦ GoalForm.misshapen at
+  | true ↦ elim w as (λ x. GoalForm) [
+    | Word.same ↦ GoalForm.same (term_one t parts) (term_two t parts)
+    | Word.differ ↦ GoalForm.differ (term_one t parts) (term_two t parts)
+    | Word.symbolo ↦ GoalForm.symbol (term_one t parts)
+    | Word.numbero ↦ GoalForm.number (term_one t parts)
+    | Word.stringo ↦ GoalForm.text (term_one t parts)
+    | Word.absento ↦ GoalForm.absent (tag t (first parts)) (term_two t parts)
+    | Word.fresh ↦ fresh_form t at parts
+    | Word.conde ↦ GoalForm.clauses (clause_forms t parts)
+    | Word.conj ↦ GoalForm.all_of (goal_forms t parts)
+    | Word.disj ↦ GoalForm.one_of (goal_forms t parts)
+    | Word.conj_two ↦ GoalForm.all_of (goal_forms t parts)
+    | Word.disj_two ↦ GoalForm.one_of (goal_forms t parts)
+    | Word.other ↦ GoalForm.call head s (term_forms t parts)
+    | _ ↦ GoalForm.misshapen at
+  ]
 ]
 
 mutual

@@ -85,8 +85,6 @@ pair_low ds t ns ws w1 w2 w3 a d ts places e1 e2 e3 all there =
       there = there;
     }
 
-}
-
 -- what was joined
 pub joined_low : (ds : List Sited) (t : Table) (ns : Names) (ws : List Work) (ts us : List Template) (p0 p1 : List ℕ) → stack_templates us p1 ≡ pair_of_last_two (stack_templates ts p0) →
     (list_all is_low (pair_of_last_two (stack_templates ts p0)) ≡ true → list_all is_low ts ≡ true → list_all is_low us ≡ true) → WorksLow ds t ns (Pair ∷ ws) ts p0 → WorksLow ds t ns ws us p1
