@@ -157,8 +157,8 @@ under_marked us (Tree.pair a b) = ap (λ l. marks.Pair ∷ l) (flat_map-append (
 pub over_rises : (a : Answer) → is_over_names a ≡ true → rises 0 (spelling a.term) ≡ true
 over_rises a h = sym (term_rises a.term) ∙ (and_parts (counts_up 0 (named_variables a.term)) (constraints_below (name_count a) a) h).0
 
-pub covered : (a : Answer) (u : Gd) (vs : List (List Mark)) (b : Bool) → is_over_names a ≡ true → Finds (spelling a.term) (grounds.spelling u) vs → b ≡ covers vs a (grounds.spelling u) → IsTrue b ↔ model.Covers a u
-covered a u vs b over f is = (there, back)
+pub covers_exactly : (a : Answer) (u : Gd) (vs : List (List Mark)) (b : Bool) → is_over_names a ≡ true → Finds (spelling a.term) (grounds.spelling u) vs → b ≡ covers vs a (grounds.spelling u) → IsTrue b ↔ model.Covers a u
+covers_exactly a u vs b over f is = (there, back)
   where
     parts : (counts_up 0 (named_variables a.term) ≡ true) × (constraints_below (name_count a) a ≡ true)
     parts = and_parts (counts_up 0 (named_variables a.term)) (constraints_below (name_count a) a) over
@@ -201,5 +201,5 @@ found_as xs ys ms ns one other e f g found = subst (λ l. Found l ns other) e (s
 
 pub covered_as : {E : Type 0} (a : Answer) (u : Gd) (values : List (List Mark)) (r : Result Bool E) (vs : List (List Mark)) (ms : List Mark) → is_over_names a ≡ true → Finds (spelling a.term) (grounds.spelling u) values →
     vs ≡ values → ms ≡ grounds.spelling u → IfOk r (λ b. b ≡ covers vs a ms) → IfOk r (λ b. IsTrue b ↔ model.Covers a u)
-covered_as a u values (Ok b) vs ms over f e g is = covered a u values b over f (is ∙ ap₂ (λ l m. covers l a m) e g)
+covered_as a u values (Ok b) vs ms over f e g is = covers_exactly a u values b over f (is ∙ ap₂ (λ l m. covers l a m) e g)
 covered_as a u values (Err x) vs ms over f e g is = tt

@@ -99,9 +99,6 @@ spaced_ends text fine xs made rest more b none fourth (ls, is, all, e) = by ls i
 abbrev pub LeftNames : List ℕ → List ℕ → List ℕ → Type 0
 LeftNames start made rest = (ns more : List ℕ) → list_all is_short ns ≡ true → start ≡ with_spaces (map name_text ns) ++ 41 ∷ more → Listed name_text is_short ns made rest more
 
-pub names_begun : (start : List ℕ) → LeftNames start [] start
-names_begun start ns more all is = (ns, refl, all, is)
-
 pub names_go_on : (start made grown rest left behind : List ℕ) (n : ℕ) → begins 95 rest ≡ true →
     ((m : ℕ) (u : List ℕ) → m < 2 ^ 64 → ends u ≡ true → rest ≡ name_text m ++ u → (n ≡ m) × (left ≡ u)) → grown ≡ made ++ n ∷ [] → behind ≡ past_space left →
     LeftNames start made rest → LeftNames start grown behind
@@ -122,13 +119,6 @@ past_shorter (b ∷ bs) behind is = by (b == 32) (ap length is)
 pub begins_some : (b : ℕ) (bytes : List ℕ) → begins b bytes ≡ true → 0 < length bytes
 begins_some b [] h = absurd (true≢false (sym h))
 begins_some b (c ∷ cs) h = omega arith
-
-pub fourth_some : (b : ℕ) (bytes : List ℕ) → has_fourth b bytes ≡ true → 3 < length bytes
-fourth_some b [] h = absurd (true≢false (sym h))
-fourth_some b (x ∷ []) h = absurd (true≢false (sym h))
-fourth_some b (x ∷ y ∷ []) h = absurd (true≢false (sym h))
-fourth_some b (x ∷ y ∷ z ∷ []) h = absurd (true≢false (sym h))
-fourth_some b (x ∷ y ∷ z ∷ w ∷ ws) h = omega arith
 
 -- a pair
 four_pieces : (n s more : List ℕ) → (codes "(" ++ n ++ codes " " ++ s ++ codes ")") ++ more ≡ 40 ∷ (n ++ 32 ∷ (s ++ 41 ∷ more))
@@ -156,9 +146,6 @@ LeftPairs new start made rest =
     (table : Table) → Continues new table → (ps : List NamePair) (more : List ℕ) → list_all (is_fine_pair table) ps ≡ true → start ≡ with_spaces (map (pair_text table) ps) ++ 41 ∷ more →
     Listed (pair_text table) (is_fine_pair table) ps made rest more
 
-pub pairs_begun : (new : Table) (start : List ℕ) → LeftPairs new start [] start
-pairs_begun new start table on ps more all is = (ps, refl, all, is)
-
 pub pairs_go_on : (old new : Table) (start rest left behind : List ℕ) (made grown : List NamePair) (pair : NamePair) → begins 40 rest ≡ true → GoesOn old new → GetsPair new rest pair left → grown ≡ made ++ pair ∷ [] → behind ≡ past_space left →
     LeftPairs old start made rest → LeftPairs new start grown behind
 pairs_go_on old new start rest left behind made grown pair some goes read add past held table on ps more all is =
@@ -174,9 +161,6 @@ abbrev pub LeftDifferences : Table → List ℕ → List (List NamePair) → Lis
 LeftDifferences new start made rest =
     (table : Table) → Continues new table → (ds : List (List NamePair)) (more : List ℕ) → list_all (list_all (is_fine_pair table)) ds ≡ true → has_fourth 47 more ≡ false →
     start ≡ flat_map behind_space (map (difference_text table) ds) ++ more → Spaced (difference_text table) (list_all (is_fine_pair table)) ds made rest more
-
-pub differences_begun : (new : Table) (start : List ℕ) → LeftDifferences new start [] start
-differences_begun new start table on ds more all other is = (ds, refl, all, is)
 
 difference_got : (table new : Table) (rest cut back left : List ℕ) (pairs : List NamePair) → Continues new table → cut ≡ drop 7 rest → GetsPairs new cut pairs back → left ≡ drop 2 back →
     (ps : List NamePair) (u : List ℕ) → list_all (is_fine_pair table) ps ≡ true → rest ≡ behind_space (difference_text table ps) ++ u → (pairs ≡ ps) × (left ≡ u)
@@ -203,13 +187,6 @@ pub kind_got : (letter : ℕ) (bytes cut names back left : List ℕ) → has_fou
 kind_got letter bytes cut names back left some one read two a c [] more all other is = absurd (true≢false (sym some ∙ ap (has_fourth letter) is ∙ other))
 kind_got letter bytes cut names back left some one read two a c (n ∷ ns) more all other is =
     let got = read (n ∷ ns) more all (one ∙ ap (drop 6) is ∙ kind_cut a letter c n ns more) in (got.0, two ∙ ap (drop 1) got.1)
-
-eqb_same : (n : ℕ) → (n == n) ≡ true
-eqb_same n = grind (arith, nat_tests)
-
-pub no_kind : (letter : ℕ) (bytes names left : List ℕ) → has_fourth letter bytes ≡ false → names ≡ [] → left ≡ bytes → GetsKind letter bytes names left
-no_kind letter bytes names left none empty same a c [] more all other is = (empty, same ∙ is)
-no_kind letter bytes names left none empty same a c (n ∷ ns) more all other is = absurd (true≢false (sym (ap (has_fourth letter) is ∙ eqb_same letter) ∙ none))
 
 pub kind_fourth : (b a letter c : ℕ) (ns more : List ℕ) → (letter == b) ≡ false → has_fourth b more ≡ false → has_fourth b (flat_map behind_space (names_texts (a ∷ letter ∷ c ∷ []) ns) ++ more) ≡ false
 kind_fourth b a letter c [] more other none = none
@@ -247,9 +224,6 @@ abbrev pub LeftAbsences : Table → List ℕ → List model.Absence → List ℕ
 LeftAbsences new start made rest =
     (table : Table) → Continues new table → (as_ : List model.Absence) → list_all (is_fine_absence table) as_ ≡ true → start ≡ flat_map behind_space (map (absence_text table) as_) →
     Spaced (absence_text table) (is_fine_absence table) as_ made rest []
-
-pub absences_begun : (new : Table) (start : List ℕ) → LeftAbsences new start [] start
-absences_begun new start table on as_ all is = (as_, refl, all, is ∙ sym (append-nil _))
 
 abbrev the_none : Option model.Absence
 the_none = None

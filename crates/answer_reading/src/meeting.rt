@@ -48,7 +48,7 @@ fn are_differences_met(
     requires { list_all all_whole disequalities.now ≡ true }
     ensures { IfOk result (λ met. met
         ≡ list_all (difference_met (lent_lists values.now))
-            (map (map named_pair) disequalities.now)) }
+        (map (map named_pair) disequalities.now)) }
 {
     for pairs in disequalities {
         let met = is_difference_met(alloc, values, pairs.items())?;

@@ -18,7 +18,7 @@ use Rattle.command_line.specs.Parts.{Setting}
 use Rattle.command_line.specs.Parts.{Workers, Fuel, Ahead, Round, Dialect, Gen}
 use Rattle.command_line.specs.Clap.{given_in, AreUtf8}
 use Rattle.command_line.proofs.ClapRules.{name_of, rules}
-use Rattle.command_line.proofs.ClapWords.{Seen, sees_end, sees_named, sees_dashed, sees_plain, seen}
+use Rattle.command_line.proofs.ClapWords.{Seen, sees_end, sees_named, sees_dashed, sees_plain, word_seen}
 use Rattle.command_line.proofs.ClapRows.{one_row, are_filled, filled_more, has_other, has_own, given_more, given_again, id_of, value_of}
 use Rattle.command_line.proofs.ClapWalk.{built_library, held_at, walk_at, outcome}
 use Rattle.command_line.proofs.ClapSteps.{option_reading, end_step, value_step, value_again, await_step, library_step, library_again, library_valued, unknown_step, dashed_step, plain_step, plain_second, trail_step, trail_second, nothing_left, half_step, held_clean, held_settles, file_clean, file_settles, held_again, half_fault, fails_nothing, fails_over, fails_named, fails_dashed, fails_plain, fails_end, half_end, half_named, half_dashed}
@@ -114,7 +114,7 @@ failing_seen x xs utf8 (sees_plain two long short is) later rows0 p k ks bad pos
 
 failing_more : (x : Text) (xs : List Text) → IsUtf8 x → Failing xs → Failing (x ∷ xs)
 failing_more x xs utf8 later rows0 p k ks bad pos at true = fails_over rows0 p k ks bad pos idle x xs at
-failing_more x xs utf8 later rows0 p k ks bad pos at false = failing_seen x xs utf8 (seen x) later rows0 p k ks bad pos at
+failing_more x xs utf8 later rows0 p k ks bad pos at false = failing_seen x xs utf8 (word_seen x) later rows0 p k ks bad pos at
 
 -- nothing is given any more once the options end where one awaits its value
 awaits_for_ever : (xs : List Text) (rows : List Row) (s : Setting) (pos : ℕ) → (pos ≡ 1) ⊎ (pos ≡ 2) → outcome (walk_at rows (Some (name_of s, [])) (option (name_of s)) pos true) xs ≡ None
@@ -206,13 +206,13 @@ module _ (x : Text) (xs : List Text) (rest : Resting xs) (waits : Awaiting xs) (
 
 resting_more : (x : Text) (xs : List Text) → IsUtf8 x → Resting xs → Awaiting xs → Resting (x ∷ xs)
 resting_more x xs utf8 rest waits rows0 p rows clean settles filled pos at true = later_file x xs rest waits rows0 p rows clean settles filled pos at (has_row (codes "file") rows) refl
-resting_more x xs utf8 rest waits rows0 p rows clean settles filled pos at false = by_spelling x xs rest waits rows0 p rows clean settles filled pos at utf8 (seen x)
+resting_more x xs utf8 rest waits rows0 p rows clean settles filled pos at false = by_spelling x xs rest waits rows0 p rows clean settles filled pos at utf8 (word_seen x)
 
 all_words : (xs : List Text) → AreUtf8 xs → Resting xs × Awaiting xs × Failing xs
 all_words [] utf8 = (resting_end, awaiting_end, failing_end)
 all_words (x ∷ xs) utf8 =
     let later = all_words xs utf8.1 in
-    (resting_more x xs utf8.0 later.0 later.1, awaiting_seen x xs utf8.0 (seen x) later.0 later.2, failing_more x xs utf8.0 later.2)
+    (resting_more x xs utf8.0 later.0 later.1, awaiting_seen x xs utf8.0 (word_seen x) later.0 later.2, failing_more x xs utf8.0 later.2)
 
 -- the walk from the start comes to what the words give
 pub walk_gives : (words : List Text) → AreUtf8 words → outcome (walk_at [] None idle 1 false) words ≡ values_given words

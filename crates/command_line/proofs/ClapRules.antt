@@ -1,7 +1,7 @@
 -- The command as clap sees it.
 use Rattle.std.proofs.Common.{◌≡◌, true, List, [], codes, refl}
 use Rattle.clap.specs.Walk.{Rule}
-use Rattle.clap.specs.Simple.{Shape, built, names_of}
+use Rattle.clap.specs.Simple.{Shape, built}
 use Rattle.clap.specs.Faults.{is_simple_and_free}
 use Rattle.command_line.specs.Clap.{app}
 use Rattle.command_line.specs.Parts.{Text}
@@ -13,9 +13,6 @@ is_exact = refl
 
 abbrev pub shape : Shape
 shape = (built app).top
-
-pub no_subcommands : names_of (built app) ≡ []
-no_subcommands = refl
 
 abbrev pub rules : List Rule
 rules = shape.rules

@@ -34,6 +34,6 @@ by_first b r = go (b == 45) refl
     go true e = let is : b ≡ 45 = grind (arith, nat_tests) in rw is (dash r)
     go false e = sees_plain (rw e refl) (rw e refl) (rw e refl) (rw e refl)
 
-pub seen : (w : Text) → Seen w
-seen [] = sees_plain refl refl refl refl
-seen (b ∷ bs) = by_first b bs
+pub word_seen : (w : Text) → Seen w
+word_seen [] = sees_plain refl refl refl refl
+word_seen (b ∷ bs) = by_first b bs

@@ -9,15 +9,15 @@ use Rattle.goal_forms.specs.Parts.{site_at}
 use Rattle.goal_forms.specs.Places.{stack_sites}
 use Rattle.goal_forms.specs.Flattening.{meaning}
 
-kept-reverse : (ds : List Sited) (ps : List ℕ) → stack_sites ds ps ≡ reverse (map (site_at ds) ps)
-kept-reverse ds [] = refl
-kept-reverse ds (p ∷ ps) = ap (λ l. l ++ site_at ds p ∷ []) (kept-reverse ds ps) ∙ sym (reverse-append (site_at ds p ∷ []) (map (site_at ds) ps))
+stack_sites-reverse : (ds : List Sited) (ps : List ℕ) → stack_sites ds ps ≡ reverse (map (site_at ds) ps)
+stack_sites-reverse ds [] = refl
+stack_sites-reverse ds (p ∷ ps) = ap (λ l. l ++ site_at ds p ∷ []) (stack_sites-reverse ds ps) ∙ sym (reverse-append (site_at ds p ∷ []) (map (site_at ds) ps))
 
 -- what was made of two lists of data, the later on top
 pub both_made : (ds : List Sited) (ps : List ℕ) (before : List Sited) (first later : List Sited) → stack_sites ds ps ≡ reverse later ++ before → before ≡ reverse first ++ [] → map (site_at ds) ps ≡ first ++ later
 both_made ds ps before first later second earlier =
     let all : reverse (map (site_at ds) ps) ≡ reverse (first ++ later) =
-    sym (kept-reverse ds ps) ∙ second ∙ ap (λ l. reverse later ++ l) (earlier ∙ append-nil (reverse first)) ∙ sym (reverse-append first later) in
+    sym (stack_sites-reverse ds ps) ∙ second ∙ ap (λ l. reverse later ++ l) (earlier ∙ append-nil (reverse first)) ∙ sym (reverse-append first later) in
     sym (reverse-reverse (map (site_at ds) ps)) ∙ ap reverse all ∙ reverse-reverse (first ++ later)
 
 -- the places of the first and of the later ones

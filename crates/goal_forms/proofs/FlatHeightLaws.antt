@@ -25,7 +25,7 @@ use Rattle.goal_forms.specs.Flattening.{meaning}
 use Rattle.goal_forms.specs.declared.flat_data.Part.TheVariants.{Pair}
 use Rattle.goal_forms.specs.declared.flatten.Work.{Work}
 use Rattle.goal_forms.specs.declared.flatten.Work.TheVariants as works
-use Rattle.goal_forms.proofs.PlaceLaws.{kept-push, prefix_kept}
+use Rattle.goal_forms.proofs.PlaceLaws.{stack_sites-push, prefix_kept}
 use Rattle.goal_forms.proofs.FlatteningLaws.{list_is, prefixed_is}
 
 -- a pair is low where its parts are, and those are where it is
@@ -43,7 +43,7 @@ pub join_low : (at : ℕ) (ds new : List Sited) (p0 p1 p2 : List ℕ) (a d : ℕ
     list_all is_low_datum (pair_of_last_two at (stack_sites ds p0)) ≡ true → AreLow ds → AreLow new
 join_low at ds new p0 p1 p2 a d top next grown low there =
     let tops : stack_sites ds p0 ≡ site_at ds d ∷ site_at ds a ∷ stack_sites ds p2 =
-    ap (stack_sites ds) top ∙ kept-push ds p1 d ∙ ap (λ l. site_at ds d ∷ l) (ap (stack_sites ds) next ∙ kept-push ds p2 a) in
+    ap (stack_sites ds) top ∙ stack_sites-push ds p1 d ∙ ap (λ l. site_at ds d ∷ l) (ap (stack_sites ds) next ∙ stack_sites-push ds p2 a) in
     let made : list_all is_low_datum (Sited.pair at (site_at ds a) (site_at ds d) ∷ stack_sites ds p2) ≡ true = sym (ap (λ l. list_all is_low_datum (pair_of_last_two at l)) tops) ∙ low in
     put_low ds new (part_site ds at (Pair a d)) grown (and_parts (is_low_datum (Sited.pair at (site_at ds a) (site_at ds d))) (list_all is_low_datum (stack_sites ds p2)) made).0 there
 
@@ -56,7 +56,7 @@ pub prefix_low : (at s : ℕ) (d0 d1 d2 d3 d4 : List Sited) (p0 p1 p2 p3 p4 p5 :
 prefix_low at s d0 d1 d2 d3 d4 p0 p1 p2 p3 p4 p5 d top below named q2 q3 ended q4 inner first second low there =
     let inside : Sited = Sited.pair at (site_at d0 d) (Sited.nil at) in
     let whole : Sited = Sited.pair at (Sited.name at s) inside in
-    let k0 : stack_sites d0 p0 ≡ site_at d0 d ∷ stack_sites d0 p1 = ap (stack_sites d0) top ∙ kept-push d0 p1 d in
+    let k0 : stack_sites d0 p0 ≡ site_at d0 d ∷ stack_sites d0 p1 = ap (stack_sites d0) top ∙ stack_sites-push d0 p1 d in
     let k4 = prefix_kept at s d0 d1 d2 p0 p1 p2 p3 p4 d top below named q2 q3 ended q4 in
     let made : list_all is_low_datum (whole ∷ stack_sites d0 p1) ≡ true = sym (ap (λ l. list_all is_low_datum (prefixed_last at s l)) k0) ∙ low in
     let both = and_parts (is_low_datum whole) (list_all is_low_datum (stack_sites d0 p1)) made in

@@ -85,8 +85,8 @@ read_none rows lent place same within =
     get_or_past (sites_after [] rows) place (Sited.nil 0) (omega arith)
 
 -- a part that is added
-pub pushed : (old new : List FlatPart) (node : FlatPart) → new ≡ old ++ node ∷ [] → sites_after [] new ≡ sites_after [] old ++ node_site (sites_after [] old) node ∷ []
-pushed old new node grown = ap (sites_after []) grown ∙ sites-push [] old node
+pub sites_after_push : (old new : List FlatPart) (node : FlatPart) → new ≡ old ++ node ∷ [] → sites_after [] new ≡ sites_after [] old ++ node_site (sites_after [] old) node ∷ []
+sites_after_push old new node grown = ap (sites_after []) grown ∙ sites-push [] old node
 
 pub pushed_grown : (old new : List FlatPart) (node : FlatPart) → new ≡ old ++ node ∷ [] → are_grown 0 old ≡ true → is_grown (length (sites_after [] old)) node ≡ true → are_grown 0 new ≡ true
 pushed_grown old new node longer grown last =

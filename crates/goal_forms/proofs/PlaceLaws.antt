@@ -14,16 +14,16 @@ use Rattle.goal_forms.specs.Places.{are_below, stack_sites, pair_of_last_two, pr
 use Rattle.goal_forms.proofs.PartLaws.{site_at-more}
 
 -- the top of the stack comes first
-pub kept-push : (ds : List Sited) (ps : List ℕ) (p : ℕ) → stack_sites ds (ps ++ p ∷ []) ≡ site_at ds p ∷ stack_sites ds ps
-kept-push ds [] p = refl
-kept-push ds (q ∷ ps) p = ap (λ l. l ++ site_at ds q ∷ []) (kept-push ds ps p)
+pub stack_sites-push : (ds : List Sited) (ps : List ℕ) (p : ℕ) → stack_sites ds (ps ++ p ∷ []) ≡ site_at ds p ∷ stack_sites ds ps
+stack_sites-push ds [] p = refl
+stack_sites-push ds (q ∷ ps) p = ap (λ l. l ++ site_at ds q ∷ []) (stack_sites-push ds ps p)
 
 -- what was made stays as it is among more data
-pub kept-more : (ds more : List Sited) (ps : List ℕ) → are_below (length ds) ps ≡ true → stack_sites (ds ++ more) ps ≡ stack_sites ds ps
-kept-more ds more [] below = refl
-kept-more ds more (p ∷ ps) below =
+pub stack_sites-more : (ds more : List Sited) (ps : List ℕ) → are_below (length ds) ps ≡ true → stack_sites (ds ++ more) ps ≡ stack_sites ds ps
+stack_sites-more ds more [] below = refl
+stack_sites-more ds more (p ∷ ps) below =
     let both = and_parts _ _ below in
-    ap (λ l. l ++ site_at (ds ++ more) p ∷ []) (kept-more ds more ps both.1) ∙ ap (λ d. stack_sites ds ps ++ d ∷ []) (site_at-more ds more p (ltb-true p (length ds) both.0))
+    ap (λ l. l ++ site_at (ds ++ more) p ∷ []) (stack_sites-more ds more ps both.1) ∙ ap (λ d. stack_sites ds ps ++ d ∷ []) (site_at-more ds more p (ltb-true p (length ds) both.0))
 
 pub below-more : (n m : ℕ) (ps : List ℕ) → n ≤ m → are_below n ps ≡ true → are_below m ps ≡ true
 below-more n m [] le below = refl
@@ -44,8 +44,8 @@ below-split n (q ∷ ps) p below = let both = and_parts _ _ below in let later =
 -- a part that is put is the datum made last
 pub put_kept : (ds new : List Sited) (ps qs : List ℕ) (d : Sited) → new ≡ ds ++ d ∷ [] → qs ≡ ps ++ length ds ∷ [] → are_below (length ds) ps ≡ true → stack_sites new qs ≡ d ∷ stack_sites ds ps
 put_kept ds new ps qs d grown pushed below =
-    ap (λ l. stack_sites l qs) grown ∙ ap (stack_sites (ds ++ d ∷ [])) pushed ∙ kept-push (ds ++ d ∷ []) ps (length ds)
-    ∙ ap (λ x. x ∷ stack_sites (ds ++ d ∷ []) ps) (get_or-append_seam ds d [] (Sited.nil 0)) ∙ ap (λ l. d ∷ l) (kept-more ds (d ∷ []) ps below)
+    ap (λ l. stack_sites l qs) grown ∙ ap (stack_sites (ds ++ d ∷ [])) pushed ∙ stack_sites-push (ds ++ d ∷ []) ps (length ds)
+    ∙ ap (λ x. x ∷ stack_sites (ds ++ d ∷ []) ps) (get_or-append_seam ds d [] (Sited.nil 0)) ∙ ap (λ l. d ∷ l) (stack_sites-more ds (d ∷ []) ps below)
 
 pub put_below : (ds new : List Sited) (ps qs : List ℕ) (d : Sited) → new ≡ ds ++ d ∷ [] → qs ≡ ps ++ length ds ∷ [] → are_below (length ds) ps ≡ true → are_below (length new) qs ≡ true
 put_below ds new ps qs d grown pushed below =
@@ -71,7 +71,7 @@ pub join_made : (at : ℕ) (ds new : List Sited) (p0 p1 p2 qs : List ℕ) (a d :
 join_made at ds new p0 p1 p2 qs a d top next below grown pushed =
     let all = two_below ds p0 p1 p2 a d top next below in
     let tops : stack_sites ds p0 ≡ site_at ds d ∷ site_at ds a ∷ stack_sites ds p2 =
-    ap (stack_sites ds) top ∙ kept-push ds p1 d ∙ ap (λ l. site_at ds d ∷ l) (ap (stack_sites ds) next ∙ kept-push ds p2 a) in
+    ap (stack_sites ds) top ∙ stack_sites-push ds p1 d ∙ ap (λ l. site_at ds d ∷ l) (ap (stack_sites ds) next ∙ stack_sites-push ds p2 a) in
     put_kept ds new p2 qs (part_site ds at (Pair a d)) grown pushed all.0 ∙ sym (ap (pair_of_last_two at) tops)
 
 pub join_below : (at : ℕ) (ds new : List Sited) (p0 p1 p2 qs : List ℕ) (a d : ℕ) → p0 ≡ p1 ++ d ∷ [] → p1 ≡ p2 ++ a ∷ [] → are_below (length ds) p0 ≡ true →
@@ -107,7 +107,7 @@ prefix_kept at s d0 d1 d2 p0 p1 p2 p3 p4 d top below named q2 q3 ended q4 =
     let split = below-split (length d0) p1 d (sym (ap (are_below (length d0)) top) ∙ below) in
     let k2 : stack_sites d1 p2 ≡ Sited.name at s ∷ stack_sites d0 p1 = put_kept d0 d1 p1 p2 (Sited.name at s) named q2 split.0 in
     let same : site_at d1 d ≡ site_at d0 d = ap (λ l. site_at l d) named ∙ site_at-more d0 (Sited.name at s ∷ []) d split.1 in
-    let k3 : stack_sites d1 p3 ≡ site_at d0 d ∷ Sited.name at s ∷ stack_sites d0 p1 = ap (stack_sites d1) q3 ∙ kept-push d1 p2 d ∙ ap (λ x. x ∷ stack_sites d1 p2) same ∙ ap (λ l. site_at d0 d ∷ l) k2 in
+    let k3 : stack_sites d1 p3 ≡ site_at d0 d ∷ Sited.name at s ∷ stack_sites d0 p1 = ap (stack_sites d1) q3 ∙ stack_sites-push d1 p2 d ∙ ap (λ x. x ∷ stack_sites d1 p2) same ∙ ap (λ l. site_at d0 d ∷ l) k2 in
     let b3 = prefix_below d0 d1 p0 p1 p2 p3 d (Sited.name at s) top below named q2 q3 in
     put_kept d1 d2 p3 p4 (Sited.nil at) ended q4 b3 ∙ ap (λ l. Sited.nil at ∷ l) k3
 
@@ -117,5 +117,5 @@ pub prefix_made : (at s : ℕ) (d0 d1 d2 d3 d4 : List Sited) (p0 p1 p2 p3 p4 p5 
     stack_sites d3 p5 ≡ pair_of_last_two at (stack_sites d2 p4) → stack_sites d4 p6 ≡ pair_of_last_two at (stack_sites d3 p5) → stack_sites d4 p6 ≡ prefixed_last at s (stack_sites d0 p0)
 prefix_made at s d0 d1 d2 d3 d4 p0 p1 p2 p3 p4 p5 p6 d top below named q2 q3 ended q4 inner outer =
     let k4 = prefix_kept at s d0 d1 d2 p0 p1 p2 p3 p4 d top below named q2 q3 ended q4 in
-    let k0 : stack_sites d0 p0 ≡ site_at d0 d ∷ stack_sites d0 p1 = ap (stack_sites d0) top ∙ kept-push d0 p1 d in
+    let k0 : stack_sites d0 p0 ≡ site_at d0 d ∷ stack_sites d0 p1 = ap (stack_sites d0) top ∙ stack_sites-push d0 p1 d in
     outer ∙ ap (pair_of_last_two at) (inner ∙ ap (pair_of_last_two at) k4) ∙ sym (ap (prefixed_last at s) k0)

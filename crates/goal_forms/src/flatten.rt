@@ -95,7 +95,7 @@ fn join(at: u32, table: &mut FlatData, places: &mut Vec<u32>) -> Result<(), Memo
     ensures below { OnOk result (are_below (length (sites table.new)) places.new.items ≡ true) }
     ensures low { OnOk result
         (list_all is_low_datum
-            (pair_of_last_two at (stack_sites (sites table.old) places.old.items))
+        (pair_of_last_two at (stack_sites (sites table.old) places.old.items))
         ≡ true → AreLow (sites table.old) → AreLow (sites table.new)) }
     ensures parts { OnOk result (length (sites table.new) ≤ length (sites table.old) + 1) }
     ensures named { OnOk result ((names : Table) →
@@ -121,7 +121,7 @@ fn prefix(at: u32, symbol: u32, table: &mut FlatData, places: &mut Vec<u32>) -> 
     ensures below { OnOk result (are_below (length (sites table.new)) places.new.items ≡ true) }
     ensures low { OnOk result
         (list_all is_low_datum
-            (prefixed_last at symbol (stack_sites (sites table.old) places.old.items))
+        (prefixed_last at symbol (stack_sites (sites table.old) places.old.items))
         ≡ true → AreLow (sites table.old) → AreLow (sites table.new)) }
     ensures parts { OnOk result (length (sites table.new) ≤ length (sites table.old) + 4) }
     ensures named { OnOk result ((names : Table) →
@@ -382,7 +382,7 @@ fn turn(
     requires prefixed { AreNamed names.now prefixes.now }
     ensures made { OnOk result (stack_sites (sites table.new) places.new.items
         ≡ reverse (map (meaning names.now) forms.now)
-            ++ stack_sites (sites table.old) places.old.items) }
+        ++ stack_sites (sites table.old) places.old.items) }
     ensures below { OnOk result (are_below (length (sites table.new)) places.new.items ≡ true) }
     ensures low { OnOk result
         (AreLow (map (meaning names.now) forms.now) →

@@ -13,7 +13,7 @@ use Rattle.kan_terms.specs.declared.terms.Term.{Term}
 use Rattle.kan_model.specs.Programs.Goals.{Primitive}
 use Rattle.kan_model.specs.Stores.Store.{Store, Equation}
 use Rattle.kan_model.specs.Stores.Solve.{Replacement, apply}
-use Rattle.kan_model.specs.Stores.Kept.{is_variable, may_be, lacks_type}
+use Rattle.kan_model.specs.Stores.Kept.{may_be}
 use Rattle.kan_model.specs.Stores.Calls.{answer, AreTags, AreDifferences, SaysTheSame, differences}
 use Rattle.kan_model.specs.Answers.Answer.{has_absence, keeps_out}
 use Rattle.kan_model.specs.declared.prims.Kind.{Kind}
@@ -27,17 +27,7 @@ pub looked_up : (s : Replacement) (v : ℕ) (t r : Bor Term) (found : Option (Bo
 looked_up s v t r None is_var image_is given = rw (given, is_var) (sym image_is)
 looked_up s v t r (Some u) is_var image_is given = rw (given, is_var) (sym image_is)
 
--- a term is a variable under an answer where it is seen as one
-pub variable_seen : (s : Replacement) (v : ℕ) (t : Tm) → is_variable v (shallow_image s t) ≡ is_variable v (apply s t)
-variable_seen s v (Tree.leaf w) = refl
-variable_seen s v (Tree.sym x) = refl
-variable_seen s v (Tree.str x) = refl
-variable_seen s v (Tree.num x) = refl
-variable_seen s v (Tree.truth x) = refl
-variable_seen s v Tree.nil = refl
-variable_seen s v (Tree.pair a b) = refl
-
--- and may be of a type where it is seen so
+-- a term may be of a type where its shallow image may be
 pub type_seen : (kind : Kind) (s : Replacement) (t : Tm) → may_be kind (shallow_image s t) ≡ may_be kind (apply s t)
 type_seen kind s (Tree.leaf w) = refl
 type_seen kind s (Tree.sym x) = refl
@@ -48,16 +38,6 @@ type_seen kind s Tree.nil = refl
 type_seen Symbol s (Tree.pair a b) = refl
 type_seen Number s (Tree.pair a b) = refl
 type_seen Text s (Tree.pair a b) = refl
-
--- and lacks a type where it is seen so
-pub lack_seen : (kind : Kind) (s : Replacement) (ps : List (Primitive Tm)) (t : Tm) → lacks_type kind s ps (shallow_image s t) ≡ lacks_type kind s ps (apply s t)
-lack_seen kind s ps (Tree.leaf w) = refl
-lack_seen kind s ps (Tree.sym x) = refl
-lack_seen kind s ps (Tree.str x) = refl
-lack_seen kind s ps (Tree.num x) = refl
-lack_seen kind s ps (Tree.truth x) = refl
-lack_seen kind s ps Tree.nil = refl
-lack_seen kind s ps (Tree.pair a b) = refl
 
 -- a listed tag is one that is kept out
 tag_kept_out : (s : Replacement) (tag v : ℕ) (p : Primitive Tm) → list_any (eqb tag) (tag_at s v p) ≡ keeps_out s tag v p

@@ -87,15 +87,15 @@ found_itself s Tree.nil e = refl
 found_itself s (Tree.pair a b) e = e
 
 -- what is seen of a term is walked to
-pub walked : (ps : List (Primitive Tm)) (n : ℕ) (s : Replacement) (t r : Tm) → solve (equations ps) ≡ Some s → r ≡ shallow_image s t →
+pub walk_agrees : (ps : List (Primitive Tm)) (n : ℕ) (s : Replacement) (t r : Tm) → solve (equations ps) ≡ Some s → r ≡ shallow_image s t →
     WalksTo (answer (record { prims = ps; counter = n })) t r
-walked ps n s (Tree.leaf v) r solved is_seen = rw (solved, is_seen) (found_itself s (image s v) (applied_twice left_first (equations ps) s (Tree.leaf v) solved))
-walked ps n s (Tree.sym x) r solved is_seen = is_seen
-walked ps n s (Tree.str x) r solved is_seen = is_seen
-walked ps n s (Tree.num x) r solved is_seen = is_seen
-walked ps n s (Tree.truth x) r solved is_seen = is_seen
-walked ps n s Tree.nil r solved is_seen = is_seen
-walked ps n s (Tree.pair a b) r solved is_seen = is_seen
+walk_agrees ps n s (Tree.leaf v) r solved is_seen = rw (solved, is_seen) (found_itself s (image s v) (applied_twice left_first (equations ps) s (Tree.leaf v) solved))
+walk_agrees ps n s (Tree.sym x) r solved is_seen = is_seen
+walk_agrees ps n s (Tree.str x) r solved is_seen = is_seen
+walk_agrees ps n s (Tree.num x) r solved is_seen = is_seen
+walk_agrees ps n s (Tree.truth x) r solved is_seen = is_seen
+walk_agrees ps n s Tree.nil r solved is_seen = is_seen
+walk_agrees ps n s (Tree.pair a b) r solved is_seen = is_seen
 
 -- the counter may rise
 all_below-more : (n k : ℕ) (t : Tm) → all_below n t ≡ true → all_below (n + k) t ≡ true
@@ -137,10 +137,7 @@ nothing_answered = answer_is [] (solve []) (sym (solve_by-nothing left_first))
 pub nothing_kept : is_kept (record { prims = []; counter = 0 }) ≡ true
 nothing_kept = ap (holds_with []) (solve_by-nothing left_first)
 
--- primitives without an answer are not kept, and those with one are where they hold under it
-pub unsolved : (ps : List (Primitive Tm)) (n : ℕ) → None ≡ solve (equations ps) → is_kept (record { prims = ps; counter = n }) ≡ false
-unsolved ps n none = sym (ap (holds_with ps) none)
-
+-- primitives with an answer are kept where they hold under it
 pub kept_where : (ps : List (Primitive Tm)) (n : ℕ) (s : Replacement) (b : Bool) → Some s ≡ solve (equations ps) → b ≡ holds_under ps s → is_kept (record { prims = ps; counter = n }) ≡ b
 kept_where ps n s b answered hold = sym (ap (holds_with ps) answered) ∙ sym hold
 

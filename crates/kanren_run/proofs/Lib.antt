@@ -1,7 +1,6 @@
 pub mod TagLaws
 pub mod RunLaws
 pub mod TextLaws
-pub mod LineLaws
 pub mod WritingLaws
 pub mod Declared
 pub mod FormLaws

@@ -165,11 +165,7 @@ reads_library at number names r is h = by (read_text as_written library) library
     by (data_are ds) read e = cc
     by (refused f) read e = cc
 
--- and so are its data
-pub library_is_read : (library_on : Bool) (old names : Table) (ls : List Datum) → library_on ≡ true → old ≡ first_names → names ≡ with_text_names old library →
-    ((later : Table) → GoesOn names later → Reads library later (Ok ls)) → LibraryRead library_on names ls
-library_is_read library_on old names ls on empty numbered reads = rw on (record { named = numbered ∙ ap (λ t. with_text_names t library) empty; reads = reads })
-
+-- the library is short enough to be read
 library_measured : nat_le (length library) 1048576 ≡ true
 unfolding library
 library_measured = refl

@@ -68,9 +68,6 @@ rest-joined table n p sts k t =
     ∙ append_assoc (answer_lines table sts) (answer_lines table t.stores) (summary_line (n + length sts + length t.stores) (p + k + t.pulls) t.ending)
 
 -- pieces of a text, put one after the other
-pub begun : (text : List ℕ) (sink : SinkView) → Written text sink sink text
-begun text sink = record { front = []; parts = refl; put_front = Appends-nil sink.put; still = refl }
-
 pub written_more : (text rest last piece : List ℕ) (a b c : SinkView) → Written text a b rest → rest ≡ piece ++ last → Appends b.put c.put piece → c.faults ≡ b.faults → Written text a c last
 written_more text rest last piece a b c w parts put still = record {
   front = w.front ++ piece;
@@ -81,9 +78,6 @@ written_more text rest last piece a b c w parts put still = record {
 
 pub written_on : (text rest last : List ℕ) (a b c : SinkView) → Written text a b rest → Written rest b c last → Written text a c last
 written_on text rest last a b c w v = written_more text rest last v.front a b c w v.parts v.put_front v.still
-
-pub all_written : {A : Type 0} (text : List ℕ) (x : A) (a b : SinkView) → Written text a b [] → Puts text a b (Ok x)
-all_written text x a b w = (subst (Appends a.put b.put) (sym (w.parts ∙ append-nil w.front)) w.put_front, w.still)
 
 -- a front of what is left is one of the whole text
 front_on : (text rest : List ℕ) (a b c : Option (List ℕ)) (front : List ℕ) → text ≡ front ++ rest → Appends a b front → PutsFront b c rest → PutsFront a c text
@@ -98,9 +92,6 @@ pub stops_on : (text rest : List ℕ) (s : Stop) (a b c : SinkView) → Written 
 stops_on text rest Fault a b c w (front, more) =
     (front_on text rest a.put b.put c.put w.front w.parts w.put_front front, more ∙ ap one_more w.still)
 stops_on text rest Memory a b c w (front, still) = (front_on text rest a.put b.put c.put w.front w.parts w.put_front front, still ∙ w.still)
-
-pub ends_on : {A B : Type 0} (text rest : List ℕ) (x : A) (y : B) (a b c : SinkView) → Written text a b rest → Puts {A = A} rest b c (Ok x) → Puts {A = B} text a c (Ok y)
-ends_on text rest x y a b c w (put, still) = (subst (Appends a.put c.put) (sym w.parts) (Appends-trans a.put b.put c.put w.front rest w.put_front put), still ∙ w.still)
 
 -- want of memory before anything was put
 pub nothing_put : (text : List ℕ) (a : SinkView) → Stops text a a Memory
@@ -201,9 +192,6 @@ pub run_ended : (total : List ℕ) (table : Table) (before : Taken) (n p : ℕ) 
 run_ended total table before n p after m q a b c o e is w next =
     let (put, still, ending) = subst (λ x. WritesNext table before n p after m q b c (Ok x)) is next in
     (subst (Appends a.put c.put) (sym w.parts) (Appends-trans a.put b.put c.put w.front (rest_text table n p before) w.put_front put), still ∙ w.still)
-
-pub run_ending : (table : Table) (before : Taken) (n p : ℕ) (after : Taken) (m q : ℕ) (b c : SinkView) (o : Option Ended) (e : Ended) → o ≡ Some e → WritesNext table before n p after m q b c (Ok o) → ending_of e ≡ before.ending
-run_ending table before n p after m q b c o e is next = (subst (λ x. WritesNext table before n p after m q b c (Ok x)) is next).2
 
 pub run_goes_on : (table : Table) (before : Taken) (n p : ℕ) (after : Taken) (m q : ℕ) (b c : SinkView) (o : Option Ended) → ((e : Ended) → o ≡ Some e → ⊥) → WritesNext table before n p after m q b c (Ok o) →
     Continues table before n p after m q b c

@@ -10,7 +10,7 @@ use Rattle.atomic_table.proofs.Lists.{exchanged}
 use Rattle.pull_budget.specs.declared.rule.View.{View}
 use Rattle.pull_budget.specs.Rule.{Words, word_list, FitsPuller, FitsHired, Fits, Pulls, IsKept, Kept}
 use Rattle.pull_budget.specs.Views.{fresh, opener, hired_view, joined_view, after_pull, after_seeing, after_reading, after_try, after_stop, is_set, after_asking, after_bound}
-use Rattle.pull_budget.proofs.KeptViews.{changed, relisted, lengthened, other_hired}
+use Rattle.pull_budget.proofs.KeptViews.{change_fits, change_keeps, push_keeps, other_hired}
 
 -- a seat that pulls is not hired
 not_hired : (v : View) → v.puller ≡ true → v.puller ≡ false → FitsHired v
@@ -25,7 +25,7 @@ sees slots id me s h len at lt =
       w,
       keeps,
       tt,
-      changed s h h.words 0 n id me.0 w at refl (λ i. slice_set (h.listed i) 0 (is i)) (λ by u apart e. h.fits by u e)
+      change_fits s h h.words 0 n id me.0 w at refl (λ i. slice_set (h.listed i) 0 (is i)) (λ by u apart e. h.fits by u e)
           record {
             own = λ p. let own = mine.own p in (own.0, record { made = own.1.made; ahead = own.1.ahead; stop = own.1.stop });
             other = λ p. let other = mine.other p in record { made = other.made; ender = other.ender };
@@ -48,7 +48,7 @@ reads slots id me s h len at lt =
       w,
       keeps,
       tt,
-      changed s h h.words 1 n id me.0 w at refl (λ i. slice_set (h.listed i) 1 (is i)) (λ by u apart e. h.fits by u e)
+      change_fits s h h.words 1 n id me.0 w at refl (λ i. slice_set (h.listed i) 1 (is i)) (λ by u apart e. h.fits by u e)
           record {
             own = λ p. let own = mine.own p in (own.0, record { made = own.1.made; ahead = own.1.ahead; stop = own.1.stop });
             other = λ p. let other = mine.other p in record { made = other.made; ender = other.ender };
@@ -75,7 +75,7 @@ asks slots id me s h len at lt =
       w,
       keeps,
       tt,
-      changed s h h.words 2 n id me.0 w at refl (λ i. slice_set (h.listed i) 2 (is i)) (λ by u apart e. h.fits by u e)
+      change_fits s h h.words 2 n id me.0 w at refl (λ i. slice_set (h.listed i) 2 (is i)) (λ by u apart e. h.fits by u e)
           record {
             own = λ p. let own = mine.own p in (own.0, record { made = own.1.made; ahead = own.1.ahead; stop = own.1.stop });
             other = λ p. let other = mine.other p in record { made = other.made; ender = other.ender };
@@ -114,7 +114,7 @@ raises slots id me old is_read room s h len at lt =
       w,
       keeps,
       tt,
-      changed s h ws 1 (either (n == old) (old + 1) n) id me.0 w at refl (λ i. slice_set (h.listed i) 1 (either (is i == old) (old + 1) (is i)))
+      change_fits s h ws 1 (either (n == old) (old + 1) n) id me.0 w at refl (λ i. slice_set (h.listed i) 1 (either (is i == old) (old + 1) (is i)))
           (λ by u apart e. let f = h.fits by u e in record {
             own = λ p. let own = f.own p in (own.0, record { made = own.1.made; ahead = own.1.ahead; stop = own.1.stop });
             other = f.other;
@@ -150,7 +150,7 @@ pulls slots id me p few s h len at lt =
       w,
       keeps,
       tt,
-      changed s h ws 0 ((slice_index s.words 0 + 1) % 2 ^ 64) id me.0 w at refl (λ i. slice_set (h.listed i) 0 (next i))
+      change_fits s h ws 0 ((slice_index s.words 0 + 1) % 2 ^ 64) id me.0 w at refl (λ i. slice_set (h.listed i) 0 (next i))
           (λ by u apart e. let f = h.fits by u e in record {
             own = λ q. absurd (other_hired s h id me.0 at p by u apart e q);
             other = f.other;
@@ -183,7 +183,7 @@ stops slots id me p s h len at lt =
       w,
       keeps,
       tt,
-      changed s h ws 2 1 id me.0 w at refl (λ i. slice_set (h.listed i) 2 1)
+      change_fits s h ws 2 1 id me.0 w at refl (λ i. slice_set (h.listed i) 2 1)
           (λ by u apart e. let f = h.fits by u e in record {
             own = λ q. absurd (other_hired s h id me.0 at p by u apart e q);
             other = f.other;
@@ -216,7 +216,7 @@ bounds slots id n me p none s h len at lt =
       w,
       keeps,
       tt,
-      changed s h ws 3 n id me.0 w at refl (λ i. slice_set (h.listed i) 3 n)
+      change_fits s h ws 3 n id me.0 w at refl (λ i. slice_set (h.listed i) 3 n)
           (λ by u apart e. let f = h.fits by u e in record {
             own = λ q. absurd (other_hired s h id me.0 at p by u apart e q);
             other = f.other;
@@ -252,17 +252,17 @@ idle ws puller ahead seen a b by = record {
 }
 
 pub splits : (id : ℕ) (v : View) → Splits Kept id v v (hired_view v)
-unfolding relisted
+unfolding change_keeps
 splits id v s h at =
     let mine = h.fits id v at in
-    let k : IsKept s.words (set s.views id v) = relisted s.words s.views h id v v at refl mine in
-    lengthened s.words (set s.views id v) (hired_view v) k (idle h.words h.puller v.ahead v.seen mine.ahead mine.seen)
+    let k : IsKept s.words (set s.views id v) = change_keeps s.words s.views h id v v at refl mine in
+    push_keeps s.words (set s.views id v) (hired_view v) k (idle h.words h.puller v.ahead v.seen mine.ahead mine.seen)
 
 pub joins : (id : ℕ) (v : View) (other : ℕ) (w : View) → w.puller ≡ false → Joins Kept id v other w v joined_view
-unfolding relisted
+unfolding change_keeps
 joins id v other w plain s h at apart at' =
-    let k : IsKept s.words (set s.views id v) = relisted s.words s.views h id v v at refl (h.fits id v at) in
-    relisted s.words (set s.views id v) k other w joined_view at' (sym plain) (idle h.words h.puller 0 0 (omega arith) (omega arith) other)
+    let k : IsKept s.words (set s.views id v) = change_keeps s.words s.views h id v v at refl (h.fits id v at) in
+    change_keeps s.words (set s.views id v) k other w joined_view at' (sym plain) (idle h.words h.puller 0 0 (omega arith) (omega arith) other)
 
 only : (u v : View) (by : ℕ) → get_elem? (u ∷ []) by ≡ some v → (by ≡ 0) × (u ≡ v)
 only u v zero e = (refl, some-injective u v e)
@@ -300,8 +300,8 @@ pub record Ended (v : View) (p b : ℕ) : Type 0 where
   pub seen : v.seen ≤ p
   pub read : v.read ≤ b
 
-pub ended : (id : ℕ) (v : View) (ws : List ℕ) (xs : List (Unit {0})) (pulls begun : ℕ) → Final (Seen Kept id v) ws xs → v.puller ≡ true → get_elem? ws 0 ≡ some pulls → get_elem? ws 1 ≡ some begun → Ended v pulls begun
-ended id v ws xs pulls begun f puller at0 at1 =
+pub puller_ended : (id : ℕ) (v : View) (ws : List ℕ) (xs : List (Unit {0})) (pulls begun : ℕ) → Final (Seen Kept id v) ws xs → v.puller ≡ true → get_elem? ws 0 ≡ some pulls → get_elem? ws 1 ≡ some begun → Ended v pulls begun
+puller_ended id v ws xs pulls begun f puller at0 at1 =
     let h : Kept f.0 = f.1.0 in
     let mine = h.fits id v f.1.1 in
     let own = (mine.own puller).1 in

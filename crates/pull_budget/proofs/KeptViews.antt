@@ -48,10 +48,10 @@ pub other_hired : (s : State (Unit {0}) View) (h : Kept s) (id : ℕ) (v : View)
 other_hired s h id v at p by u apart at' q = apart (((h.fits by u at').own q).0 ∙ sym ((h.fits id v at).own p).0)
 
 -- one word and one view change
-pub changed : (s : State (Unit {0}) View) (h : Kept s) (ws : Words) (word n id : ℕ) (v w : View) → get_elem? s.views id ≡ some v → w.puller ≡ v.puller → slice_set s.words word n ≡ word_list ws
+pub change_fits : (s : State (Unit {0}) View) (h : Kept s) (ws : Words) (word n id : ℕ) (v w : View) → get_elem? s.views id ≡ some v → w.puller ≡ v.puller → slice_set s.words word n ≡ word_list ws
     → Others (Fits ws h.puller) id s.views → Fits ws h.puller id w → ws.begun ≤ ws.pulls + ws.bound → ws.pulls ≤ 2 ^ 62
     → IsKept (slice_set s.words word n) (slice_set s.views id w)
-changed s h ws word n id v w at same listed others mine bound low = record {
+change_fits s h ws word n id v w at same listed others mine bound low = record {
   words = ws;
   puller = h.puller;
   listed = listed;
@@ -62,8 +62,8 @@ changed s h ws word n id v w at same listed others mine bound low = record {
 }
 
 -- the words stay, and one view becomes another
-unfoldable pub relisted : (listed : List ℕ) (views : List View) (h : IsKept listed views) (id : ℕ) (v w : View) → get_elem? views id ≡ some v → w.puller ≡ v.puller → Fits h.words h.puller id w → IsKept listed (set views id w)
-relisted listed views h id v w at same mine = record {
+unfoldable pub change_keeps : (listed : List ℕ) (views : List View) (h : IsKept listed views) (id : ℕ) (v w : View) → get_elem? views id ≡ some v → w.puller ≡ v.puller → Fits h.words h.puller id w → IsKept listed (set views id w)
+change_keeps listed views h id v w at same mine = record {
   words = h.words;
   puller = h.puller;
   listed = h.listed;
@@ -74,8 +74,8 @@ relisted listed views h id v w at same mine = record {
 }
 
 -- and one more view comes
-pub lengthened : (listed : List ℕ) (views : List View) (w : View) (h : IsKept listed views) → ((by : ℕ) → Fits h.words h.puller by w) → IsKept listed (views ++ w ∷ [])
-lengthened listed views w h fits = record {
+pub push_keeps : (listed : List ℕ) (views : List View) (w : View) (h : IsKept listed views) → ((by : ℕ) → Fits h.words h.puller by w) → IsKept listed (views ++ w ∷ [])
+push_keeps listed views w h fits = record {
   words = h.words;
   puller = h.puller;
   listed = h.listed;

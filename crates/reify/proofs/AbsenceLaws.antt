@@ -49,14 +49,6 @@ kept_some st v tags are may tag =
     let same : keeps_tag st tag v ≡ has_absence (answer st) st.prims tag v = ap (λ b. has_absence (answer st) st.prims tag v && b) (sym may) ∙ and_true (has_absence (answer st) st.prims tag v) in
     (λ h. same ∙ (are tag).0 h, λ h. (are tag).1 (sym same ∙ h))
 
-nothing_in : (tag : ℕ) → Contains [] tag → ⊥
-nothing_in tag (k, below, is) = omega (arith, below)
-
-pub kept_none : (st : Store) (v : ℕ) (tags : List ℕ) → tags ≡ [] → false ≡ may_have_tag (answer st) st.prims v → AreKept st v tags
-kept_none st v tags none may tag =
-    let same : keeps_tag st tag v ≡ false = ap (λ b. has_absence (answer st) st.prims tag v && b) (sym may) ∙ and_false (has_absence (answer st) st.prims tag v) in
-    (λ h. absurd (nothing_in tag (subst (λ l. Contains l tag) none h)), λ h. absurd (true≢false (sym h ∙ same)))
-
 -- one more list
 pub TagLists-push : (test : ℕ → ℕ → Bool) (vs : List ℕ) (lists : List (List ℕ)) (v : ℕ) (ts : List ℕ) → TagLists test vs lists → ((tag : ℕ) → Contains ts tag ↔ (test tag v ≡ true)) →
     TagLists test (vs ++ v ∷ []) (lists ++ ts ∷ [])

@@ -1,11 +1,10 @@
 -- Forms that are chosen, and their texts.
-use Rattle.std.proofs.Common.{◌≡◌, ℕ, suc, ◌+◌, ◌<◌, ◌≤◌, Bool, true, false, ◌&&◌, ◌||◌, not, eqb, List, [], ◌∷◌, ◌++◌, length, map, filter, get_or, take, drop, drop-cons, drop_of_length-le, reverse, refl, sym, ◌∙◌, ap, ap₂, append-nil, append_assoc, arith, true≢false, subst}
+use Rattle.std.proofs.Common.{◌≡◌, ℕ, suc, ◌+◌, ◌<◌, ◌≤◌, Bool, true, false, ◌&&◌, ◌||◌, not, eqb, List, [], ◌∷◌, ◌++◌, length, map, filter, get_or, take, refl, sym, ◌∙◌, ap, ap₂, append-nil, true≢false, subst}
 use Rattle.std.specs.Prelude.{if◌then◌else◌}
 use Rattle.std.specs.List.{list_all, list_any}
 use Rattle.std.proofs.lemmas.Bool.{and_from, and_parts, eqb-true}
-use Rattle.std.proofs.lemmas.List.{map-append, take_more, reverse-append, length-map}
+use Rattle.std.proofs.lemmas.List.{map-append, take_more, length-map}
 use Rattle.std.proofs.lemmas.List.Elements.{filter-append}
-use Rattle.std.proofs.lemmas.List.Folds.{list_all-append}
 use Rattle.kan_terms.proofs.TreeLaws.{term_eq-true}
 use Rattle.kan_terms.specs.Tree.{Tm, term_eq}
 use Rattle.kan_terms.specs.Table.{Table}
@@ -28,9 +27,6 @@ use Rattle.reify.specs.Writing.{pairs_of, IsWritten, AllWritten, pairs_alone_of,
 use Rattle.reify.proofs.ShapeLaws.{tree_of-spelling, one_spelled}
 use Rattle.reify.proofs.NamingLaws.{shape_spelling}
 
-next_item : {X : Type 0} (ys : List X) (i : ℕ) (y : X) → i < length ys → y ≡ get_or ys i y → drop i ys ≡ y ∷ drop (i + 1) ys
-next_item ys i y below is = drop-cons ys i y below ∙ ap₂ (λ z n. z ∷ drop n ys) (sym is) (let more : suc i ≡ i + 1 = omega arith in more)
-
 -- forms of different lengths aren't the same
 pub same_lengths : (one other : List model.Replaced) → same_form one other ≡ true → length one ≡ length other
 same_lengths [] [] e = refl
@@ -44,23 +40,6 @@ other_lengths one other apart = by (same_form (map replaced_by one) (map replace
     by : (b : Bool) → same_form (map replaced_by one) (map replaced_by other) ≡ b → false ≡ b
     by false e = refl
     by true e = absurd (apart (sym (length-map one replaced_by) ∙ same_lengths (map replaced_by one) (map replaced_by other) e ∙ length-map other replaced_by))
-
--- the next pairs of two forms
-module _ (one other : List Replaced) (i : ℕ) (x y : Replaced) (below : i < length one) (under : i < length other) (is : x ≡ get_or one i x) (its : y ≡ get_or other i y)
-    (kept : same_form (map replaced_by one) (map replaced_by other) ≡ same_form (map replaced_by (drop i one)) (map replaced_by (drop i other))) where
-  next_pairs : same_form (map replaced_by one) (map replaced_by other)
-      ≡ (same_pair (replaced_by x) (replaced_by y) && same_form (map replaced_by (drop (i + 1) one)) (map replaced_by (drop (i + 1) other)))
-  next_pairs = kept ∙ ap₂ (λ l r. same_form (map replaced_by l) (map replaced_by r)) (next_item one i x below is) (next_item other i y under its)
-
-  pub pairs_differ : same_pair (replaced_by x) (replaced_by y) ≡ false → false ≡ same_form (map replaced_by one) (map replaced_by other)
-  pairs_differ e = sym (next_pairs ∙ ap (λ b. b && same_form (map replaced_by (drop (i + 1) one)) (map replaced_by (drop (i + 1) other))) e)
-
-  pub pairs_same : same_pair (replaced_by x) (replaced_by y) ≡ true → same_form (map replaced_by one) (map replaced_by other) ≡ same_form (map replaced_by (drop (i + 1) one)) (map replaced_by (drop (i + 1) other))
-  pairs_same e = next_pairs ∙ ap (λ b. b && same_form (map replaced_by (drop (i + 1) one)) (map replaced_by (drop (i + 1) other))) e
-
-pub pairs_end : (one other : List Replaced) (i : ℕ) → length one ≤ i → length other ≤ i →
-    same_form (map replaced_by one) (map replaced_by other) ≡ same_form (map replaced_by (drop i one)) (map replaced_by (drop i other)) → true ≡ same_form (map replaced_by one) (map replaced_by other)
-pairs_end one other i past beyond kept = sym (kept ∙ ap₂ (λ l r. same_form (map replaced_by l) (map replaced_by r)) (drop_of_length-le one past) (drop_of_length-le other beyond))
 
 -- forms that pass for the same are
 same_form-true : (f g : model.Replacement) → same_form f g ≡ true → f ≡ g
@@ -161,17 +140,6 @@ term_is vs t shapes e = ap tree_of e ∙ tree_of-spelling (in_names vs t)
 
 pub term_whole : (vs : List ℕ) (t : Tm) (shapes : List Shape) → shapes ≡ spelling (in_names vs t) → spells 1 shapes ≡ true
 term_whole vs t shapes e = ap (spells 1) e ∙ one_spelled (in_names vs t)
-
-pub whole_more : (old : List NamePair) (p : NamePair) (new : List NamePair) → all_whole old ≡ true → spells 1 p.term ≡ true → new ≡ old ++ p ∷ [] → all_whole new ≡ true
-whole_more old p new h k put =
-    ap all_whole put ∙ list_all-append (λ q. spells 1 q.term) old (p ∷ []) ∙ and_from (all_whole old) (spells 1 p.term && true) h (and_from (spells 1 p.term) true k refl)
-
--- texts taken off from the end
-pub alone_step : (old rest : List Written) (last : Written) (made more : List (List NamePair)) (whole : List (List NamePair)) → old ≡ rest ++ last ∷ [] → more ≡ made ++ last.pairs ∷ [] →
-    map pairs_alone_of old ++ reverse made ≡ whole → map pairs_alone_of rest ++ reverse more ≡ whole
-alone_step old rest last made more whole split put kept =
-    ap (λ l. map pairs_alone_of rest ++ l) (ap reverse put ∙ reverse-append made (last.pairs ∷ [])) ∙ sym (append_assoc (map pairs_alone_of rest) (last.pairs ∷ []) (reverse made))
-    ∙ ap (λ l. l ++ reverse made) (sym (map-append pairs_alone_of rest (last ∷ [])) ∙ ap (map pairs_alone_of) (sym split)) ∙ kept
 
 -- disequalities in the order of their texts
 put_like : {X Y : Type 0} (P : X → Type 0) (f : X → Y) (lower : X → X → Bool) (le : Y → Y → Bool) → ((x y : X) → P x → P y → lower x y ≡ le (f x) (f y)) →

@@ -1,5 +1,5 @@
 -- The forms of the pairs that a store tells are those of its disequalities.
-use Rattle.std.proofs.Common.{◌≡◌, ℕ, suc, ◌+◌, ◌<◌, ◌≤◌, Bool, true, false, ◌&&◌, List, [], ◌∷◌, ◌++◌, length, map, filter, get_or, take, drop, drop-cons, drop_of_length-le, reverse, Option, Some, None, is_some, option_map, refl, sym, ◌∙◌, ap, ap₂, subst, true≢false, arith, append_assoc}
+use Rattle.std.proofs.Common.{◌≡◌, ℕ, ◌+◌, ◌<◌, ◌≤◌, Bool, true, false, ◌&&◌, List, [], ◌∷◌, ◌++◌, length, map, filter, get_or, take, reverse, Option, Some, None, is_some, option_map, refl, sym, ◌∙◌, ap, ap₂, subst, true≢false, append_assoc}
 use Rattle.std.specs.Prelude.{if◌then◌else◌}
 use Rattle.std.specs.List.{list_all, All}
 use Rattle.std.specs.Option.{option_to_list}
@@ -102,21 +102,6 @@ module _ (vs : List ℕ) (st : Store) (kept : is_kept st ≡ true) where
 pub stacked-reverse : (listed pending : List TermPair) (es : List Equation) → map equation listed ≡ es → pending ≡ reverse listed → on_stack pending ≡ es
 stacked-reverse listed pending es so_far turned =
     ap on_stack turned ∙ ap reverse (map-reverse equation listed) ∙ reverse-reverse (map equation listed) ∙ so_far
-
--- a test of all items, as far as the next one
-next_item : {X : Type 0} (ys : List X) (i : ℕ) (y : X) → i < length ys → y ≡ get_or ys i y → drop i ys ≡ y ∷ drop (i + 1) ys
-next_item ys i y below is = drop-cons ys i y below ∙ ap₂ (λ z n. z ∷ drop n ys) (sym is) (let more : suc i ≡ i + 1 = omega arith in more)
-
-pub test_fails : {X Y : Type 0} (p : Y → Bool) (f : X → Y) (xs : List X) (i : ℕ) (x : X) → i < length xs → x ≡ get_or xs i x → list_all p (map f xs) ≡ list_all p (map f (drop i xs)) → p (f x) ≡ false →
-    false ≡ list_all p (map f xs)
-test_fails p f xs i x below is kept wrong = sym (kept ∙ ap (λ l. list_all p (map f l)) (next_item xs i x below is) ∙ ap (λ b. b && list_all p (map f (drop (i + 1) xs))) wrong)
-
-pub test_goes_on : {X Y : Type 0} (p : Y → Bool) (f : X → Y) (xs : List X) (i : ℕ) (x : X) → i < length xs → x ≡ get_or xs i x → list_all p (map f xs) ≡ list_all p (map f (drop i xs)) → p (f x) ≡ true →
-    list_all p (map f xs) ≡ list_all p (map f (drop (i + 1) xs))
-test_goes_on p f xs i x below is kept right = kept ∙ ap (λ l. list_all p (map f l)) (next_item xs i x below is) ∙ ap (λ b. b && list_all p (map f (drop (i + 1) xs))) right
-
-pub test_ends : {X Y : Type 0} (p : Y → Bool) (f : X → Y) (xs : List X) (i : ℕ) → length xs ≤ i → list_all p (map f xs) ≡ list_all p (map f (drop i xs)) → true ≡ list_all p (map f xs)
-test_ends p f xs i past kept = sym (kept ∙ ap (λ l. list_all p (map f l)) (drop_of_length-le xs past))
 
 -- the letters of a term are named where its variables are
 pub letters_named : (vs : List ℕ) (t : Tm) → list_all (letter_named vs) (letters_of.spelling t) ≡ list_all (stands_in vs) (leaves t)

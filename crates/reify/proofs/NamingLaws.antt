@@ -154,9 +154,9 @@ pub no_place : (vs : List ℕ) (v : ℕ) → name_in vs v ≡ None → place_of 
 no_place vs v none = not_there vs v (no_name_stands vs v none)
 
 -- a tree of names with one more
-pub added : (old new : List ℕ) (v n : ℕ) (before after : ℕ → Option ℕ) → new ≡ old ++ v ∷ [] → n ≡ length old → name_in old v ≡ None →
+pub name_added : (old new : List ℕ) (v n : ℕ) (before after : ℕ → Option ℕ) → new ≡ old ++ v ∷ [] → n ≡ length old → name_in old v ≡ None →
     ((k : ℕ) → before k ≡ name_in old k) → ((k : ℕ) → after k ≡ (if eqb k v then Some n else before k)) → (k : ℕ) → after k ≡ name_in new k
-added old new v n before after grown count none kept put k =
+name_added old new v n before after grown count none kept put k =
     put k ∙ ap (λ r. if eqb k v then Some n else r) (kept k) ∙ ap (λ m. if eqb k v then Some m else name_in old k) count
     ∙ sym (name_in-push old v k (no_name_stands old v none)) ∙ ap (λ vs. name_in vs k) (sym grown)
 

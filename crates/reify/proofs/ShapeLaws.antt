@@ -1,5 +1,5 @@
 -- Shapes and the terms that they spell, and their text.
-use Rattle.std.proofs.Common.{◌≡◌, ℕ, suc, ◌+◌, true, List, [], ◌∷◌, ◌++◌, length, refl, sym, ◌∙◌, ap, append_assoc, append-nil, arith, true≢false, ◌≤◌, ◌<◌, get_or, drop, drop-cons, drop_of_length-le, zero}
+use Rattle.std.proofs.Common.{◌≡◌, ℕ, suc, ◌+◌, true, List, [], ◌∷◌, ◌++◌, length, refl, sym, ◌∙◌, ap, append_assoc, append-nil, arith, true≢false, ◌≤◌, ◌<◌, get_or, drop, drop-cons, zero}
 use Rattle.std.specs.Prelude.{codes}
 use Rattle.std.specs.List.{flat_map}
 use Rattle.kan_terms.specs.Tree.{Tree, Tm, join_two, first_tree}
@@ -119,14 +119,6 @@ pub next_printed : (table : Table) (text longer : List ℕ) (old new : List Plac
 next_printed table text longer old new xs i d whole below printed kept =
     let next : drop i xs ≡ get_or xs i d ∷ drop (i + 1) xs = drop-cons xs i d below ∙ ap (λ n. get_or xs i d ∷ drop n xs) (let more : suc i ≡ i + 1 = omega arith in more) in
     printed (drop (i + 1) xs) ∙ ap (λ l. text ++ shapes_text table old l) (sym next) ∙ kept
-
-nothing_left : (table : Table) (ps : List Place) → shapes_text table ps [] ≡ []
-nothing_left table [] = refl
-nothing_left table (p ∷ ps) = refl
-
-pub all_printed : (table : Table) (text : List ℕ) (ps : List Place) (xs : List Shape) (i : ℕ) (whole : List ℕ) → length xs ≤ i → text ++ shapes_text table ps (drop i xs) ≡ whole → text ≡ whole
-all_printed table text ps xs i whole past kept =
-    sym (append-nil text) ∙ ap (λ l. text ++ l) (sym (nothing_left table ps) ∙ ap (shapes_text table ps) (sym (drop_of_length-le xs past))) ∙ kept
 
 -- a pair of a disequality, piece by piece
 five_pieces : (t a b c d e : List ℕ) → t ++ a ++ b ++ c ++ d ++ e ≡ t ++ (a ++ b ++ c ++ d ++ e)

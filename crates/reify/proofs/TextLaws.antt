@@ -1,10 +1,8 @@
 -- Texts with spaces between them.
-use Rattle.std.proofs.Common.{◌≡◌, ℕ, zero, suc, ◌+◌, ◌<◌, Bool, true, false, List, [], ◌∷◌, ◌++◌, length, map, get_or, take, refl, sym, ◌∙◌, ap, ap₂, append_assoc, append-nil, arith, true≢false}
+use Rattle.std.proofs.Common.{◌≡◌, ℕ, ◌+◌, ◌<◌, true, false, List, [], ◌∷◌, ◌++◌, length, map, get_or, take, refl, sym, ◌∙◌, ap, ap₂, append_assoc, append-nil, arith, true≢false}
 use Rattle.std.specs.Prelude.{codes, ◌&&◌}
-use Rattle.std.specs.List.{flat_map, list_all}
-use Rattle.std.proofs.lemmas.Bool.{and_parts}
+use Rattle.std.specs.List.{flat_map}
 use Rattle.std.proofs.lemmas.List.{map-append, take_more, length-map, length-take-le}
-use Rattle.std.proofs.lemmas.Grind.{flat_map-append}
 use Rattle.kan_model.specs.Answers.Text.{with_spaces}
 use Rattle.kan_model.specs.Answers.AnswerText.{where_text, names_texts, constraint_texts, difference_text, absence_text}
 use Rattle.kan_terms.specs.Table.{Table}
@@ -70,13 +68,6 @@ put_next front grown y i old text middle after more many before gone put =
     ∙ append_assoc (old ++ with_spaces front) (gap i) y ∙ append_assoc old (with_spaces front) (gap i ++ y)
     ∙ ap (λ l. old ++ l) (ap (λ n. with_spaces front ++ (gap n ++ y)) (sym many) ∙ sym (with_spaces-push front y) ∙ ap with_spaces (sym more))
 
--- the next text put behind a space
-pub put_spaced : (front grown : List (List ℕ)) (y : List ℕ) (old text middle after : List ℕ) → grown ≡ front ++ y ∷ [] →
-    text ≡ old ++ flat_map behind_space front → middle ≡ text ++ 32 ∷ [] → after ≡ middle ++ y → after ≡ old ++ flat_map behind_space grown
-put_spaced front grown y old text middle after more before gone put =
-    put ∙ ap (λ l. l ++ y) gone ∙ append_assoc text (32 ∷ []) y ∙ ap (λ l. l ++ 32 ∷ y) before ∙ append_assoc old (flat_map behind_space front) (32 ∷ y)
-    ∙ ap (λ l. old ++ l) (ap (λ l. flat_map behind_space front ++ l) (sym (append-nil (32 ∷ y))) ∙ sym (flat_map-append behind_space front (y ∷ [])) ∙ ap (flat_map behind_space) (sym more))
-
 -- texts with that of the next item
 pub one_more : {X Y : Type 0} (f : X → Y) (xs : List X) (i : ℕ) (d : X) → i < length xs → map f (take (i + 1) xs) ≡ map f (take i xs) ++ f (get_or xs i d) ∷ []
 one_more f xs i d below = ap (map f) (take_more xs i d below) ∙ map-append f (take i xs) (get_or xs i d ∷ [])
@@ -93,12 +84,3 @@ so_many f xs i below = length-map (take i xs) f ∙ length-take-le i xs (omega (
 
 pub so_many_twice : {X Y Z : Type 0} (f : Y → Z) (g : X → Y) (xs : List X) (i : ℕ) → i < length xs → length (map f (map g (take i xs))) ≡ i
 so_many_twice f g xs i below = length-map (map g (take i xs)) f ∙ so_many g xs i below
-
--- what all items pass each one passes
-pub passes_at : {X : Type 0} (p : X → Bool) (xs : List X) (i : ℕ) (x : X) → i < length xs → x ≡ get_or xs i x → list_all p xs ≡ true → p x ≡ true
-passes_at {X = X} p xs i x below is all = ap p is ∙ at xs i below all
-  where
-    at : (ys : List X) (k : ℕ) → k < length ys → list_all p ys ≡ true → p (get_or ys k x) ≡ true
-    at [] k below all = absurd (let none : ⊥ = omega (arith, below) in none)
-    at (y ∷ ys) zero below all = (and_parts (p y) (list_all p ys) all).0
-    at (y ∷ ys) (suc k) below all = at ys k (let b : k < length ys = omega (arith, below) in b) (and_parts (p y) (list_all p ys) all).1

@@ -18,7 +18,6 @@ use Rattle.sexpr.specs.declared.frame.ListFrame.{ListFrame}
 use Rattle.sexpr.specs.declared.frame.Frame.{Frame}
 use Rattle.sexpr.specs.declared.frame.Frame.TheVariants as frames
 use Rattle.sexpr.specs.declared.enclosing.Enclosing as stacks
-use Rattle.sexpr.proofs.WrittenFormLaws.{written_prefixed}
 
 -- a fold over one item more
 pub fold_push : {A X : Type 0} (f : A → X → A) (a : A) (xs : List X) (x : X) → fold f a (xs ++ x ∷ []) ≡ f (fold f a xs) x
@@ -102,12 +101,6 @@ takes_opening names o n l at d e h i a s g m =
 
 pub takes_prefix : (names : Table) (o n : stacks.Enclosing) (q : Prefix) (at : ℕ) → HasDepth o → o.ended ≡ None → o.depth ≤ 2048 → n.top ≡ o.top → n.frames.items ≡ o.frames.items ++ frames.Prefix at q ∷ [] → n.ended ≡ None → Takes names o n at (prefix (prefix_of q))
 takes_prefix names o n q at d e h s g m = takes_frame names o n (frames.Prefix at q) at (prefix (prefix_of q)) e (refused_last names o at d e h (prefix (prefix_of q)) refl) refl s g m
-
--- a datum after a prefix goes where the prefixed datum goes
-pub put_prefixed : (names : Table) (o n : stacks.Enclosing) (at : ℕ) (q : Prefix) (d : Datum) → n.top ≡ o.top → o.frames.items ≡ n.frames.items ++ frames.Prefix at q ∷ [] → put as_kept (place names o) (written_form names d) ≡ put as_kept (place names n) (written_form names (record { at = at; kind = kinds.Prefixed q d }))
-put_prefixed names o n at q d t e =
-    ap (λ p. put as_kept p (written_form names d)) (grown_place names n o (frames.Prefix at q) (sym t) e)
-    ∙ ap (put as_kept (place names n)) (sym (written_prefixed names at q d))
 
 -- what follows where a call succeeds
 pub on_ok : {T E : Type 0} {P Q : Type 0} (r : Result T E) → (P → Q) → OnOk r P → OnOk r Q

@@ -98,10 +98,6 @@ pub piece_boundary : (b : ℕ) (bs : List ℕ) → IsUtf8 (b ∷ bs) → IsCharB
 unfolding piece
 piece_boundary b bs u = begun_boundary (start b) b bs refl u
 
-pub first_piece_boundary : (bs : List ℕ) → IsUtf8 bs → 0 < length bs → IsCharBoundary bs (suc (more (first_piece bs)))
-first_piece_boundary [] u h = absurd (omega arith)
-first_piece_boundary (b ∷ bs) u h = piece_boundary b bs u
-
 -- a string's text is one that a table may hold
 no_string : (b : ℕ) (s : List ℕ) → start b ≡ whole (atom (string s)) → ⊥
 no_string b s e = grind (arith, nat_tests)

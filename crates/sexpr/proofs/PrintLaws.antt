@@ -1,28 +1,26 @@
 -- How printing goes on from one piece of work to the next.
 use Rattle.std.proofs.Common.{◌≡◌, ℕ, suc, ◌+◌, ◌<◌, ◌≤◌, List, [], ◌∷◌, ◌++◌, length, map, refl, sym, ap, ◌∙◌, arith, append_assoc, append-nil}
-use Rattle.std.specs.Prelude.{Option, None, Some, ℤ, pos, negsuc, Bool, codes, ◌^◌}
+use Rattle.std.specs.Prelude.{Option, None, Some, ℤ, pos, negsuc, codes, ◌^◌}
 use Rattle.std.specs.Option.{option_map, option_copied}
 use Rattle.std.specs.Borrow.{Bor}
-use Rattle.kan_grammar.specs.Data.Written.{Written, single, list, prefixed, dotted, element}
-use Rattle.kan_terms.specs.Table.{name_of}
-use Rattle.kan_grammar.specs.Data.Words.{round, number, truth}
+use Rattle.kan_grammar.specs.Data.Written.{Written, list, prefixed, dotted, element}
+use Rattle.kan_grammar.specs.Data.Words.{round}
 use Rattle.kan_grammar.specs.Data.Printed.{named_text, pairs, pairs_within, prefix_name}
 use Rattle.std.specs.Fmt.{decimal, signed_decimal}
 use lib.Signed.{mag}
-use Rattle.kan_model.specs.Answers.Text.{truth_text}
 use Rattle.kan_model.specs.Answers.Decimals.{decimal_text, number_text}
 use Rattle.kan_model.proofs.Answering.DecimalLaws.{decimal_as_printed}
 use Rattle.sexpr.specs.Meaning.{prefix_of}
-use Rattle.sexpr.specs.WrittenForms.{symbol_atom, string_atom, inner_of, list_of, written_form}
+use Rattle.sexpr.specs.WrittenForms.{inner_of, list_of, written_form}
 use Rattle.kan_terms.specs.Table.{Table}
-use Rattle.sexpr.specs.Printing.{string_atom_text, rest_text, within, work_text, works_text, cost, cost_within, work_cost, works_cost}
+use Rattle.sexpr.specs.Printing.{rest_text, within, work_text, works_text, cost, cost_within, work_cost, works_cost}
 use Rattle.sexpr.specs.declared.data.Datum.{Datum}
 use Rattle.sexpr.specs.declared.data.DatumKind.{DatumKind}
 use Rattle.sexpr.specs.declared.data.DatumKind.TheVariants as kinds
 use Rattle.sexpr.specs.declared.data.Prefix.{Prefix}
 use Rattle.sexpr.specs.declared.printer.Work.{Work}
 use Rattle.sexpr.specs.declared.printer.Work.TheVariants as works
-use Rattle.sexpr.proofs.WrittenFormLaws.{written_symbol, written_text, written_number, written_truth, written_list, written_dotted, written_prefixed}
+use Rattle.sexpr.proofs.WrittenFormLaws.{written_list, written_dotted, written_prefixed}
 
 pub works_text_push : (names : Table) (ws : List Work) (w : Work) → works_text names (ws ++ w ∷ []) ≡ work_text names w ++ works_text names ws
 works_text_push names [] w = sym (append-nil (work_text names w))
@@ -156,48 +154,6 @@ list_tail names d ds last items lent t ws w1 e i l f = ap (λ x. t ++ x) (pushed
 
 pub list_tail_falls : (names : Table) (d : Datum) (ds : List Datum) (last : Option Datum) (items : Bor (List Datum)) (lent : Option (Bor Datum)) (ws w1 : List Work) → d.kind ≡ kinds.List ds last → items.now ≡ ds → option_copied lent ≡ last → w1 ≡ ws ++ works.Rest items lent ∷ [] → works_cost names w1 < 2 + cost (written_form names d) + works_cost names ws
 list_tail_falls names d ds last items lent ws w1 e i l f = omega (arith, pushed_cost names ws w1 (works.Rest items lent) f, ap cost (list_is names d ds last items lent e i l))
-
--- an atom after a dot
-symbol_tail : (at : ℕ) (o : Option (List ℕ)) → rest_text (pairs (single at (symbol_atom o))) ≡ codes " . " ++ named_text (pairs (single at (symbol_atom o)))
-symbol_tail at None = refl
-symbol_tail at (Some s) = refl
-
-string_tail : (at : ℕ) (o : Option (List ℕ)) → rest_text (pairs (single at (string_atom o))) ≡ codes " . " ++ named_text (pairs (single at (string_atom o)))
-string_tail at None = refl
-string_tail at (Some s) = refl
-
-tail_same : (w v : Written) → w ≡ v → rest_text (pairs v) ≡ codes " . " ++ named_text (pairs v) → rest_text (pairs w) ≡ codes " . " ++ named_text (pairs w)
-tail_same w v e h = rw e h
-
-pub tail_symbol : (names : Table) (d : Datum) (s : ℕ) → d.kind ≡ kinds.Symbol s → rest_text (pairs (written_form names d)) ≡ codes " . " ++ named_text (pairs (written_form names d))
-tail_symbol names d s e = tail_same (written_form names d) (single d.at (symbol_atom (name_of names.symbols s))) (written_of names d (kinds.Symbol s) e ∙ written_symbol names d.at s) (symbol_tail d.at (name_of names.symbols s))
-
-pub tail_text : (names : Table) (d : Datum) (s : ℕ) → d.kind ≡ kinds.Text s → rest_text (pairs (written_form names d)) ≡ codes " . " ++ named_text (pairs (written_form names d))
-tail_text names d s e = tail_same (written_form names d) (single d.at (string_atom (name_of names.strings s))) (written_of names d (kinds.Text s) e ∙ written_text names d.at s) (string_tail d.at (name_of names.strings s))
-
--- the text of a string's atom
-string_prints : (at : ℕ) (o : Option (List ℕ)) → named_text (pairs (single at (string_atom o))) ≡ string_atom_text o
-string_prints at None = refl
-string_prints at (Some s) = refl
-
-pub text_prints : (names : Table) (d : Datum) (s : ℕ) → d.kind ≡ kinds.Text s → named_text (pairs (written_form names d)) ≡ string_atom_text (name_of names.strings s)
-text_prints names d s e = ap (λ w. named_text (pairs w)) (written_of names d (kinds.Text s) e ∙ written_text names d.at s) ∙ string_prints d.at (name_of names.strings s)
-
-pub tail_number : (names : Table) (d : Datum) (n : ℤ) → d.kind ≡ kinds.Number n → rest_text (pairs (written_form names d)) ≡ codes " . " ++ named_text (pairs (written_form names d))
-tail_number names d n e = tail_same (written_form names d) (single d.at (number n)) (written_of names d (kinds.Number n) e ∙ written_number names d.at n) refl
-
-pub tail_truth : (names : Table) (d : Datum) (b : Bool) → d.kind ≡ kinds.Truth b → rest_text (pairs (written_form names d)) ≡ codes " . " ++ named_text (pairs (written_form names d))
-tail_truth names d b e = tail_same (written_form names d) (single d.at (truth b)) (written_of names d (kinds.Truth b) e ∙ written_truth names d.at b) refl
-
--- an atom, printed behind a text
-pub atom_prints : (t u x y ws : List ℕ) → u ≡ t ++ x → y ≡ x → u ++ ws ≡ t ++ (y ++ ws)
-atom_prints t u x y ws e h = ap (λ z. z ++ ws) e ∙ append_assoc t x ws ∙ ap (λ z. t ++ (z ++ ws)) (sym h)
-
-pub number_prints : (names : Table) (d : Datum) (n : ℤ) → d.kind ≡ kinds.Number n → named_text (pairs (written_form names d)) ≡ number_text n
-number_prints names d n e = ap (λ w. named_text (pairs w)) (written_of names d (kinds.Number n) e ∙ written_number names d.at n)
-
-pub truth_prints : (names : Table) (d : Datum) (b : Bool) → d.kind ≡ kinds.Truth b → named_text (pairs (written_form names d)) ≡ truth_text b
-truth_prints names d b e = ap (λ w. named_text (pairs w)) (written_of names d (kinds.Truth b) e ∙ written_truth names d.at b)
 
 -- a number of 128 bits is printed as std prints it
 print_small : (n : ℕ) → n ≤ 2 ^ 127 → decimal_text n ≡ decimal n

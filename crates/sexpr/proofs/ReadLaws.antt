@@ -112,10 +112,7 @@ numbered_token old new p t e h = h ∙ ap (λ o. with_piece old (piece_with o (p
 pub text_token : (p : pieces.Piece) (t : code.Token) → p.token ≡ Some t → HasPieceText (piece_of p) → HasText (token_of t)
 text_token p t e h = subst (λ o. HasPieceText (piece_with o (p.length - 1))) e h
 
--- a table that has room for some names more has room for fewer, and behind some of them for the others
-pub grows_less : (m n : ℕ) (names : Table) → m ≤ n → CanGrow n names → CanGrow m names
-grows_less m n names h g = (omega (arith, h, g.0), omega (arith, h, g.1))
-
+-- a table that has room for some names has it behind some of them for the others
 pub grows_on : (most n all : ℕ) (old new : Table) → Extends most old new → most + n ≤ all → CanGrow all old → CanGrow n new
 grows_on most n all old new e h g = (omega (arith, e.symbols, h, g.0), omega (arith, e.strings, h, g.1))
 

@@ -1,6 +1,6 @@
 -- Strings: where one ends, what its characters mean, and that a table may hold its text.
-use Rattle.std.proofs.Common.{◌≡◌, ℕ, zero, suc, ◌+◌, ◌<◌, ◌≤◌, Bool, true, false, cond, List, [], ◌∷◌, ◌++◌, length, take, drop, get_or, refl, sym, ap, ◌∙◌, arith, append_assoc, append-nil}
-use Rattle.std.specs.Prelude.{◌==◌, ◌&&◌, nat_lt, if◌then◌else◌, Option, None, Some, option_map, encode_utf8}
+use Rattle.std.proofs.Common.{◌≡◌, ℕ, zero, suc, ◌+◌, ◌<◌, ◌≤◌, Bool, true, false, cond, List, [], ◌∷◌, ◌++◌, length, take, refl, sym, ap, ◌∙◌, arith, append_assoc, append-nil}
+use Rattle.std.specs.Prelude.{◌==◌, ◌&&◌, nat_lt, if◌then◌else◌, Option, None, Some, encode_utf8}
 use Rattle.std.specs.List.{list_all, flat_map}
 use Rattle.std.proofs.lemmas.Bool.Decides.{nat_tests}
 use Rattle.std.proofs.lemmas.Str.{encode_ascii}
@@ -139,9 +139,6 @@ print_goes_on t u bs rest goal c h s i =
     ∙ append_assoc t (character_text c) (flat_map string_byte_text rest)
     ∙ ap (λ x. t ++ x) (sym (print_step bs rest c s)) ∙ i
 
-pub print_begins : (t u : List ℕ) (all : List ℕ) → u ≡ t ++ 34 ∷ [] → u ++ all ≡ t ++ (34 ∷ all)
-print_begins t u all h = ap (λ x. x ++ all) h ∙ append_assoc t (34 ∷ []) all
-
 pub print_ends : (t u v bs all : List ℕ) → length bs ≡ 0 → t ++ flat_map string_byte_text bs ≡ v ++ (34 ∷ all) → u ≡ t ++ 34 ∷ [] → u ≡ v ++ (34 ∷ all ++ 34 ∷ [])
 print_ends t u v [] all h i e = e ∙ ap (λ x. x ++ 34 ∷ []) (sym (append-nil t) ∙ i) ∙ append_assoc v (34 ∷ all) (34 ∷ [])
 print_ends t u v (b ∷ bs) all h i e = absurd (omega arith)
@@ -176,49 +173,3 @@ meaning_text e (b ∷ bs) zero h = refl
 meaning_text e (b ∷ bs) (suc n) h =
     let p = part_of (role e b) (string_length (begins_escape e b) bs) n h in
     byte_text e b (string_meaning (begins_escape e b) (take n bs)) p.0 (meaning_text (begins_escape e b) bs n p.1)
-
--- a string's length, byte after byte
-front : (bs : List ℕ) (at : ℕ) (d : ℕ) → at < length bs → drop at bs ≡ get_or bs at d ∷ drop (suc at) bs
-front [] at d h = absurd (omega arith)
-front (b ∷ bs) zero d h = refl
-front (b ∷ bs) (suc at) d h = front bs at d (omega arith)
-
-map_zero : (o : Option ℕ) → option_map (λ n. 0 + n) o ≡ o
-map_zero None = refl
-map_zero (Some n) = ap Some (omega arith)
-
-map_later : (at : ℕ) (o : Option ℕ) → option_map (λ n. at + n) (option_map (λ n. suc n) o) ≡ option_map (λ n. (at + 1) + n) o
-map_later at None = refl
-map_later at (Some n) = ap Some (omega arith)
-
-pub length_begun : (bs : List ℕ) → option_map (λ n. 0 + n) (string_length false (drop 0 bs)) ≡ string_length false bs
-length_begun bs = map_zero (string_length false bs)
-
-pub length_step : (e : Bool) (bs : List ℕ) (at d : ℕ) (goal : Option ℕ) → at < length bs → option_map (λ n. at + n) (string_length e (drop at bs)) ≡ goal → option_map (λ n. at + n) (length_by (role e (get_or bs at d)) (string_length (begins_escape e (get_or bs at d)) (drop (suc at) bs))) ≡ goal
-length_step e bs at d goal h i = ap (λ xs. option_map (λ n. at + n) (string_length e xs)) (sym (front bs at d h)) ∙ i
-
-pub length_part : (e f : Bool) (bs : List ℕ) (at d : ℕ) (goal : Option ℕ) → at < length bs → Role.part ≡ role e (get_or bs at d) → f ≡ begins_escape e (get_or bs at d) → option_map (λ n. at + n) (string_length e (drop at bs)) ≡ goal → option_map (λ n. (at + 1) + n) (string_length f (drop (at + 1) bs)) ≡ goal
-length_part e f bs at d goal h r s i =
-    let k : at + 1 ≡ suc at = omega arith in
-    sym (map_later at (string_length f (drop (at + 1) bs)))
-    ∙ ap (λ x. option_map (λ n. at + n) (option_map (λ n. suc n) (string_length x (drop (at + 1) bs)))) s
-    ∙ ap (λ x. option_map (λ n. at + n) (option_map (λ n. suc n) (string_length (begins_escape e (get_or bs at d)) (drop x bs)))) k
-    ∙ ap (λ x. option_map (λ n. at + n) (length_by x (string_length (begins_escape e (get_or bs at d)) (drop (suc at) bs)))) r
-    ∙ length_step e bs at d goal h i
-
-pub length_closes : (e : Bool) (bs : List ℕ) (at d : ℕ) (goal : Option ℕ) → at < length bs → Role.closes ≡ role e (get_or bs at d) → option_map (λ n. at + n) (string_length e (drop at bs)) ≡ goal → Some at ≡ goal
-length_closes e bs at d goal h r i =
-    let k : at ≡ at + 0 = omega arith in
-    ap Some k ∙ ap (λ x. option_map (λ n. at + n) (length_by x (string_length (begins_escape e (get_or bs at d)) (drop (suc at) bs)))) r ∙ length_step e bs at d goal h i
-
-pub length_never : (e : Bool) (bs : List ℕ) (at d : ℕ) (goal : Option ℕ) → at < length bs → Role.never ≡ role e (get_or bs at d) → option_map (λ n. at + n) (string_length e (drop at bs)) ≡ goal → None ≡ goal
-length_never e bs at d goal h r i = ap (λ x. option_map (λ n. at + n) (length_by x (string_length (begins_escape e (get_or bs at d)) (drop (suc at) bs)))) r ∙ length_step e bs at d goal h i
-
-dropped : (bs : List ℕ) (at : ℕ) → length bs ≤ at → drop at bs ≡ []
-dropped [] zero h = refl
-dropped [] (suc at) h = refl
-dropped (b ∷ bs) zero h = absurd (omega arith)
-dropped (b ∷ bs) (suc at) h = dropped bs at (omega arith)
-
-pub length_unclosed : (e : Bool) (bs : List ℕ) (at : ℕ) (goal : Option ℕ) → length bs ≤ at → option_map (λ n. at + n) (string_length e (drop at bs)) ≡ goal → None ≡ goal
-length_unclosed e bs at goal h i = ap (λ xs. option_map (λ n. at + n) (string_length e xs)) (sym (dropped bs at h)) ∙ i

@@ -1,8 +1,7 @@
 -- What data stand for, by their kinds.
 use Rattle.std.proofs.Common.{◌≡◌, ℕ, List, map, ap, sym, ◌∙◌}
-use Rattle.std.specs.Prelude.{None, Some, ℤ, Bool}
+use Rattle.std.specs.Prelude.{None, Some}
 use Rattle.kan_terms.specs.Table.{name_of}
-use Rattle.kan_grammar.specs.Data.Words.{number, truth}
 use Rattle.kan_grammar.specs.Data.Written.{Written, single, prefixed}
 use Rattle.sexpr.specs.Meaning.{prefix_of}
 use Rattle.sexpr.specs.WrittenForms.{symbol_atom, string_atom, list_of, kind_of, written_form}
@@ -12,7 +11,7 @@ use Rattle.sexpr.specs.declared.data.DatumKind.{DatumKind, roll-DatumKind, fold-
 use Rattle.sexpr.specs.declared.data.DatumKind.TheOpen.{DatumKind-F}
 use Rattle.sexpr.specs.declared.data.Prefix.{Prefix}
 use Rattle.sexpr.specs.declared.data.DatumKind.TheVariants as kinds
-use Rattle.sexpr.specs.declared.data.DatumKind.TheVariants.{rolls-Symbol, rolls-Text, rolls-Number, rolls-Truth, rolls-List, rolls-Prefixed}
+use Rattle.sexpr.specs.declared.data.DatumKind.TheVariants.{rolls-Symbol, rolls-Text, rolls-List, rolls-Prefixed}
 
 kind_written : Table → DatumKind → ℕ → Written
 kind_written names k = fold-DatumKind (ℕ → Written) Written (kind_of names) (λ layer. layer.kind layer.at) k
@@ -34,12 +33,6 @@ written_symbol names at s = by_layer names at (kinds.Symbol s) (DatumKind-F.Symb
 
 pub written_text : (names : Table) (at s : ℕ) → written_form names (record { at = at; kind = kinds.Text s }) ≡ single at (string_atom (name_of names.strings s))
 written_text names at s = by_layer names at (kinds.Text s) (DatumKind-F.Text s) (rolls-Text s) ∙ layer_written names at (DatumKind-F.Text s)
-
-pub written_number : (names : Table) (at : ℕ) (n : ℤ) → written_form names (record { at = at; kind = kinds.Number n }) ≡ single at (number n)
-written_number names at n = by_layer names at (kinds.Number n) (DatumKind-F.Number n) (rolls-Number n) ∙ layer_written names at (DatumKind-F.Number n)
-
-pub written_truth : (names : Table) (at : ℕ) (b : Bool) → written_form names (record { at = at; kind = kinds.Truth b }) ≡ single at (truth b)
-written_truth names at b = by_layer names at (kinds.Truth b) (DatumKind-F.Truth b) (rolls-Truth b) ∙ layer_written names at (DatumKind-F.Truth b)
 
 pub written_list : (names : Table) (at : ℕ) (ds : List Datum) → written_form names (record { at = at; kind = kinds.List ds None }) ≡ list_of at (map (written_form names) ds) None
 written_list names at ds = by_layer names at (kinds.List ds None) (DatumKind-F.List ds None) (rolls-List ds None) ∙ layer_written names at (DatumKind-F.List ds None)

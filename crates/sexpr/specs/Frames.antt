@@ -45,7 +45,7 @@ abbrev pub ended_in : Table → Place Written → Option Ended → Enclosing Wri
 ended_in names p None = awaiting p
 ended_in names p (Some e) =
     ended_at p e.list.at (shape_of e.list.shape)
-        (map (written_form names) e.list.items) e.list.point
+    (map (written_form names) e.list.items) e.list.point
     (written_form names e.last)
 
 -- what is open

@@ -25,7 +25,7 @@ rest_text t = print_rest label_text no_names t
 abbrev pub within : Table → Bor (List Datum) → Option (Bor Datum) → Within
 within names items last =
     inner_of (map (written_form names) items.now)
-        (option_map (written_form names) (option_copied last))
+    (option_map (written_form names) (option_copied last))
 
 -- the text of a piece of work
 abbrev pub work_text : Table → Work → List ℕ

@@ -1,5 +1,5 @@
 -- Shapes at the front of a text.
-use Rattle.std.proofs.Common.{◌≡◌, ℕ, zero, suc, ◌+◌, ◌-◌, ◌<◌, ◌≤◌, ◌^◌, Bool, true, false, List, [], ◌∷◌, ◌++◌, length, take, drop, get_or, refl, sym, ap, ap₂, ◌∙◌, arith, append_assoc, true≢false}
+use Rattle.std.proofs.Common.{◌≡◌, ℕ, zero, suc, ◌+◌, ◌-◌, ◌<◌, ◌≤◌, ◌^◌, Bool, true, false, List, [], ◌∷◌, ◌++◌, length, take, drop, refl, sym, ap, ap₂, ◌∙◌, arith, append_assoc, true≢false}
 use Rattle.std.specs.Prelude.{◌==◌, ◌&&◌, not, eqb, if◌then◌else◌, codes, pos, negsuc}
 use Rattle.std.specs.List.{list_all, prefix_len}
 use Rattle.std.specs.Char.{is_ascii_digit}
@@ -18,7 +18,7 @@ use Rattle.term_reading.specs.declared.shapes.Lead.{Lead}
 use Rattle.term_reading.specs.declared.shapes.Lead.TheVariants as fronts
 use Rattle.term_reading.specs.declared.shapes.Step.{Step}
 use Rattle.term_reading.specs.declared.shapes.Step.TheVariants as turns
-use Rattle.term_reading.specs.Words.{Continues, IsSpelled, Moves, ends, is_fine, is_worded}
+use Rattle.term_reading.specs.Words.{Continues, IsSpelled, ends, is_fine, is_worded}
 use Rattle.term_reading.specs.Reading.{GetsDotted, GetsOpen, GetsShape, GetsTruth, follows, front, is_atom, opens, turn}
 use Rattle.term_reading.proofs.WordLaws.{digits_all, digits_begin, plain_of, plain_parts, symbol_spelled}
 
@@ -149,9 +149,6 @@ element_front table (Name n) more ok fine = refl
 element_front table (Sym s) more ok fine = worded_front table (Sym s) more ok refl fine
 element_front table (Num z) more ok fine = worded_front table (Num z) more ok refl fine
 
-apart : (a b : Lead) → a ≡ b → (code a ≡ code b → ⊥) → ⊥
-apart a b same other = other (ap code same)
-
 front_known : (table : Table) (x : Shape) (bytes more : List ℕ) (f : Lead) → IsSpelled table → is_fine table x ≡ true → bytes ≡ element_text table x ++ more → front bytes ≡ f → code f ≡ code (front_of x)
 front_known table x bytes more f ok fine is found = ap code (sym found ∙ ap front is ∙ element_front table x more ok fine)
 
@@ -184,10 +181,6 @@ mark_begun (b ∷ bs) h = by (eqb b 40) (eqb b 35) (eqb b 34) refl h
     by false false true e h = ap (λ c. c ∷ bs) (eqb-true b 34 e)
     by false false false e h = absurd (let e : 3 ≡ 2 = ap code h in omega (arith, e))
 
-pub front_some : (bytes : List ℕ) (f : Lead) → front bytes ≡ f → code f < 3 → 0 < length bytes
-front_some [] f h low = absurd (let e : 3 ≡ code f = ap code h in omega (arith, e, low))
-front_some (b ∷ bs) f h low = omega arith
-
 pub hash_got : (new : Table) (bytes behind left : List ℕ) (shape : Shape) → front bytes ≡ fronts.Hash → behind ≡ drop 1 bytes → GetsTruth behind shape left → GetsShape new true bytes shape left
 hash_got new bytes behind left shape found cut got table on (Truth b) more fine over is = got b more (ap (λ l. 35 ∷ l) cut ∙ sym (hash_begun bytes found) ∙ is)
 hash_got new bytes behind left shape found cut got table on Pair more fine over is = absurd (let e : 1 ≡ 0 = front_known table Pair bytes more fronts.Hash on.spelled fine is found in omega (arith, e))
@@ -216,31 +209,6 @@ word_shape_got new bytes left shape found got table on Pair more fine over is = 
 word_shape_got new bytes left shape found got table on Nil more fine over is = absurd (let e : 3 ≡ 0 = front_known table Nil bytes more fronts.Word on.spelled fine is found in omega (arith, e))
 word_shape_got new bytes left shape found got table on (Truth b) more fine over is = absurd (let e : 3 ≡ 1 = front_known table (Truth b) bytes more fronts.Word on.spelled fine is found in omega (arith, e))
 word_shape_got new bytes left shape found got table on (Str s) more fine over is = absurd (let e : 3 ≡ 2 = front_known table (Str s) bytes more fronts.Word on.spelled fine is found in omega (arith, e))
-
--- behind the open of a list
-pub closed_got : (bytes left : List ℕ) (b : ℕ) → b ≡ 41 → get_or bytes 0 0 ≡ b → 0 < length bytes → left ≡ drop 1 bytes → GetsOpen bytes Nil left
-closed_got [] left b is first some cut = absurd (let none : ⊥ = omega (arith, some) in none)
-closed_got (c ∷ cs) left b is first some cut = (λ more over same. absurd (shut more over (ap (get_or_first) (sym same) ∙ first ∙ is)), λ more same. (refl, cut ∙ ap (drop 1) same))
-  where
-    get_or_first : List ℕ → ℕ
-    get_or_first l = get_or l 0 0
-
-    shut : (more : List ℕ) → opens more ≡ true → get_or more 0 0 ≡ 41 → ⊥
-    shut [] over e = omega (arith, e)
-    shut (d ∷ []) over e = true≢false (sym over ∙ ap (λ x. not (x == 41)) e)
-    shut (d ∷ g ∷ gs) over e = true≢false (sym (and_parts (not (d == 41)) (not (d == 46 && g == 32)) over).0 ∙ ap (λ x. not (x == 41)) e)
-
-pub pair_got : (bytes left : List ℕ) → (get_or bytes 0 0 ≡ 41 → ⊥) → left ≡ bytes → GetsOpen bytes Pair left
-pair_got bytes left other same = (λ more over is. (refl, same ∙ is), λ more is. absurd (other (ap (λ l. get_or l 0 0) is)))
-
--- a truth value
-pub truth_got : (bytes left : List ℕ) (byte : ℕ) (t : Bool) → get_or bytes 0 0 ≡ byte → t ≡ (byte == 116) → left ≡ drop 1 bytes → GetsTruth bytes (Truth t) left
-truth_got bytes left byte t first test cut true more is = (ap Truth (test ∙ ap (λ x. x == 116) (sym first ∙ ap (λ l. get_or (drop 1 l) 0 0) is)), cut ∙ ap (drop 2) is)
-truth_got bytes left byte t first test cut false more is = (ap Truth (test ∙ ap (λ x. x == 116) (sym first ∙ ap (λ l. get_or (drop 1 l) 0 0) is)), cut ∙ ap (drop 2) is)
-
-pub no_truth : (bytes left : List ℕ) (shape : Shape) → length bytes ≡ 0 → GetsTruth bytes shape left
-no_truth bytes left shape none true more is = absurd (omega (arith, none, ap length is))
-no_truth bytes left shape none false more is = absurd (omega (arith, none, ap length is))
 
 -- what comes behind an element
 abbrev pub turn_of : Shape → Step
@@ -279,24 +247,6 @@ rest_turn table (Truth b) more over = refl
 turn_known : (table : Table) (x : Shape) (bytes more : List ℕ) (t : Step) → follows false x more ≡ true → bytes ≡ rest_text table x ++ more → turn bytes ≡ t → turn_code t ≡ turn_code (turn_of x)
 turn_known table x bytes more t over is found = ap turn_code (sym found ∙ ap turn is ∙ rest_turn table x more over)
 
-pub next_got : (new : Table) (bytes left : List ℕ) → turn bytes ≡ turns.Next → left ≡ drop 1 bytes → GetsShape new false bytes Pair left
-next_got new bytes left found cut table on Pair more fine over is = (refl, cut ∙ ap (drop 1) is)
-next_got new bytes left found cut table on Nil more fine over is = absurd (let e : 0 ≡ 1 = turn_known table Nil bytes more turns.Next over is found in omega (arith, e))
-next_got new bytes left found cut table on (Name n) more fine over is = absurd (let e : 0 ≡ 2 = turn_known table (Name n) bytes more turns.Next over is found in omega (arith, e))
-next_got new bytes left found cut table on (Sym s) more fine over is = absurd (let e : 0 ≡ 2 = turn_known table (Sym s) bytes more turns.Next over is found in omega (arith, e))
-next_got new bytes left found cut table on (Str s) more fine over is = absurd (let e : 0 ≡ 2 = turn_known table (Str s) bytes more turns.Next over is found in omega (arith, e))
-next_got new bytes left found cut table on (Num z) more fine over is = absurd (let e : 0 ≡ 2 = turn_known table (Num z) bytes more turns.Next over is found in omega (arith, e))
-next_got new bytes left found cut table on (Truth b) more fine over is = absurd (let e : 0 ≡ 2 = turn_known table (Truth b) bytes more turns.Next over is found in omega (arith, e))
-
-pub close_got : (new : Table) (bytes left : List ℕ) → turn bytes ≡ turns.Close → left ≡ drop 1 bytes → GetsShape new false bytes Nil left
-close_got new bytes left found cut table on Nil more fine over is = (refl, cut ∙ ap (drop 1) is)
-close_got new bytes left found cut table on Pair more fine over is = absurd (let e : 1 ≡ 0 = turn_known table Pair bytes more turns.Close over is found in omega (arith, e))
-close_got new bytes left found cut table on (Name n) more fine over is = absurd (let e : 1 ≡ 2 = turn_known table (Name n) bytes more turns.Close over is found in omega (arith, e))
-close_got new bytes left found cut table on (Sym s) more fine over is = absurd (let e : 1 ≡ 2 = turn_known table (Sym s) bytes more turns.Close over is found in omega (arith, e))
-close_got new bytes left found cut table on (Str s) more fine over is = absurd (let e : 1 ≡ 2 = turn_known table (Str s) bytes more turns.Close over is found in omega (arith, e))
-close_got new bytes left found cut table on (Num z) more fine over is = absurd (let e : 1 ≡ 2 = turn_known table (Num z) bytes more turns.Close over is found in omega (arith, e))
-close_got new bytes left found cut table on (Truth b) more fine over is = absurd (let e : 1 ≡ 2 = turn_known table (Truth b) bytes more turns.Close over is found in omega (arith, e))
-
 dot_by : (bytes behind left text more : List ℕ) (new table : Table) (shape x : Shape) → behind ≡ drop 3 bytes → GetsDotted new behind shape left → Continues new table → is_atom x ≡ true → is_fine table x ≡ true → text ≡ atom_text table x →
     bytes ≡ (codes " . " ++ text ++ 41 ∷ []) ++ more → (shape ≡ x) × (left ≡ more)
 dot_by bytes behind left text more new table shape x cut got on atom fine same is =
@@ -326,7 +276,3 @@ dotted_got new bytes rest left shape got cut table on x more atom fine is = by x
     by (Str s) atom fine is = done (Str s) (got table on (Str s) (41 ∷ more) fine refl is)
     by (Num z) atom fine is = done (Num z) (got table on (Num z) (41 ∷ more) fine refl is)
     by (Truth b) atom fine is = done (Truth b) (got table on (Truth b) (41 ∷ more) fine refl is)
-
--- moves in a longer text
-pub wider : (old new : Table) (a b size left k : ℕ) → Moves old a new b → a + k ≤ size → left ≤ b + k → Moves old size new left
-wider old new a b size left k m fits less = record { goes_on = m.goes_on; symbols = omega (arith, m.symbols, fits, less); strings = omega (arith, m.strings, fits, less); spelled = m.spelled }

@@ -6,10 +6,9 @@ use Rattle.std.specs.Str.{is_utf8}
 use Rattle.std.proofs.lemmas.Bool.{and_parts, eqb-true}
 use Rattle.std.proofs.lemmas.Str.{IsUtf8-from_is_utf8}
 use Rattle.kan_model.specs.Answers.Text.{string_byte_text, string_text}
-use Rattle.kan_terms.specs.Table.{Table, is_string_text, name_of, number_of, with_string}
-use Rattle.kan_grammar.proofs.Texts.NameLaws.{extends_string}
+use Rattle.kan_terms.specs.Table.{Table, is_string_text, name_of, number_of}
 use Rattle.term_reading.specs.Strings.{at_mark, behind_byte, front_byte}
-use Rattle.term_reading.specs.Words.{Continues, Moves}
+use Rattle.term_reading.specs.Words.{Continues}
 use Rattle.term_reading.proofs.WordLaws.{string_found, string_spelled, text_at}
 
 -- one printed byte is read back
@@ -33,9 +32,6 @@ byte_printed b more = by (eqb b 34) (eqb b 92) (eqb b 10) (eqb b 9) (eqb b 13) r
 -- what was read is the front of the text whose printing these bytes begin with, and what is left prints the rest of it
 abbrev pub LeftText : List ℕ → List ℕ → List ℕ → Type 0
 LeftText start made rest = (text more : List ℕ) → start ≡ flat_map string_byte_text text ++ 34 ∷ more → (left : List ℕ) × (text ≡ made ++ left) × (rest ≡ flat_map string_byte_text left ++ 34 ∷ more)
-
-pub text_begun : (start : List ℕ) → LeftText start [] start
-text_begun start text more e = (text, refl, e)
 
 pub text_goes_on : (start made rest new behind : List ℕ) (b : ℕ) → at_mark rest ≡ false → b ≡ front_byte rest → new ≡ made ++ b ∷ [] → behind ≡ behind_byte rest → LeftText start made rest → LeftText start new behind
 text_goes_on start made rest new behind b some first grown left held text more e = by (held text more e).0 (held text more e).1 (held text more e).2
@@ -70,26 +66,12 @@ behind_shorter (b ∷ c ∷ cs) behind some is = by (b == 92) (ap length is)
 pub string_is : (new table : Table) (bytes text : List ℕ) (k s : ℕ) → Continues new table → number_of new.strings text ≡ Some k → text ≡ bytes → s < length table.strings → bytes ≡ get_or table.strings s [] → k ≡ s
 string_is new table bytes text k s on known same low is = string_found new table text k s on known low (same ∙ is)
 
-pub no_string : (new table : Table) (bytes : List ℕ) (s : ℕ) → Continues new table → is_string_text bytes ≡ false → s < length table.strings → bytes ≡ get_or table.strings s [] → ⊥
-no_string new table bytes s on other low is =
-    true≢false (sym (and_parts (is_string_text (get_or table.strings s [])) (is_utf8 (get_or table.strings s [])) (string_spelled table s on.spelled low)).0 ∙ ap is_string_text (sym is) ∙ other)
-
 pub no_text : (new table : Table) (bytes : List ℕ) (s : ℕ) → Continues new table → (IsUtf8 bytes → ⊥) → s < length table.strings → bytes ≡ get_or table.strings s [] → ⊥
 no_text new table bytes s on other low is =
     other (subst IsUtf8 (sym is) (IsUtf8-from_is_utf8 _ (and_parts (is_string_text (get_or table.strings s [])) (is_utf8 (get_or table.strings s [])) (string_spelled table s on.spelled low)).1))
 
-pub string_moves : (old new : Table) (text : List ℕ) → new ≡ with_string old text → Moves old 1 new 0
-string_moves old new text is =
-    let more = extends_string old text in
-    subst (λ t. Moves old 1 t 0) (sym is) (record {
-      goes_on = more.goes_on;
-      symbols = omega (arith, more.symbols);
-      strings = omega (arith, more.strings);
-      spelled = λ all. all;
-    })
-
 -- the bytes of a string behind its first mark
-pub quoted : (table : Table) (s : ℕ) (bytes more : List ℕ) → s < length table.strings → 34 ∷ bytes ≡ string_text table s ++ more → bytes ≡ flat_map string_byte_text (get_or table.strings s []) ++ 34 ∷ more
-quoted table s bytes more low is =
+pub quoted_bytes : (table : Table) (s : ℕ) (bytes more : List ℕ) → s < length table.strings → 34 ∷ bytes ≡ string_text table s ++ more → bytes ≡ flat_map string_byte_text (get_or table.strings s []) ++ 34 ∷ more
+quoted_bytes table s bytes more low is =
     ap (drop 1) is ∙ append_assoc (flat_map string_byte_text (unwrap_or (name_of table.strings s) [])) (34 ∷ []) more
     ∙ ap (λ o. flat_map string_byte_text (unwrap_or o []) ++ 34 ∷ more) (text_at table.strings s low)

@@ -17,8 +17,8 @@ use Rattle.reify.specs.declared.shaping.Shape.TheVariants.{Pair, Name, Sym, Str,
 use Rattle.reify.specs.Printing.{element_text, rest_text}
 use Rattle.reify.specs.Shapes.{spelling, spells}
 use Rattle.kan_grammar.proofs.Texts.NameLaws.{goes_on_further}
-use Rattle.term_reading.specs.Words.{Continues, HasRoom, IsSpelled, Moves, ends, is_fine}
-use Rattle.term_reading.specs.Reading.{GetsShape, GetsTerm, follows, is_open, is_pair, next_open, one_less, opens, text_from}
+use Rattle.term_reading.specs.Words.{Continues, IsSpelled, Moves, ends, is_fine}
+use Rattle.term_reading.specs.Reading.{GetsShape, GetsTerm, follows, is_open, is_pair, next_open, opens, text_from}
 use Rattle.term_reading.proofs.WordLaws.{digits_begin}
 use Rattle.term_reading.proofs.ShapeLaws.{symbol_parts, word_bytes}
 
@@ -94,9 +94,6 @@ LeftTerm new start made element n rest =
     start ≡ text_from table true 0 xs ++ more →
     (left : List Shape) × (xs ≡ made ++ left) × (spells (terms_wanted element n) left ≡ true) × (list_all (is_fine table) left ≡ true) × (rest ≡ text_from table element n left ++ more)
 
-pub term_begun : (new : Table) (start : List ℕ) → LeftTerm new start [] true 0 start
-term_begun new start table on xs more whole fine over is = (xs, refl, whole, fine, is)
-
 pub continues_back : (old new table : Table) → GoesOn old new → Continues new table → Continues old table
 continues_back old new table goes on = record { goes_on = goes_on_further old new table goes on.goes_on; spelled = on.spelled }
 
@@ -109,10 +106,6 @@ element_next n (Num z) xs whole = whole
 element_next n (Str s) xs whole = whole
 element_next n (Truth b) xs whole = whole
 element_next n Nil xs whole = whole
-
-pub less_is : (n : ℕ) → 0 < n → n - 1 ≡ one_less n
-less_is zero some = absurd (let none : ⊥ = omega (arith, some) in none)
-less_is (suc n) some = omega arith
 
 rest_next : (n : ℕ) (x : Shape) (xs : List Shape) → spells (suc n) (x ∷ xs) ≡ true → spells (terms_wanted (is_pair x) (next_open (suc n) false (is_pair x))) xs ≡ true
 rest_next n Pair xs whole = whole
@@ -261,9 +254,6 @@ term_printed table t =
     ap (text_from table true 0) (sym (append-nil (spelling t))) ∙ element_printed table 0 t [] ∙ append-nil (term_text table t)
 
 -- there is room for what is left
-pub room_left : (old new : Table) (size left : ℕ) → HasRoom old size → Moves old size new left → HasRoom new left
-room_left old new size left room m = (omega (arith, room.0, m.symbols), omega (arith, room.1, m.strings))
-
 pub moves_on : (old middle new : Table) (size left less : ℕ) → Moves old size middle left → Moves middle left new less → Moves old size new less
 moves_on old middle new size left less m n = record {
   goes_on = goes_on_further old middle new m.goes_on n.goes_on;
@@ -271,9 +261,6 @@ moves_on old middle new size left less m n = record {
   strings = omega (arith, m.strings, n.strings);
   spelled = λ all. n.spelled (m.spelled all);
 }
-
-pub moves_none : (old new : Table) (size left : ℕ) → Moves old size new left → Moves old size new 0
-moves_none old new size left m = record { goes_on = m.goes_on; symbols = omega (arith, m.symbols); strings = omega (arith, m.strings); spelled = m.spelled }
 
 -- whether the loop goes on
 pub open_lists : (e : Bool) (n : ℕ) (rest : List ℕ) → is_open e n rest ≡ true → e ≡ false → 0 < n

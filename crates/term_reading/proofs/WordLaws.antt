@@ -2,7 +2,7 @@
 use Rattle.std.proofs.Common.{◌≡◌, ℕ, zero, suc, ◌<◌, ◌≤◌, ◌^◌, Bool, true, false, List, [], ◌∷◌, ◌++◌, length, refl, sym, ap, ap₂, ◌∙◌, arith, true≢false, subst, get_or, IsUtf8, rules, to_z, of_z}
 use Rattle.std.proofs.Math.Facts.{to_z-of_z}
 use Rattle.std.specs.Prelude.{◌==◌, ◌&&◌, not, nat_lt, if◌then◌else◌, ℤ, pos, negsuc, neg_ℤ, Option, Some, None, Result, Ok, Err, unwrap_or, is_some, option_map, bytes_eq, IfOk}
-use Rattle.std.specs.List.{prefix_len, list_all}
+use Rattle.std.specs.List.{list_all}
 use Rattle.std.specs.Int.{w128}
 use Rattle.std.specs.Int.RustNames.{FitsSigned}
 use Rattle.std.specs.Fmt.{decimal}
@@ -10,7 +10,6 @@ use Rattle.std.specs.Str.{is_utf8}
 use Rattle.std.specs.Str.Parse.{IsNumeral, ParsesUnsigned, ParsesSigned, digits_value}
 use Rattle.std.specs.Char.{is_ascii_digit}
 use Rattle.std.proofs.lemmas.Bool.{and_parts}
-use Rattle.std.proofs.lemmas.List.Sums.{prefix_len-le-length}
 use Rattle.std.proofs.lemmas.Bool.Decides.{nat_tests}
 use Rattle.std.proofs.lemmas.Str.{IsUtf8-from_ascii, IsUtf8-from_is_utf8, is_utf8-from_IsUtf8}
 use Rattle.std.proofs.lemmas.List.Folds.{list_all-append}
@@ -24,15 +23,12 @@ use Rattle.kan_model.proofs.Answering.DecimalLaws.{decimal_as_printed}
 use Rattle.kan_terms.specs.Table.{Table, IsDistinct, name_of, number_of, with_symbol}
 use Rattle.kan_terms.proofs.TableLaws.{number_of-append, number_of-name_of}
 use Rattle.kan_grammar.specs.Data.Words.{all_digits, begins_with_digit, is_dot, is_in_range, is_reserved, is_word_byte, looks_like_number}
-use Rattle.kan_grammar.proofs.Texts.NameLaws.{extends_symbol, goes_on_same}
+use Rattle.kan_grammar.proofs.Texts.NameLaws.{extends_symbol}
 use Rattle.kan_model.specs.Answers.InForm.{is_filled}
 use Rattle.reify.specs.declared.shaping.Shape.{Shape}
 use Rattle.reify.specs.declared.shaping.Shape.TheVariants.{Pair, Name, Sym, Str, Num, Truth, Nil}
 use Rattle.reify.specs.Printing.{atom_text}
 use Rattle.term_reading.specs.Words.{AreSymbols, Continues, IsSpelled, Moves, is_fine, is_plain, is_string, is_symbol, is_worded}
-
-pub run_within : (p : ℕ → Bool) (bs : List ℕ) → prefix_len p bs ≤ length bs
-run_within p bs = prefix_len-le-length p bs
 
 -- digits
 own : IsNumeralModel (λ ds. all_digits ds ≡ true) (digits_value 10)
@@ -196,18 +192,6 @@ symbol_moves old new word is plain utf8 =
     filled : (w : List ℕ) → is_filled w ≡ true → 0 < length w
     filled [] h = absurd (true≢false (sym h))
     filled (b ∷ bs) h = omega arith
-
-pub stays : (table : Table) (size : ℕ) → Moves table size table 0
-stays table size = record { goes_on = goes_on_same table; symbols = omega arith; strings = omega arith; spelled = λ all. all }
-
-pub moves_from : (old other new : Table) (size left : ℕ) → old ≡ other → Moves other size new left → Moves old size new left
-moves_from old other new size left same m = subst (λ t. Moves t size new left) (sym same) m
-
-pub moves_to : (old new other : Table) (size left : ℕ) → other ≡ new → Moves old size new left → Moves old size other left
-moves_to old new other size left same m = subst (λ t. Moves old size t left) (sym same) m
-
-pub stays_as : (old new : Table) (size : ℕ) → new ≡ old → Moves old size new 0
-stays_as old new size same = moves_to old old new size 0 same (stays old size)
 
 -- a shape that is a word
 pub word_is_name : (table : Table) (word : List ℕ) (x : Shape) (n : ℕ) → is_worded x ≡ true → is_fine table x ≡ true → IsSpelled table → is_reserved word ≡ true → word ≡ atom_text table x →

@@ -13,7 +13,7 @@ use Rattle.kan_grammar.specs.Texts.Binders.{binder}
 use Rattle.kan_grammar.specs.Texts.ProgramText.{relations_in, relations_of, queries_in, queries_of}
 use Rattle.kan_grammar.specs.Texts.Resolved.{Names, conjunction, goals_in, suspended_in, within}
 use Rattle.kan_grammar.specs.Texts.GoalForms.{GoalForms}
-use Rattle.kan_model.specs.Programs.Tables.{RelationEntry, Tables, templates_of, with_relation}
+use Rattle.kan_model.specs.Programs.Tables.{RelationEntry, Tables, templates_of}
 use Rattle.kan_grammar.specs.Texts.TopForms.{Defined, form}
 use Rattle.goal_syntax.specs.Building.FormsBuilt.{asked_equation, asked_fresh}
 use Rattle.goal_syntax.specs.Building.CallsThere.{calls_named, bodies_named, queries_named, all_named, are_there, KeepsClosed}
@@ -48,15 +48,6 @@ closed_on ds ts us vs p q first next = record {
 -- a test that says the same
 pub closed_as : (ds : List Sited) (ts us : Tables) (p q : List RelationEntry → Bool) → ((rows : List RelationEntry) → p rows ≡ q rows) → KeepsClosed ds ts us p → KeepsClosed ds ts us q
 closed_as ds ts us p q same kept = record { low = kept.low; called = λ rows. kept.called rows ∙ ap (λ b. are_there rows ts.goals && b) (same rows) }
-
--- nothing is built
-pub closed_none : (ds : List Sited) (ts us : Tables) → us.terms ≡ ts.terms → us.goals ≡ ts.goals → KeepsClosed ds ts us (λ rows. true)
-closed_none ds ts us terms goals = record { low = low_same ds ts us terms; called = λ rows. ap (are_there rows) goals ∙ sym (and_true (are_there rows ts.goals)) }
-
--- a relation that is added leaves templates and goals as they are
-pub relation_closed : (ds : List Sited) (ts us vs : Tables) (p : List RelationEntry → Bool) (r : RelationEntry) → KeepsClosed ds ts us p → vs ≡ with_relation us r → KeepsClosed ds ts vs (λ rows. p rows && true)
-relation_closed ds ts us vs p r kept added =
-    closed_on ds ts us vs p (λ rows. true) kept (closed_none ds us vs (ap (λ (x : Tables). x.terms) added) (ap (λ (x : Tables). x.goals) added))
 
 -- goals behind an equation have its calls
 pub behind_equation : (rows : List RelationEntry) (names : List ℕ) (gs : List Goal) → calls_named rows (conjunction gs) ≡ calls_named rows (conjunction (asked_equation names ∷ gs))

@@ -2,14 +2,14 @@
 use Rattle.std.proofs.Common.{◌≡◌, ℕ, ◌+◌, ◌<◌, ◌≤◌, ◌^◌, List, [], ◌∷◌, ◌++◌, length, map, refl, sym, ◌∙◌, ap, arith, length-append, Option, Some, None}
 use Rattle.std.specs.Prelude.{Bool, true, false, unwrap_or}
 use Rattle.std.proofs.lemmas.List.{length-map}
-use Rattle.kan_terms.specs.Tree.{Tree, size}
+use Rattle.kan_terms.specs.Tree.{size}
 use Rattle.kan_terms.specs.Table.{Table}
 use Rattle.kan_grammar.specs.declared.dialect.Dialect.{Dialect}
 use Rattle.kan_grammar.specs.Texts.Sited.{Sited, site, is_proper}
 use Rattle.kan_grammar.specs.Texts.Binders.{binder}
-use Rattle.kan_grammar.specs.Texts.TermForms.{TermForm, term_form}
+use Rattle.kan_grammar.specs.Texts.TermForms.{term_form}
 use Rattle.kan_grammar.specs.Texts.GoalForms.{GoalForm, goal_forms, term_forms}
-use Rattle.kan_grammar.specs.Texts.Resolved.{Names, template_in}
+use Rattle.kan_grammar.specs.Texts.Resolved.{Names}
 use Rattle.kan_grammar.specs.Texts.TopForms.{Defined}
 use Rattle.kan_model.specs.Programs.Tables.{TermEntry, GoalEntry, RelationEntry, Tables, with_term, with_argument, with_goal, with_relation}
 use Rattle.kan_model.specs.declared.nodes.GoalNode.{GoalNode}
@@ -23,7 +23,6 @@ use Rattle.goal_forms.specs.declared.goal.Goal.TheVariants.{Succeed, Fail, Same,
 use Rattle.goal_syntax.specs.Building.GrownTables.{HasRoom}
 use Rattle.goal_syntax.specs.Building.Entries.{entries, terms_size, sides_size, goal_size, goals_size, others_size}
 use Rattle.goal_syntax.specs.Building.TermsLeft as terms
-use Rattle.goal_syntax.specs.Building.TermsLeft.{HasTemplates}
 use Rattle.goal_syntax.specs.declared.build_term.Work as term_work
 use Rattle.goal_syntax.specs.declared.build_term.Work.TheVariants.{Term, Pair}
 use Rattle.goal_syntax.specs.Building.GoalsBuilt.{StandsFor, own_goal}
@@ -53,16 +52,6 @@ relation_adds ts us r is = ap entries is ∙ omega (arith, longer ts.relations r
 pub room_left : (ts : Tables) → entries ts < 2 ^ 24 → HasRoom ts
 room_left ts few = record { terms = omega (arith, few); arguments = omega (arith, few); goals = omega (arith, few); relations = omega (arith, few) }
 
--- each tree has a part
-pub some_size : {V : Type 0} (t : Tree V) → 1 ≤ size t
-some_size (Tree.leaf v) = omega arith
-some_size (Tree.sym s) = omega arith
-some_size (Tree.str s) = omega arith
-some_size (Tree.num n) = omega arith
-some_size (Tree.truth b) = omega arith
-some_size Tree.nil = omega arith
-some_size (Tree.pair a b) = omega arith
-
 -- work on terms that is put on a stack
 terms-push : (ds : List Sited) (t : Table) (ws : List term_work.Work) (w : term_work.Work) → terms.works_entries ds t (ws ++ w ∷ []) ≡ terms.work_entries ds t w + terms.works_entries ds t ws
 terms-push ds t [] w = refl
@@ -86,10 +75,6 @@ terms_more t (Sited.text at s) a d e = cc
 terms_more t (Sited.num at s) a d e = cc
 terms_more t (Sited.bool at s) a d e = cc
 terms_more t (Sited.nil at) a d e = cc
-
--- there are as many places as terms
-pub as_many : (ts : Tables) (ps : List ℕ) (ns : Names) (us : List TermForm) → HasTemplates ts ps (map (template_in ns) us) → length ps ≡ length us
-as_many ts ps ns us has = sym (length-map ps _) ∙ ap length has.are ∙ length-map us (template_in ns)
 
 -- work on goals that is put on a stack
 pub goals_pushed : (t : Table) (ds : List Sited) (ws vs : List Work) → works_entries t ds (ws ++ vs) ≡ works_entries t ds ws + works_entries t ds vs

@@ -155,6 +155,28 @@ clause_small : (t : Table) (proper : Bool) (c : Sited) → goals_size (goal_form
 clause_small t true c goals = goals
 clause_small t false c goals = omega (arith, some_parts c)
 
+-- the form of a goal whose head is a name, by whether it has as many parts as the name wants, and by its word
+abbrev pub goal_form_of_word : Table → ℕ → ℕ → ℕ → Sited → Bool → Word → GoalForm
+goal_form_of_word t at head s parts as_many w = elim as_many as (λ x. GoalForm) [
+  | false ↦ GoalForm.misshapen at
+  | true ↦ elim w as (λ x. GoalForm) [
+    | Word.same ↦ GoalForm.same (term_one t parts) (term_two t parts)
+    | Word.differ ↦ GoalForm.differ (term_one t parts) (term_two t parts)
+    | Word.symbolo ↦ GoalForm.symbol (term_one t parts)
+    | Word.numbero ↦ GoalForm.number (term_one t parts)
+    | Word.stringo ↦ GoalForm.text (term_one t parts)
+    | Word.absento ↦ GoalForm.absent (tag t (first parts)) (term_two t parts)
+    | Word.fresh ↦ fresh_form t at parts
+    | Word.conde ↦ GoalForm.clauses (clause_forms t parts)
+    | Word.conj ↦ GoalForm.all_of (goal_forms t parts)
+    | Word.disj ↦ GoalForm.one_of (goal_forms t parts)
+    | Word.conj_two ↦ GoalForm.all_of (goal_forms t parts)
+    | Word.disj_two ↦ GoalForm.one_of (goal_forms t parts)
+    | Word.other ↦ GoalForm.call head s (term_forms t parts)
+    | _ ↦ GoalForm.misshapen at
+  ]
+]
+
 mutual
   goal_small : (t : Table) (d : Sited) → goal_size (goal_form t d) ≤ site_size d
   goal_small t (Sited.name at s) = atom_small (word t s) at
@@ -167,25 +189,7 @@ mutual
       (fresh_small t at parts) (goals_small t parts) (clauses_small t parts)
     where
       by_word : (b : Bool) (w : Word) → goal_size (fresh_form t at parts) ≤ 2 + site_size parts → goals_size (goal_forms t parts) ≤ site_size parts → goals_size (clause_forms t parts) ≤ site_size parts →
-          goal_size (elim b as (λ x. GoalForm) [
-            | false ↦ GoalForm.misshapen at
-            | true ↦ elim w as (λ x. GoalForm) [
-              | Word.same ↦ GoalForm.same (term_one t parts) (term_two t parts)
-              | Word.differ ↦ GoalForm.differ (term_one t parts) (term_two t parts)
-              | Word.symbolo ↦ GoalForm.symbol (term_one t parts)
-              | Word.numbero ↦ GoalForm.number (term_one t parts)
-              | Word.stringo ↦ GoalForm.text (term_one t parts)
-              | Word.absento ↦ GoalForm.absent (tag t (first parts)) (term_two t parts)
-              | Word.fresh ↦ fresh_form t at parts
-              | Word.conde ↦ GoalForm.clauses (clause_forms t parts)
-              | Word.conj ↦ GoalForm.all_of (goal_forms t parts)
-              | Word.disj ↦ GoalForm.one_of (goal_forms t parts)
-              | Word.conj_two ↦ GoalForm.all_of (goal_forms t parts)
-              | Word.disj_two ↦ GoalForm.one_of (goal_forms t parts)
-              | Word.other ↦ GoalForm.call head s (term_forms t parts)
-              | _ ↦ GoalForm.misshapen at
-            ]
-          ]) ≤ 2 + site_size parts
+          goal_size (goal_form_of_word t at head s parts b w) ≤ 2 + site_size parts
       by_word false w f g c = omega arith
       by_word true Word.same f g c = omega (arith, two_small t parts)
       by_word true Word.differ f g c = omega (arith, two_small t parts)

@@ -4,17 +4,17 @@ use Rattle.std.specs.Prelude.{Bool, true, false, if◌then◌else◌}
 use Rattle.std.proofs.Math.Seq.{take-suc}
 use Rattle.std.proofs.lemmas.List.{map-append}
 use Rattle.kan_terms.specs.Table.{Table}
-use Rattle.kan_grammar.specs.Texts.Sited.{Sited, site, is_proper, count, first}
+use Rattle.kan_grammar.specs.Texts.Sited.{Sited, site, is_proper, count}
 use Rattle.kan_grammar.specs.Texts.Language.{Word, word, head_word}
-use Rattle.kan_grammar.specs.Texts.Binders.{Checked, binder, binder_faults, tag}
-use Rattle.kan_grammar.specs.Texts.GoalForms.{GoalForm, parts_of, is_count, atom_goal, term_forms, term_one, term_two, goal_form, goal_forms, fresh_form, clause_forms}
+use Rattle.kan_grammar.specs.Texts.Binders.{Checked, binder, binder_faults}
+use Rattle.kan_grammar.specs.Texts.GoalForms.{GoalForm, parts_of, is_count, atom_goal, term_forms, goal_form, goal_forms, fresh_form, clause_forms}
 use Rattle.kan_grammar.specs.Texts.TopForms.{Form, head, head_name, limit, no_limit, relation, run_of_one, run_of_list, misshapen, unknown, relation_form, run_form, limited_form, form}
 use Rattle.goal_forms.specs.Parts.{site_at}
 use Rattle.goal_forms.specs.TermSteps.{site_size}
 use Rattle.goal_forms.specs.Sizes.{parts_in}
 use Rattle.goal_forms.proofs.SizeLaws.{some_parts}
 use Rattle.goal_syntax.specs.Building.Widths.{goal_width, goals_width, form_width, forms_width}
-use Rattle.goal_syntax.proofs.Building.FormEntryLaws.{binder_small}
+use Rattle.goal_syntax.proofs.Building.FormEntryLaws.{binder_small, goal_form_of_word}
 
 -- so many terms have more than twice as many parts
 terms_narrow : (t : Table) (d : Sited) → length (term_forms t d) + length (term_forms t d) < site_size d
@@ -49,25 +49,7 @@ mutual
     where
       by_word : (b : Bool) (w : Word) → goal_width (fresh_form t at parts) + goal_width (fresh_form t at parts) < 2 + site_size parts → goals_width (goal_forms t parts) + goals_width (goal_forms t parts) < site_size parts →
           goals_width (clause_forms t parts) + goals_width (clause_forms t parts) < site_size parts →
-          (f : GoalForm) → f ≡ elim b as (λ x. GoalForm) [
-            | false ↦ GoalForm.misshapen at
-            | true ↦ elim w as (λ x. GoalForm) [
-              | Word.same ↦ GoalForm.same (term_one t parts) (term_two t parts)
-              | Word.differ ↦ GoalForm.differ (term_one t parts) (term_two t parts)
-              | Word.symbolo ↦ GoalForm.symbol (term_one t parts)
-              | Word.numbero ↦ GoalForm.number (term_one t parts)
-              | Word.stringo ↦ GoalForm.text (term_one t parts)
-              | Word.absento ↦ GoalForm.absent (tag t (first parts)) (term_two t parts)
-              | Word.fresh ↦ fresh_form t at parts
-              | Word.conde ↦ GoalForm.clauses (clause_forms t parts)
-              | Word.conj ↦ GoalForm.all_of (goal_forms t parts)
-              | Word.disj ↦ GoalForm.one_of (goal_forms t parts)
-              | Word.conj_two ↦ GoalForm.all_of (goal_forms t parts)
-              | Word.disj_two ↦ GoalForm.one_of (goal_forms t parts)
-              | Word.other ↦ GoalForm.call head_at s (term_forms t parts)
-              | _ ↦ GoalForm.misshapen at
-            ]
-          ] → goal_width f + goal_width f < 2 + site_size parts
+          (f : GoalForm) → f ≡ goal_form_of_word t at head_at s parts b w → goal_width f + goal_width f < 2 + site_size parts
       by_word false w f g c made is = omega (arith, ap goal_width is)
       by_word true Word.fresh f g c made is = omega (arith, ap goal_width is, f)
       by_word true Word.conde f g c made is = omega (arith, ap goal_width is, c)

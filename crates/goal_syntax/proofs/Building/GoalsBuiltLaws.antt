@@ -1,5 +1,5 @@
 -- What stands in tables while goals are built.
-use Rattle.std.proofs.Common.{◌≡◌, ℕ, ◌<◌, List, [], ◌∷◌, ◌++◌, length, map, reverse, refl, sym, ◌∙◌, ap, ap₂, arith, Option, Some, None}
+use Rattle.std.proofs.Common.{◌≡◌, ℕ, ◌<◌, List, [], ◌∷◌, ◌++◌, length, map, reverse, refl, sym, ◌∙◌, ap, ap₂, Option, Some, None}
 use Rattle.std.specs.Prelude.{Bool, true, false, ◌&&◌}
 use Rattle.std.proofs.lemmas.Bool.{and_from, and_parts, ltb-true, lt-ltb}
 use Rattle.std.proofs.lemmas.List.{reverse-append}
@@ -95,19 +95,6 @@ join_grown ts rows.One g h e is first second = ap (is_goal_grown ts (length ts.g
 join_grown ts rows.Clauses g h e is first second = ap (is_goal_grown ts (length ts.goals)) is ∙ and_from _ _ (lt-ltb g (length ts.goals) first) (lt-ltb h (length ts.goals) second)
 
 -- the one goal that is left is that of all
-pub goal_made : (ts us : Tables) (ps popped : List ℕ) (at : ℕ) (g : Goal) → ps ≡ popped ++ at ∷ [] → are_below (length us.goals) ps ≡ true → stack_goals us ps ≡ with_goal g (stack_goals ts []) → HasGoal us at g
-goal_made ts us ps popped at g split below made =
-    let top : reverse ps ≡ at ∷ reverse popped = ap reverse split ∙ reverse-append popped (at ∷ []) in
-    let all : map (goal_at (goals_of us)) (reverse ps) ≡ g ∷ [] = ap (λ (b : Built). b.made) made in
-    record {
-      there = (below-split (length us.goals) popped at (sym (ap (are_below (length us.goals)) split) ∙ below)).1;
-      is = ap (first_of g) (sym (ap (map (goal_at (goals_of us))) top) ∙ all);
-    }
-  where
-    first_of : Goal → List Goal → Goal
-    first_of z [] = z
-    first_of z (x ∷ xs) = x
-
 pub goal_called : (ts us : Tables) (ps : List ℕ) (g : Goal) → stack_goals us ps ≡ with_goal g (stack_goals ts []) → (rows : List RelationEntry) → are_there rows us.goals ≡ (are_there rows ts.goals && calls_named rows g)
 goal_called ts us ps g made = λ rows. ap (λ (b : Built). b.called rows) made
 
@@ -134,8 +121,3 @@ pub empty_stands : (ts : Tables) (row : Row) → Stands ts (empty_entry row) (ro
 empty_stands ts rows.All = record { grown = refl; is = refl; called = λ entries. refl }
 empty_stands ts rows.One = record { grown = refl; is = refl; called = λ entries. refl }
 empty_stands ts rows.Clauses = record { grown = refl; is = refl; called = λ entries. refl }
-
--- a goal that was built has its place on the stack
-pub goal_left : (ts us : Tables) (ps : List ℕ) (g : Goal) → stack_goals us ps ≡ with_goal g (stack_goals ts []) → length ps ≡ 0 → ⊥
-goal_left ts us [] g made none = let all : [] ≡ g ∷ [] = ap (λ (b : Built). b.made) made in cc
-goal_left ts us (p ∷ ps) g made none = omega (arith, none)

@@ -38,9 +38,9 @@ size-push ds [] vs = omega arith
 size-push ds (w ∷ ws) vs = rw (size-push ds ws vs) (omega arith)
 
 -- the goal built last suspends
-suspended-goal : (dialect : Dialect) (g : Goal) (b : Built) → with_last_suspended dialect (with_goal g b) ≡ with_goal (suspended_in dialect g) b
-suspended-goal Book g b = refl
-suspended-goal All g b = refl
+with_last_suspended-goal : (dialect : Dialect) (g : Goal) (b : Built) → with_last_suspended dialect (with_goal g b) ≡ with_goal (suspended_in dialect g) b
+with_last_suspended-goal Book g b = refl
+with_last_suspended-goal All g b = refl
 
 -- a goal's own node and the work that it leaves give the goal
 pub inner-finish : (dialect : Dialect) (rs : List Defined) (t : Table) (ds : List Sited) (ns : Names) (g : opened.Goal) (ws : List Work) (b : Built) →
@@ -60,12 +60,12 @@ inner-finish dialect rs t ds ns (Fresh p gs) ws b =
     let left = works.Suspend ∷ works.Fresh (length bound.value) ∷ works.Leave (length ns) ∷ works.Row rows.All gs ∷ [] in
     ap (λ l. finish dialect rs t ds (within ns bound.value) l b) (reverse-append ws left)
     ∙ ap (λ (n : Names). finish dialect rs t ds n (reverse ws) (with_last_suspended dialect (with_goal fresh b))) (take-append_seam ns (map (λ s. Some s) bound.value))
-    ∙ ap (finish dialect rs t ds ns (reverse ws)) (suspended-goal dialect fresh b)
+    ∙ ap (finish dialect rs t ds ns (reverse ws)) (with_last_suspended-goal dialect fresh b)
 inner-finish dialect rs t ds ns (AllOf gs) ws b = ap (λ l. finish dialect rs t ds ns l b) (top-push ws (works.Row rows.All gs))
 inner-finish dialect rs t ds ns (OneOf gs) ws b = ap (λ l. finish dialect rs t ds ns l b) (top-push ws (works.Row rows.One gs))
 inner-finish dialect rs t ds ns (Clauses cs) ws b =
     ap (λ l. finish dialect rs t ds ns l b) (reverse-append ws (works.Suspend ∷ works.Row rows.Clauses cs ∷ []))
-    ∙ ap (finish dialect rs t ds ns (reverse ws)) (suspended-goal dialect (disjunction (goals_in dialect rs ns (clause_forms t (site_at ds cs)))) b)
+    ∙ ap (finish dialect rs t ds ns (reverse ws)) (with_last_suspended-goal dialect (disjunction (goals_in dialect rs ns (clause_forms t (site_at ds cs)))) b)
 inner-finish dialect rs t ds ns (Call at s args) ws b = ap (λ l. finish dialect rs t ds ns (reverse l) (with_goal (goal_in dialect rs ns (step_goal ds t (Call at s args))) b)) (append-nil ws)
 inner-finish dialect rs t ds ns (Misshapen at) ws b = ap (λ l. finish dialect rs t ds ns (reverse l) (with_goal (goal_in dialect rs ns (step_goal ds t (Misshapen at))) b)) (append-nil ws)
 
@@ -134,10 +134,10 @@ and-assoc true y z = refl
 and-assoc false y z = refl
 
 -- the goals of a first element and of the others are joined
-joined-goal : (row : Row) (g h : Goal) (b : Built) → with_last_joined row (with_goal h (with_goal g b)) ≡ with_goal (both_of row g h) b
-joined-goal rows.All g h b = λ i. built_from (Goal.both g h ∷ b.made) (λ rows. and-assoc (b.called rows) (calls_named rows g) (calls_named rows h) i)
-joined-goal rows.One g h b = λ i. built_from (Goal.either g h ∷ b.made) (λ rows. and-assoc (b.called rows) (calls_named rows g) (calls_named rows h) i)
-joined-goal rows.Clauses g h b = λ i. built_from (Goal.either g h ∷ b.made) (λ rows. and-assoc (b.called rows) (calls_named rows g) (calls_named rows h) i)
+with_last_joined-goal : (row : Row) (g h : Goal) (b : Built) → with_last_joined row (with_goal h (with_goal g b)) ≡ with_goal (both_of row g h) b
+with_last_joined-goal rows.All g h b = λ i. built_from (Goal.both g h ∷ b.made) (λ rows. and-assoc (b.called rows) (calls_named rows g) (calls_named rows h) i)
+with_last_joined-goal rows.One g h b = λ i. built_from (Goal.either g h ∷ b.made) (λ rows. and-assoc (b.called rows) (calls_named rows g) (calls_named rows h) i)
+with_last_joined-goal rows.Clauses g h b = λ i. built_from (Goal.either g h ∷ b.made) (λ rows. and-assoc (b.called rows) (calls_named rows g) (calls_named rows h) i)
 
 -- the first goal of a row, and what the others on the stack make of it
 others_finish : (dialect : Dialect) (rs : List Defined) (t : Table) (ds : List Sited) (ns : Names) (row : Row) (d : ℕ) (g : Goal) (ws : List Work) (b : Built) (p : Option (Sited × Sited)) → p ≡ parts (site_at ds d) →
@@ -151,7 +151,7 @@ others_finish dialect rs t ds ns row d g ws b (Some p) e =
     let split : row_forms row t (site_at ds d) ≡ more (first_form row t p.0) (row_forms row t p.1) = row-more row t (site_at ds d) p.0 p.1 e in
     let others : Goal = row_goal row (goals_in dialect rs ns (row_forms row t (site_at ds d))) in
     ap (λ l. finish dialect rs t ds ns l (with_goal g b)) top
-    ∙ ap (finish dialect rs t ds ns (reverse ws)) (joined-goal row g others b)
+    ∙ ap (finish dialect rs t ds ns (reverse ws)) (with_last_joined-goal row g others b)
     ∙ ap (λ x. finish dialect rs t ds ns (reverse ws) (with_goal x b))
     (ap (λ gs. both_of row g (row_goal row (goals_in dialect rs ns gs))) split
     ∙ sym (row-joined row g (goal_in dialect rs ns (first_form row t p.0)) (goals_in dialect rs ns (row_forms row t p.1)))

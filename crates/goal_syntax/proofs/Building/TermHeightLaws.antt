@@ -26,7 +26,7 @@ use Rattle.goal_forms.specs.declared.term.Task.{Task}
 use Rattle.goal_forms.specs.declared.term.Task.TheVariants.{Term as TermOf, Terms, Template as TemplateOf, Constant}
 use Rattle.goal_syntax.specs.declared.build_term.Work.{Work}
 use Rattle.goal_syntax.specs.declared.build_term.Work.TheVariants.{Term, Pair}
-use Rattle.goal_syntax.proofs.Building.TermsLeftLaws.{built-push}
+use Rattle.goal_syntax.proofs.Building.TermsLeftLaws.{stack_templates-push}
 use Rattle.goal_forms.proofs.HeightLaws.{site_low, term_high, list_high, template_high, constant_low, slots_high}
 
 -- templates stay low from step to step
@@ -56,7 +56,7 @@ pub join_low : (ts us : List Template) (p0 p1 p2 : List ℕ) (a d : ℕ) → p0 
     list_all is_low (pair_of_last_two (stack_templates ts p0)) ≡ true → list_all is_low ts ≡ true → list_all is_low us ≡ true
 join_low ts us p0 p1 p2 a d top next put low there =
     let tops : stack_templates ts p0 ≡ template_at ts d ∷ template_at ts a ∷ stack_templates ts p2 =
-    ap (stack_templates ts) top ∙ built-push ts p1 d ∙ ap (λ l. template_at ts d ∷ l) (ap (stack_templates ts) next ∙ built-push ts p2 a) in
+    ap (stack_templates ts) top ∙ stack_templates-push ts p1 d ∙ ap (λ l. template_at ts d ∷ l) (ap (stack_templates ts) next ∙ stack_templates-push ts p2 a) in
     let made : list_all is_low (Tree.pair (template_at ts a) (template_at ts d) ∷ stack_templates ts p2) ≡ true = sym (ap (λ l. list_all is_low (pair_of_last_two l)) tops) ∙ low in
     put (and_parts (is_low (Tree.pair (template_at ts a) (template_at ts d))) (list_all is_low (stack_templates ts p2)) made).0 there
 
@@ -66,17 +66,6 @@ made_low ds t ns [] made h = h
 made_low ds t ns (Term task ∷ ws) made h =
     let x = template_in ns (task_form ds t task) in (and_parts (is_low x) (list_all is_low made) (made_low ds t ns ws (x ∷ made) h)).1
 made_low ds t ns (Pair ∷ ws) made h = (and_parts (list_all is_low made) (all_low ds t ns ws (pair_of_last_two made)) h).0
-
--- the one built last
-pub top_low : (ds : List Sited) (t : Table) (ns : Names) (ws : List Work) (x : Template) (made : List Template) → all_low ds t ns ws (x ∷ made) ≡ true → is_low x ≡ true
-top_low ds t ns ws x made h = (and_parts (is_low x) (list_all is_low made) (made_low ds t ns ws (x ∷ made) h)).0
-
--- a template without parts that is put
-pub put_works_low : (ds : List Sited) (t : Table) (ns : Names) (ws : List Work) (ts us : List Template) (p0 p1 : List ℕ) (x y : Template) → stack_templates us p1 ≡ x ∷ stack_templates ts p0 → x ≡ y →
-    (is_low x ≡ true → list_all is_low ts ≡ true → list_all is_low us ≡ true) → all_low ds t ns ws (y ∷ stack_templates ts p0) ≡ true → list_all is_low ts ≡ true → WorksLow ds t ns ws us p1
-put_works_low ds t ns ws ts us p0 p1 x y made same put left there =
-    let all : all_low ds t ns ws (x ∷ stack_templates ts p0) ≡ true = ap (λ z. all_low ds t ns ws (z ∷ stack_templates ts p0)) same ∙ left in
-    record { left = ap (all_low ds t ns ws) made ∙ all; there = put (top_low ds t ns ws x (stack_templates ts p0) all) there }
 
 -- a pair as far as its parts
 pub pair_low : (ds : List Sited) (t : Table) (ns : Names) (ws w1 w2 w3 : List Work) (a d : Task) (ts : List Template) (places : List ℕ) → w1 ≡ ws ++ Pair ∷ [] → w2 ≡ w1 ++ Term d ∷ [] → w3 ≡ w2 ++ Term a ∷ [] →
@@ -95,13 +84,6 @@ pair_low ds t ns ws w1 w2 w3 a d ts places e1 e2 e3 all there =
           (and_from (is_low y) (list_all is_low (x ∷ made)) parts_low.1 (and_from (is_low x) (list_all is_low made) parts_low.0 both.1)) all;
       there = there;
     }
-
-pub same_low : (ds : List Sited) (t : Table) (ns : Names) (ws w1 : List Work) (a : Task) (ts : List Template) (places : List ℕ) → w1 ≡ ws ++ Term a ∷ [] →
-    all_low ds t ns (reverse ws) (template_in ns (task_form ds t a) ∷ stack_templates ts places) ≡ true → list_all is_low ts ≡ true → WorksLow ds t ns (reverse w1) ts places
-same_low ds t ns ws w1 a ts places e all there = record {
-  left = ap (λ l. all_low ds t ns l (stack_templates ts places)) (ap reverse e ∙ reverse-append ws (Term a ∷ [])) ∙ all;
-  there = there;
-}
 
 -- what was joined
 pub joined_low : (ds : List Sited) (t : Table) (ns : Names) (ws : List Work) (ts us : List Template) (p0 p1 : List ℕ) → stack_templates us p1 ≡ pair_of_last_two (stack_templates ts p0) →

@@ -32,9 +32,9 @@ pub adds_on : (ts us vs : Tables) → AddsTerms ts us → AddsTerms us vs → Ad
 adds_on ts us vs first next = record { grows = grows_on ts us vs first.grows next.grows; same = next.same ∙ first.same }
 
 -- the top of the stack comes first
-pub built-push : (ts : List Template) (ps : List ℕ) (p : ℕ) → stack_templates ts (ps ++ p ∷ []) ≡ template_at ts p ∷ stack_templates ts ps
-built-push ts [] p = refl
-built-push ts (q ∷ ps) p = ap (λ l. l ++ template_at ts q ∷ []) (built-push ts ps p)
+pub stack_templates-push : (ts : List Template) (ps : List ℕ) (p : ℕ) → stack_templates ts (ps ++ p ∷ []) ≡ template_at ts p ∷ stack_templates ts ps
+stack_templates-push ts [] p = refl
+stack_templates-push ts (q ∷ ps) p = ap (λ l. l ++ template_at ts q ∷ []) (stack_templates-push ts ps p)
 
 -- a template that is there is still there
 stays : (ts us : Tables) (p : ℕ) → Grows ts us → nat_lt p (length ts.terms) ≡ true → HasTemplate us p (template_at (templates_of ts.terms) p)
@@ -56,7 +56,7 @@ below_grown ts us (p ∷ ps) grows below =
 pub put_built : (ts us : Tables) (ps qs : List ℕ) (p : ℕ) (t : Template) → qs ≡ ps ++ p ∷ [] → HasTemplate us p t → Grows ts us → are_below (length ts.terms) ps ≡ true →
     stack_templates (templates_of us.terms) qs ≡ t ∷ stack_templates (templates_of ts.terms) ps
 put_built ts us ps qs p t pushed new grows below =
-    ap (stack_templates (templates_of us.terms)) pushed ∙ built-push (templates_of us.terms) ps p ∙ ap₂ (λ x l. x ∷ l) new.is (built_grown ts us ps grows below)
+    ap (stack_templates (templates_of us.terms)) pushed ∙ stack_templates-push (templates_of us.terms) ps p ∙ ap₂ (λ x l. x ∷ l) new.is (built_grown ts us ps grows below)
 
 pub put_below : (ts us : Tables) (ps qs : List ℕ) (p : ℕ) (t : Template) → qs ≡ ps ++ p ∷ [] → HasTemplate us p t → Grows ts us → are_below (length ts.terms) ps ≡ true →
     are_below (length us.terms) qs ≡ true
@@ -84,7 +84,7 @@ pub join_made : (ts : List Template) (p0 p1 p2 : List ℕ) (a d : ℕ) (made : L
     made ≡ template_of ts (TermEntry.pair a d) ∷ stack_templates ts p2 → made ≡ pair_of_last_two (stack_templates ts p0)
 join_made ts p0 p1 p2 a d made top next put =
     let tops : stack_templates ts p0 ≡ template_at ts d ∷ template_at ts a ∷ stack_templates ts p2 =
-    ap (stack_templates ts) top ∙ built-push ts p1 d ∙ ap (λ l. template_at ts d ∷ l) (ap (stack_templates ts) next ∙ built-push ts p2 a) in
+    ap (stack_templates ts) top ∙ stack_templates-push ts p1 d ∙ ap (λ l. template_at ts d ∷ l) (ap (stack_templates ts) next ∙ stack_templates-push ts p2 a) in
     put ∙ sym (ap pair_of_last_two tops)
 
 works_size-push : (ds : List Sited) (ws : List Work) (w : Work) → works_size ds (ws ++ w ∷ []) ≡ work_size ds w + works_size ds ws
@@ -117,7 +117,7 @@ work_falls ds old popped new w split falls = omega (arith, pushed_size ds popped
 pub last_built : (ts : Tables) (old popped : List ℕ) (p : ℕ) (t : Template) → old ≡ popped ++ p ∷ [] → are_below (length ts.terms) old ≡ true → stack_templates (templates_of ts.terms) old ≡ t ∷ [] → HasTemplate ts p t
 last_built ts old popped p t split below is =
     let us = templates_of ts.terms in
-    let top : template_at us p ∷ stack_templates us popped ≡ t ∷ [] = sym (built-push us popped p) ∙ sym (ap (stack_templates us) split) ∙ is in
+    let top : template_at us p ∷ stack_templates us popped ≡ t ∷ [] = sym (stack_templates-push us popped p) ∙ sym (ap (stack_templates us) split) ∙ is in
     record { there = (below-split (length ts.terms) popped p (sym (ap (are_below (length ts.terms)) split) ∙ below)).1; is = cc }
 
 -- the templates at places stay as they are
@@ -188,10 +188,6 @@ arguments_put ts us vs ps rest p at split first place later =
     later ∙ ap (λ u. with_arguments u rest) first ∙ ap (λ l. record ts { arguments = l }) (append_assoc ts.arguments (p ∷ []) rest) ∙ ap (with_arguments ts) (sym split) in
     rw place (arguments_there ts vs ps whole)
 
-pub no_arguments : (ts : Tables) (ps : List ℕ) → length ps ≡ 0 → HasArguments ts 0 (length ps) (map (template_at (templates_of ts.terms)) ps)
-no_arguments ts [] none = record { there = omega arith; are = refl; counted = refl }
-no_arguments ts (p ∷ ps) none = absurd (omega arith)
-
 -- the places behind the first one
 pub later_below : (ts us : Tables) (ps rest : List ℕ) (p : ℕ) → ps ≡ p ∷ rest → us ≡ with_argument ts p → are_below (length ts.terms) ps ≡ true → are_below (length us.terms) rest ≡ true
 later_below ts us ps rest p split put below = rw put (and_parts _ _ (sym (ap (are_below (length ts.terms)) split) ∙ below)).1
@@ -223,8 +219,3 @@ pub both_there : (ts us : Tables) (a d : ℕ) (t u : Template) → HasTemplate u
 both_there ts us a d t u first rest grows =
     let later = grows.templates d u rest in
     and_from _ _ (lt-ltb a (length us.terms) first.there) (lt-ltb d (length us.terms) later.there)
-
--- a template that was built has its place on the stack
-pub place_left : (ts : List Template) (ps : List ℕ) (t : Template) → stack_templates ts ps ≡ t ∷ [] → length ps ≡ 0 → ⊥
-place_left ts [] t made none = cc
-place_left ts (p ∷ ps) t made none = omega (arith, none)

@@ -20,9 +20,6 @@ use Rattle.kan_model.specs.Programs.Tables.{RelationEntry, Tables, goal_at, goal
 use Rattle.kan_grammar.specs.Texts.TextFaults.{faults_of, least, IsAccepted}
 use Rattle.kan_grammar.specs.Texts.TopForms.{Defined, form, definitions, definitions_of}
 use Rattle.kan_model.specs.Programs.Closed as programs
-use Rattle.kan_model.specs.Programs.Drafts.{tables}
-use Rattle.kan_model.specs.declared.draft.Draft.{Draft}
-use Rattle.kan_model.specs.declared.program.CloseRefused.{CloseRefused}
 use Rattle.kan_model.specs.declared.program.CloseRefused.TheVariants as closing
 use Rattle.kan_model.specs.declared.nodes.Query.{Query}
 use Rattle.kan_model.proofs.Programs.ScopeLaws.{all-calls}
@@ -161,8 +158,3 @@ pub table_after : (old new : Table) (r : Result Compiled SyntaxError) → new �
 table_after old new (Ok c) is extends = is
 table_after old new (Err (Fault at number)) is extends = is
 table_after old new (Err Memory) is extends = extends
-
--- a draft in which nothing is open is not handed back
-pub closing_goes : (d : Draft) (goals : List ℕ) (e : CloseRefused) → programs.HandsBack d goals e → are_closed (tables d) goals ≡ true → ⊥
-closing_goes d goals (closing.Open back) handed closed = true≢false (sym closed ∙ handed.1)
-closing_goes d goals (closing.Memory back) handed closed = handed

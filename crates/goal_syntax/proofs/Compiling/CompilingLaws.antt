@@ -1,20 +1,16 @@
 -- The relations and the runs of top forms, as they are built one after the other, and the widths of goals.
-use Rattle.std.proofs.Common.{◌≡◌, ℕ, zero, suc, ◌+◌, ◌<◌, ◌≤◌, ◌^◌, List, [], ◌∷◌, ◌++◌, length, map, take, get_or, refl, sym, ◌∙◌, ap, arith, append_assoc, append-nil, Some, None}
-use Rattle.std.specs.Prelude.{true, false, slice_get, option_map, unwrap_or}
-use Rattle.std.specs.List.{list_all, flat_map}
+use Rattle.std.proofs.Common.{◌≡◌, ℕ, suc, ◌+◌, ◌<◌, ◌≤◌, ◌^◌, List, [], ◌∷◌, ◌++◌, length, map, take, get_or, refl, sym, ◌∙◌, ap, arith, append_assoc, append-nil}
+use Rattle.std.specs.Prelude.{true}
+use Rattle.std.specs.List.{flat_map}
 use Rattle.std.proofs.Math.Seq.{take-suc}
-use Rattle.std.proofs.lemmas.Bool.{and_from, ltb-true, lt-ltb, false_from_ne_true}
 use Rattle.std.proofs.lemmas.Grind.{flat_map-append}
-use Rattle.std.proofs.lemmas.List.{map-append, take_all}
-use Rattle.std.proofs.lemmas.List.Folds.{list_all-append, list_all_at}
+use Rattle.std.proofs.lemmas.List.{map-append}
 use Rattle.kan_terms.specs.Table.{Table}
 use Rattle.kan_grammar.specs.declared.dialect.Dialect.{Dialect}
 use Rattle.kan_grammar.specs.Texts.Sited.{Sited}
 use Rattle.kan_model.specs.Programs.Goals as model
-use Rattle.kan_model.specs.Programs.Goals.{Goal}
-use Rattle.kan_model.specs.Programs.Measures.{noted_width}
 use Rattle.kan_grammar.specs.Texts.ProgramText.{relations_in, relations_of, queries_in, queries_of, text_meaning}
-use Rattle.kan_model.specs.Programs.Scope.{is_narrow, is_small}
+use Rattle.kan_model.specs.Programs.Scope.{is_small}
 use Rattle.kan_model.specs.Programs.Nodes.{goal_place}
 use Rattle.kan_model.specs.Programs.Closed as programs
 use Rattle.kan_model.specs.declared.program.Program.{Program}
@@ -82,38 +78,6 @@ pub names_both : (t : Table) (library forms : List Sited) (start mid last made :
     entry_names made ≡ relation_names t (library ++ forms)
 names_both t library forms start mid last made begins first second same =
     ap entry_names same ∙ second ∙ ap (λ l. l ++ relation_names t forms) (first ∙ ap (λ (ts : Tables). entry_names ts ++ relation_names t library) begins) ∙ sym (flat_map-append (λ d. names_in (form t d)) library forms)
-
--- a goal that is there has the width that is noted
-found_width : (gs : List Goal) (i w : ℕ) → Some w ≡ option_map noted_width (slice_get gs i) → (i < length gs) × (w ≡ noted_width (get_or gs i Goal.fail))
-found_width [] i w e = cc
-found_width (g ∷ gs) zero w e = (omega arith, ap (λ r. unwrap_or r w) e)
-found_width (g ∷ gs) (suc i) w e = let rest = found_width gs i w e in (omega (arith, rest.0), rest.1)
-
-no_width : (gs : List Goal) (i : ℕ) → None ≡ option_map noted_width (slice_get gs i) → length gs ≤ i
-no_width [] i e = omega arith
-no_width (g ∷ gs) zero e = cc
-no_width (g ∷ gs) (suc i) e = let rest = no_width gs i e in omega (arith, rest)
-
--- a narrow goal is passed
-pub narrow_next : (gs : List Goal) (i w : ℕ) → Some w ≡ option_map noted_width (slice_get gs i) → w < 2 ^ 21 → list_all is_narrow (take i gs) ≡ true → (list_all is_narrow (take (i + 1) gs) ≡ true) × (i + 1 ≤ length gs)
-narrow_next gs i w e narrow before =
-    let found = found_width gs i w e in
-    let step : i + 1 ≡ suc i = omega arith in
-    let one : is_narrow (get_or gs i Goal.fail) ≡ true = lt-ltb _ (2 ^ 21) (omega (arith, found.1, narrow)) in (
-      ap (λ n. list_all is_narrow (take n gs)) step ∙ ap (list_all is_narrow) (take-suc gs i Goal.fail found.0) ∙ list_all-append is_narrow (take i gs) (get_or gs i Goal.fail ∷ [])
-          ∙ and_from _ _ before (and_from _ _ one refl),
-      omega (arith, found.0),
-    )
-
--- a wide one is found
-pub wide_found : (gs : List Goal) (i w : ℕ) → Some w ≡ option_map noted_width (slice_get gs i) → 2 ^ 21 ≤ w → false ≡ list_all is_narrow gs
-wide_found gs i w e wide =
-    let found = found_width gs i w e in
-    sym (list_all_at is_narrow gs i Goal.fail found.0 (false_from_ne_true _ (λ h. let lower = ltb-true _ (2 ^ 21) h in omega (arith, found.1, wide, lower))))
-
--- all are passed
-pub narrow_all : (gs : List Goal) (i : ℕ) → None ≡ option_map noted_width (slice_get gs i) → list_all is_narrow (take i gs) ≡ true → true ≡ list_all is_narrow gs
-narrow_all gs i e before = sym (ap (list_all is_narrow) (sym (take_all i gs (no_width gs i e))) ∙ before)
 
 -- the program and the runs that were built of a text are those that are meant
 pub program_meant : (dialect : Dialect) (t : Table) (library forms : List Sited) (rules : List Defined) (start mid last : Tables) (program : Program) (none queries closed_with : List Query) →

@@ -15,8 +15,8 @@ pub next_place : (forms : List ℕ) (i : ℕ) → i < length forms → drop i fo
 next_place forms i here = let step : i + 1 ≡ suc i = omega arith in drop-cons forms i 0 here ∙ ap (λ n. get_or forms i 0 ∷ drop n forms) (sym step)
 
 -- what stands before two lists of relations
-pub passed : (rs front ours theirs : List Defined) → rs ≡ front ++ (ours ++ theirs) → take (length front + length ours) rs ≡ front ++ ours
-passed rs front ours theirs split =
+pub relations_passed : (rs front ours theirs : List Defined) → rs ≡ front ++ (ours ++ theirs) → take (length front + length ours) rs ≡ front ++ ours
+relations_passed rs front ours theirs split =
     ap (take (length front + length ours)) split ∙ take-append-add front (ours ++ theirs) (length ours) ∙ ap (λ l. front ++ l) (take-append_seam ours theirs)
 
 -- a form is passed: its relations come behind those before it
@@ -28,7 +28,7 @@ before_step t ds rs forms i b k here within later count =
     let split : rs ≡ take b rs ++ (ours ++ theirs) = later ∙ ap (λ l. take b rs ++ definitions t (map (site_at ds) l)) (next_place forms i here) in
     let size : length (take b rs) ≡ b = length-take-le b rs within in
     let place : b + k ≡ length (take b rs) + length ours = omega arith in
-    ap (λ n. take n rs) place ∙ passed rs (take b rs) ours theirs split
+    ap (λ n. take n rs) place ∙ relations_passed rs (take b rs) ours theirs split
 
 pub within_step : (t : Table) (ds : List Sited) (rs : List Defined) (forms : List ℕ) (i b k : ℕ) → i < length forms → b ≤ length rs → rs ≡ take b rs ++ definitions t (map (site_at ds) (drop i forms)) →
     k ≡ length (definitions_of t (site_at ds (get_or forms i 0))) → b + k ≤ length rs

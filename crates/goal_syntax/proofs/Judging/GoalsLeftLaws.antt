@@ -6,7 +6,7 @@ use Rattle.std.proofs.lemmas.List.{reverse-append}
 use Rattle.kan_terms.specs.Table.{Table}
 use Rattle.kan_grammar.specs.Texts.Sited.{Sited, site, is_proper}
 use Rattle.kan_grammar.specs.Data.Faults.{Fault}
-use Rattle.kan_grammar.specs.Texts.GoalForms.{GoalForm, none, more, all_of, misshapen, goal_form, goal_forms, clause_forms}
+use Rattle.kan_grammar.specs.Texts.GoalForms.{GoalForm, none, all_of, misshapen, goal_forms, clause_forms}
 use Rattle.kan_grammar.specs.Texts.TopForms.{Defined}
 use Rattle.kan_grammar.specs.Texts.Binders.{binder}
 use Rattle.kan_grammar.specs.Texts.Resolved.{Names, within}
@@ -144,35 +144,7 @@ clauses-none t (Sited.bool at b) e = refl
 clauses-none t (Sited.nil at) e = refl
 clauses-none t (Sited.pair at b c) e = cc
 
-some_parts : (s : Sited) → 0 < site_size s
-some_parts (Sited.name at s) = omega arith
-some_parts (Sited.text at n) = omega arith
-some_parts (Sited.num at n) = omega arith
-some_parts (Sited.bool at b) = omega arith
-some_parts (Sited.nil at) = omega arith
-some_parts (Sited.pair at a d) = omega arith
-
--- no goals have no faults
-pub no_goals : (rs : List Defined) (t : Table) (ds : List Sited) (ns : Names) (place : ℕ) (ws : List Waiting) → None ≡ parts (site_at ds place) →
-    stack_faults rs t ds ns (reverse ws) ≡ stack_faults rs t ds ns (waiting.Goals place ∷ reverse ws)
-no_goals rs t ds ns place ws e = sym (ap (λ gs. goals_faults rs ns gs ++ stack_faults rs t ds ns (reverse ws)) (goals-none t (site_at ds place) e))
-
-pub no_clauses : (rs : List Defined) (t : Table) (ds : List Sited) (ns : Names) (noted : List Fault) (place : ℕ) (ws : List Waiting) → None ≡ parts (site_at ds place) →
-    noted ++ stack_faults rs t ds ns (reverse ws) ≡ noted ++ stack_faults rs t ds ns (waiting.Clauses place ∷ reverse ws)
-no_clauses rs t ds ns noted place ws e = sym (ap (λ gs. noted ++ (goals_faults rs ns gs ++ stack_faults rs t ds ns (reverse ws))) (clauses-none t (site_at ds place) e))
-
-pub fewer_parts : (ds : List Sited) (place n : ℕ) → n < site_size (site_at ds place) + n
-fewer_parts ds place n = let some = some_parts (site_at ds place) in omega arith
-
 -- the first of some goals waits, and the others
-pub first_goal : (rs : List Defined) (t : Table) (ds : List Sited) (ns : Names) (place a d : ℕ) (ws mid new : List Waiting) → Some (site_at ds a, site_at ds d) ≡ parts (site_at ds place) →
-    mid ≡ ws ++ waiting.Goals d ∷ [] → new ≡ mid ++ waiting.Goal a ∷ [] → stack_faults rs t ds ns (reverse new) ≡ stack_faults rs t ds ns (waiting.Goals place ∷ reverse ws)
-first_goal rs t ds ns place a d ws mid new e f g =
-    let split : goal_forms t (site_at ds place) ≡ more (goal_form t (site_at ds a)) (goal_forms t (site_at ds d)) = ap (goal_forms t) (parts-is (site_at ds place) (site_at ds a) (site_at ds d) e).1 in
-    let top : reverse new ≡ waiting.Goal a ∷ waiting.Goals d ∷ reverse ws = ap reverse g ∙ top-push mid (waiting.Goal a) ∙ ap (λ l. waiting.Goal a ∷ l) (ap reverse f ∙ top-push ws (waiting.Goals d)) in
-    ap (stack_faults rs t ds ns) top ∙ sym (append_assoc (goal_faults rs ns (goal_form t (site_at ds a))) (goals_faults rs ns (goal_forms t (site_at ds d))) (stack_faults rs t ds ns (reverse ws)))
-    ∙ sym (ap (λ gs. goals_faults rs ns gs ++ stack_faults rs t ds ns (reverse ws)) split)
-
 pub first_parts : (ds : List Sited) (place : ℕ) (a d : ℕ) (ws mid new : List Waiting) (v w : Waiting) → Some (site_at ds a, site_at ds d) ≡ parts (site_at ds place) →
     mid ≡ ws ++ v ∷ [] → new ≡ mid ++ w ∷ [] → waiting_parts ds v ≡ site_size (site_at ds d) → waiting_parts ds w ≡ site_size (site_at ds a) →
     stack_parts ds new < site_size (site_at ds place) + stack_parts ds ws

@@ -5,7 +5,7 @@ use Rattle.kan_model.specs.Stores.Store.{equations}
 use Rattle.kan_model.specs.Stores.Prims.{prim as primitive}
 use Rattle.kan_model.specs.Stores.Solve.{solve}
 use Rattle.kan_solving.specs.Solving.{replaced_by}
-use Rattle.kan_plain.proofs.PlainLaws.{answer_is, kept_where, unsolved}
+use Rattle.kan_plain.proofs.PlainLaws.{answer_is, kept_where}
 use Rattle.kan_plain.proofs.plain.PlainStore.of.Goals as goal
 
 pub invariant_of-result : goal.invariant_of-result
