@@ -1,10 +1,9 @@
 -- Texts over a table that goes on from another one.
-use Rattle.std.proofs.Common.{◌≡◌, ℕ, zero, suc, ◌+◌, ◌<◌, Bool, true, false, List, [], ◌∷◌, ◌++◌, length, map, refl, sym, ap, ap₂, ◌∙◌, arith, true≢false}
+use Rattle.std.proofs.Common.{◌≡◌, ℕ, zero, suc, Bool, true, false, List, [], ◌∷◌, ◌++◌, length, map, refl, sym, ap, ap₂, ◌∙◌, arith, true≢false}
 use Rattle.std.specs.Prelude.{◌&&◌, not, nat_lt, codes, unwrap_or, slice_get, pos, negsuc, ◌^◌}
 use Rattle.std.specs.List.{list_all}
 use Rattle.std.proofs.lemmas.Bool.{and_parts}
 use Rattle.std.proofs.lemmas.Bool.Decides.{nat_tests}
-use Rattle.std.proofs.lemmas.List.{length-append}
 use Rattle.std.proofs.lemmas.List.Folds.{list_all-append}
 use Rattle.kan_terms.specs.Table.{Table}
 use Rattle.kan_terms.specs.Tree.{Tree, Tm}
@@ -17,11 +16,11 @@ use Rattle.kan_grammar.specs.Texts.TextNames.{GoesOn}
 use Rattle.reify.specs.declared.answers.Absence.{Absence}
 use Rattle.reify.specs.declared.shaping.NamePair.{NamePair}
 use Rattle.reify.specs.declared.shaping.Shape.{Shape}
-use Rattle.reify.specs.declared.shaping.Shape.TheVariants.{Pair, Name, Sym, Str, Num, Truth, Nil}
+use Rattle.reify.specs.declared.shaping.Shape.TheVariants.{Sym}
 use Rattle.reify.specs.OverNames.{absence}
 use Rattle.reify.specs.Shapes.{all_whole, named_pair, spelling, spells, tree_of}
 use Rattle.reify.proofs.ShapeLaws.{spelled_whole}
-use Rattle.term_reading.proofs.KnownTerms.{all_further, further, known_further}
+use Rattle.term_reading.proofs.KnownTerms.{all_further, known_further}
 use Rattle.answer_reading.specs.declared.constraints.Parts.{Parts}
 use Rattle.term_reading.specs.Words.{is_known}
 use Rattle.answer_reading.specs.Listing.{are_constraints_known, are_parts_known, is_absence_known, is_pair_known, meaning}

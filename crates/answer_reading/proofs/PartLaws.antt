@@ -8,7 +8,7 @@ use Rattle.kan_terms.specs.Table.{Table}
 use Rattle.kan_terms.specs.Tree.{Tm}
 use Rattle.kan_model.specs.Answers.Answer as model
 use Rattle.kan_model.specs.Answers.AnswerText as texts
-use Rattle.kan_model.specs.Answers.AnswerText.{absence_text, answer_text, constraint_texts, names_texts, where_text}
+use Rattle.kan_model.specs.Answers.AnswerText.{absence_text, constraint_texts, names_texts, where_text}
 use Rattle.kan_model.specs.Answers.Text.{name_text, term_text, with_spaces}
 use Rattle.kan_grammar.specs.Texts.TextNames.{GoesOn}
 use Rattle.reify.specs.declared.shaping.NamePair.{NamePair}

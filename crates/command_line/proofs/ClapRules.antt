@@ -1,5 +1,5 @@
 -- The command as clap sees it.
-use Rattle.std.proofs.Common.{◌≡◌, true, List, [], codes, refl}
+use Rattle.std.proofs.Common.{◌≡◌, true, List, codes, refl}
 use Rattle.clap.specs.Walk.{Rule}
 use Rattle.clap.specs.Simple.{Shape, built}
 use Rattle.clap.specs.Faults.{is_simple_and_free}

@@ -1,5 +1,5 @@
 -- The elements of lists, counted from the first on.
-use Rattle.std.proofs.Common.{◌≡◌, ℕ, ◌+◌, ◌∷◌, sym, ◌∙◌, ap, Option, Some, None}
+use Rattle.std.proofs.Common.{◌≡◌, ℕ, sym, ap, Option, Some, None}
 use Rattle.kan_grammar.specs.Texts.Sited.{Sited}
 use Rattle.goal_forms.specs.Shapes.{only, two}
 

@@ -7,6 +7,7 @@ pub mod Named
 pub mod GoalsBuilt
 pub mod Widths
 pub mod GoalsLeft
+pub mod StackSteps
 pub mod FormsBuilt
 pub mod CallsThere
 pub mod LowTemplates

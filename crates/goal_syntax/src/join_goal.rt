@@ -10,6 +10,7 @@ ghost use Rattle.goal_syntax.specs.Building.Entries.{Adds, HasRoomFor};
 ghost use Rattle.goal_syntax.specs.Building.GoalsLeft.{empty_entry, with_last_fresh, join_entry};
 ghost use Rattle.goal_syntax.specs.Building.GoalsLeft.{with_last_joined};
 ghost use Rattle.goal_syntax.specs.Building.GoalsLeft.{with_last_suspended};
+ghost use Rattle.goal_syntax.specs.Building.StackSteps.{ChangesGoals};
 ghost use Rattle.goal_forms.specs.Places.{are_below};
 ghost use Rattle.goal_syntax.specs.Building.Widths.{Widens, made_width};
 ghost use Rattle.goal_syntax.specs.Building.Named.{Lacks, goal_unnamed};
@@ -85,19 +86,8 @@ pub(crate) fn make(node: GoalNode, draft: &mut Draft, places: &mut Vec<u32>) -> 
 pub(crate) fn join_two(row: Row, draft: &mut Draft, places: &mut Vec<u32>) -> Result<(), Memory>
     requires room { HasRoomFor 1 (tables draft.old) }
     requires below { are_below (length (tables draft.old).goals) places.old.items ≡ true }
-    ensures made { OnOk result
-        (stack_goals (tables draft.new) places.new.items
-        ≡ with_last_joined row (stack_goals (tables draft.old) places.old.items)) }
-    ensures below { OnOk result
-        (are_below (length (tables draft.new).goals) places.new.items ≡ true) }
-    ensures grows { OnOk result (Grows (tables draft.old) (tables draft.new)) }
-    ensures room { OnOk result (Adds 1 (tables draft.old) (tables draft.new)) }
-    ensures terms { OnOk result ((tables draft.new).terms ≡ (tables draft.old).terms) }
-    ensures narrow { OnOk result (Widens
-        (made_width (stack_goals (tables draft.new) places.new.items))
-        (tables draft.old) (tables draft.new)) }
-    ensures named { OnOk result ((names : Table) →
-        Lacks names 0 (tables draft.old) (tables draft.new)) }
+    ensures { OnOk result (ChangesGoals (with_last_joined row)
+        (tables draft.old) (tables draft.new) places.old.items places.new.items) }
 {
     let Some(right) = places.pop() else {
         return Ok(());
@@ -113,19 +103,8 @@ pub(crate) fn join_two(row: Row, draft: &mut Draft, places: &mut Vec<u32>) -> Re
 pub(crate) fn add_slots(count: u32, draft: &mut Draft, places: &mut Vec<u32>) -> Result<(), Memory>
     requires room { HasRoomFor 1 (tables draft.old) }
     requires below { are_below (length (tables draft.old).goals) places.old.items ≡ true }
-    ensures made { OnOk result
-        (stack_goals (tables draft.new) places.new.items
-        ≡ with_last_fresh count (stack_goals (tables draft.old) places.old.items)) }
-    ensures below { OnOk result
-        (are_below (length (tables draft.new).goals) places.new.items ≡ true) }
-    ensures grows { OnOk result (Grows (tables draft.old) (tables draft.new)) }
-    ensures room { OnOk result (Adds 1 (tables draft.old) (tables draft.new)) }
-    ensures terms { OnOk result ((tables draft.new).terms ≡ (tables draft.old).terms) }
-    ensures narrow { OnOk result (Widens
-        (made_width (stack_goals (tables draft.new) places.new.items))
-        (tables draft.old) (tables draft.new)) }
-    ensures named { OnOk result ((names : Table) →
-        Lacks names 0 (tables draft.old) (tables draft.new)) }
+    ensures { OnOk result (ChangesGoals (with_last_fresh count)
+        (tables draft.old) (tables draft.new) places.old.items places.new.items) }
 {
     let Some(goal) = places.pop() else {
         return Ok(());
@@ -138,19 +117,8 @@ pub(crate) fn add_slots(count: u32, draft: &mut Draft, places: &mut Vec<u32>) ->
 fn add_later(draft: &mut Draft, places: &mut Vec<u32>) -> Result<(), Memory>
     requires room { HasRoomFor 1 (tables draft.old) }
     requires below { are_below (length (tables draft.old).goals) places.old.items ≡ true }
-    ensures made { OnOk result
-        (stack_goals (tables draft.new) places.new.items
-        ≡ with_last_suspended Dialect.All (stack_goals (tables draft.old) places.old.items)) }
-    ensures below { OnOk result
-        (are_below (length (tables draft.new).goals) places.new.items ≡ true) }
-    ensures grows { OnOk result (Grows (tables draft.old) (tables draft.new)) }
-    ensures room { OnOk result (Adds 1 (tables draft.old) (tables draft.new)) }
-    ensures terms { OnOk result ((tables draft.new).terms ≡ (tables draft.old).terms) }
-    ensures narrow { OnOk result (Widens
-        (made_width (stack_goals (tables draft.new) places.new.items))
-        (tables draft.old) (tables draft.new)) }
-    ensures named { OnOk result ((names : Table) →
-        Lacks names 0 (tables draft.old) (tables draft.new)) }
+    ensures { OnOk result (ChangesGoals (with_last_suspended Dialect.All)
+        (tables draft.old) (tables draft.new) places.old.items places.new.items) }
 {
     let Some(goal) = places.pop() else {
         return Ok(());
@@ -167,19 +135,8 @@ pub(crate) fn suspend(
 ) -> Result<(), Memory>
     requires room { HasRoomFor 1 (tables draft.old) }
     requires below { are_below (length (tables draft.old).goals) places.old.items ≡ true }
-    ensures made { OnOk result
-        (stack_goals (tables draft.new) places.new.items
-        ≡ with_last_suspended dialect (stack_goals (tables draft.old) places.old.items)) }
-    ensures below { OnOk result
-        (are_below (length (tables draft.new).goals) places.new.items ≡ true) }
-    ensures grows { OnOk result (Grows (tables draft.old) (tables draft.new)) }
-    ensures room { OnOk result (Adds 1 (tables draft.old) (tables draft.new)) }
-    ensures terms { OnOk result ((tables draft.new).terms ≡ (tables draft.old).terms) }
-    ensures narrow { OnOk result (Widens
-        (made_width (stack_goals (tables draft.new) places.new.items))
-        (tables draft.old) (tables draft.new)) }
-    ensures named { OnOk result ((names : Table) →
-        Lacks names 0 (tables draft.old) (tables draft.new)) }
+    ensures { OnOk result (ChangesGoals (with_last_suspended dialect)
+        (tables draft.old) (tables draft.new) places.old.items places.new.items) }
 {
     match dialect {
         Dialect::Book => Ok(()),

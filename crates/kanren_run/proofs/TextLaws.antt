@@ -1,6 +1,6 @@
 -- What becomes of a text: its program, or its refusal.
 use Rattle.std.proofs.Common.{◌≡◌, ◌≤◌, ℕ, Bool, true, false, List, [], ◌∷◌, map, length, None, Ok, Err, refl, sym, ap, subst, ◌∙◌, arith}
-use Rattle.std.specs.Prelude.{Some, Result, IsErrAnd, nat_le, ◌==◌}
+use Rattle.std.specs.Prelude.{Some, Result, IsErrAnd, nat_le}
 use Rattle.std.specs.Str.{is_utf8, chars}
 use Rattle.std.proofs.lemmas.Bool.Decides.{nat_tests}
 use Rattle.kan_terms.specs.Table.{Table}

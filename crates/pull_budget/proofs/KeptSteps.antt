@@ -1,5 +1,5 @@
 -- Each kind of step keeps the rule.
-use Rattle.std.proofs.Common.{◌≡◌, ◌≢◌, cond, ◌⊎◌, ⊎_elim, inl, inr, ℕ, zero, suc, ◌+◌, ◌%◌, ◌^◌, ◌<◌, ◌≤◌, List, [], ◌∷◌, Bool, set, true, false, true≢false, refl, sym, ap, ◌∙◌, subst, arith}
+use Rattle.std.proofs.Common.{◌≡◌, cond, ◌⊎◌, ⊎_elim, inl, inr, ℕ, zero, suc, ◌+◌, ◌%◌, ◌^◌, ◌<◌, ◌≤◌, List, [], ◌∷◌, Bool, set, true, false, true≢false, refl, sym, ap, ◌∙◌, subst, arith}
 use Rattle.std.specs.Prelude.{slice_set, slice_index, ◌==◌}
 use Rattle.std.proofs.Math.Nat.{mod-eq_of_lt}
 use mathlib.Core.Option.{some, some-injective, some-ne-none}
@@ -8,7 +8,7 @@ use prog.Atomic.{either}
 use Rattle.atomic_table.specs.Table.{State, Me, Allows, Splits, Joins, Final, Seen, opening, keeps}
 use Rattle.atomic_table.proofs.Lists.{exchanged}
 use Rattle.pull_budget.specs.declared.rule.View.{View}
-use Rattle.pull_budget.specs.Rule.{Words, word_list, FitsPuller, FitsHired, Fits, Pulls, IsKept, Kept}
+use Rattle.pull_budget.specs.Rule.{Words, word_list, FitsHired, Fits, IsKept, Kept}
 use Rattle.pull_budget.specs.Views.{fresh, opener, hired_view, joined_view, after_pull, after_seeing, after_reading, after_try, after_stop, is_set, after_asking, after_bound}
 use Rattle.pull_budget.proofs.KeptViews.{change_fits, change_keeps, push_keeps, other_hired}
 

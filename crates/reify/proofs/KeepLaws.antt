@@ -1,5 +1,5 @@
 -- The forms of the pairs that a store tells are those of its disequalities.
-use Rattle.std.proofs.Common.{◌≡◌, ℕ, ◌+◌, ◌<◌, ◌≤◌, Bool, true, false, ◌&&◌, List, [], ◌∷◌, ◌++◌, length, map, filter, get_or, take, reverse, Option, Some, None, is_some, option_map, refl, sym, ◌∙◌, ap, ap₂, subst, true≢false, append_assoc}
+use Rattle.std.proofs.Common.{◌≡◌, ℕ, ◌+◌, ◌<◌, Bool, true, false, ◌&&◌, List, [], ◌∷◌, ◌++◌, length, map, filter, get_or, take, reverse, Option, Some, None, is_some, option_map, refl, sym, ◌∙◌, ap, ap₂, subst, true≢false, append_assoc}
 use Rattle.std.specs.Prelude.{if◌then◌else◌}
 use Rattle.std.specs.List.{list_all, All}
 use Rattle.std.specs.Option.{option_to_list}

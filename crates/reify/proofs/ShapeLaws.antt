@@ -1,5 +1,5 @@
 -- Shapes and the terms that they spell, and their text.
-use Rattle.std.proofs.Common.{◌≡◌, ℕ, suc, ◌+◌, true, List, [], ◌∷◌, ◌++◌, length, refl, sym, ◌∙◌, ap, append_assoc, append-nil, arith, true≢false, ◌≤◌, ◌<◌, get_or, drop, drop-cons, zero}
+use Rattle.std.proofs.Common.{◌≡◌, ℕ, suc, ◌+◌, true, List, [], ◌∷◌, ◌++◌, length, refl, sym, ◌∙◌, ap, append_assoc, append-nil, arith, true≢false, ◌<◌, get_or, drop, drop-cons, zero}
 use Rattle.std.specs.Prelude.{codes}
 use Rattle.std.specs.List.{flat_map}
 use Rattle.kan_terms.specs.Tree.{Tree, Tm, join_two, first_tree}

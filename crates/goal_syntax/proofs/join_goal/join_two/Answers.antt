@@ -15,9 +15,13 @@ make-requires-clause-there c =
 pub make-requires-clause-below : goal.make-requires-clause-below
 make-requires-clause-below c = (top_two (length (tables c.args.draft.now).goals) _ _ _ _ _ c.in-Some.ensures.items c.in-Some-pop.ensures.items c.requires.below).0
 
-pub returns-clause-made : goal.returns-clause-made
-returns-clause-made c =
-    two_joined (tables c.args.draft.now) c.args.row c.args.places.now.items _ _ _ _ (goal_entry c.join.result) _ c.in-Some.ensures.items c.in-Some-pop.ensures.items c.join.ensures c.in_ok-make.ensures.made
-
-pub returns-clause-named : goal.returns-clause-named
-returns-clause-named c = λ names. omega (arith, join_named names c.args.row _ _ (goal_entry c.join.result) c.join.ensures, c.in_ok-make.ensures.named names)
+pub returns : goal.returns
+returns c = record {
+  made = two_joined (tables c.args.draft.now) c.args.row c.args.places.now.items _ _ _ _ (goal_entry c.join.result) _ c.in-Some.ensures.items c.in-Some-pop.ensures.items c.join.ensures c.in_ok-make.ensures.made;
+  below = c.in_ok-make.ensures.below;
+  grows = c.in_ok-make.ensures.grows;
+  room = c.in_ok-make.ensures.room;
+  terms = c.in_ok-make.ensures.terms;
+  narrow = c.in_ok-make.ensures.narrow;
+  named = λ names. omega (arith, join_named names c.args.row _ _ (goal_entry c.join.result) c.join.ensures, c.in_ok-make.ensures.named names);
+}

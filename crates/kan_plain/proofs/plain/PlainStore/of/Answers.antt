@@ -1,6 +1,6 @@
 use Rattle.std.proofs.Common.{◌≡◌, ◌∙◌, ap, ap₂, sym, map, true, Some}
 use Rattle.std.specs.Option.{option_map}
-use Rattle.kan_model.specs.Stores.Kept.{is_kept, holds_under}
+use Rattle.kan_model.specs.Stores.Kept.{holds_under}
 use Rattle.kan_model.specs.Stores.Store.{equations}
 use Rattle.kan_model.specs.Stores.Prims.{prim as primitive}
 use Rattle.kan_model.specs.Stores.Solve.{solve}

@@ -1,4 +1,4 @@
-use Rattle.std.proofs.Common.{subst, ◌∙◌, ◌<◌, ◌+◌, ◌≤◌, arith}
+use Rattle.std.proofs.Common.{subst, ◌∙◌, ◌+◌, ◌≤◌, arith}
 use Rattle.pull_budget.proofs.KeptSteps.{puller_ended}
 use Rattle.pull_budget.proofs.budget.Budget.end.Goals as goal
 
