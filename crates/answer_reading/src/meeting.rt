@@ -60,13 +60,8 @@ fn are_differences_met(
 }
 
 // Whether names have a type.
-<<<<<<< HEAD
 fn have_type(values: &[&[Mark]], kind: Kind, names: &[u64]) -> bool
-    ensures { result ≡ list_all (type_met (seen values.now) kind) names.now }
-=======
-fn have_type(values: &[&[Mark]], kind: Kind, names: &[u32]) -> bool
     ensures { result ≡ list_all (type_met (lent_lists values.now) kind) names.now }
->>>>>>> adeb373dac87cfa2e4718da8d5231c9799d9160f
 {
     for name in names {
         if !begins(kind, value(values, *name)) {
@@ -77,13 +72,8 @@ fn have_type(values: &[&[Mark]], kind: Kind, names: &[u32]) -> bool
 }
 
 // Whether a tag stands in none of some names.
-<<<<<<< HEAD
 fn is_tag_absent(values: &[&[Mark]], tag: u32, names: &[u64]) -> bool
-    ensures { result ≡ list_all (tag_met (seen values.now) tag) names.now }
-=======
-fn is_tag_absent(values: &[&[Mark]], tag: u32, names: &[u32]) -> bool
     ensures { result ≡ list_all (tag_met (lent_lists values.now) tag) names.now }
->>>>>>> adeb373dac87cfa2e4718da8d5231c9799d9160f
 {
     for name in names {
         if has_tag(tag, value(values, *name)) {
