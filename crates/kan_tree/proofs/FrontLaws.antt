@@ -4,8 +4,8 @@ use Rattle.std.specs.Prelude.{if◌then◌else◌}
 use Rattle.std.specs.Arc.{arc_value}
 use Rattle.std.specs.declared.sync.Arc.{Arc}
 use Rattle.std.specs.declared.alloc.Global.{Global}
-use Rattle.kan_tree.specs.Seen.{seen}
-use Rattle.kan_tree.specs.Found.{in_link, standing, within}
+use Rattle.kan_tree.specs.Whole.{value_below}
+use Rattle.kan_tree.specs.Found.{in_link, value_in_front, within}
 use Rattle.kan_tree.specs.declared.nodes.Node.{Node}
 use Rattle.kan_tree.specs.declared.front.Link.{Link}
 use Rattle.kan_tree.specs.declared.front.Front.{Front}
@@ -14,16 +14,16 @@ use Rattle.kan_tree.specs.declared.front.Front.TheVariants as front
 
 module _ {T M : Type 0} (m : T → M) where
   pub within_empty : (many level k : ℕ) → within m many level front.Empty k ≡ None
-  within_empty zero level k = ap (λ f. standing m level (λ _. None) f k) outs-Empty
-  within_empty (suc many) level k = ap (λ f. standing m level (in_link m (λ older. within m many level older k) k) f k) outs-Empty
+  within_empty zero level k = ap (λ f. value_in_front m level (λ _. None) f k) outs-Empty
+  within_empty (suc many) level k = ap (λ f. value_in_front m level (in_link m (λ older. within m many level older k) k) f k) outs-Empty
 
-  pub within_nodes : (many level k : ℕ) (root : Arc (Node T) Global) → within m many level (front.Nodes root) k ≡ seen m level (arc_value root) k
-  within_nodes zero level k root = ap (λ f. standing m level (λ _. None) f k) (outs-Nodes root)
-  within_nodes (suc many) level k root = ap (λ f. standing m level (in_link m (λ older. within m many level older k) k) f k) (outs-Nodes root)
+  pub within_nodes : (many level k : ℕ) (root : Arc (Node T) Global) → within m many level (front.Nodes root) k ≡ value_below m level (arc_value root) k
+  within_nodes zero level k root = ap (λ f. value_in_front m level (λ _. None) f k) (outs-Nodes root)
+  within_nodes (suc many) level k root = ap (λ f. value_in_front m level (in_link m (λ older. within m many level older k) k) f k) (outs-Nodes root)
 
   -- no link counts
   pub within_none : (many level k : ℕ) (link : Arc (Link T (Front T)) Global) → many ≡ 0 → within m many level (front.Link link) k ≡ None
-  within_none zero level k link h = ap (λ f. standing m level (λ _. None) f k) (outs-Link link)
+  within_none zero level k link h = ap (λ f. value_in_front m level (λ _. None) f k) (outs-Link link)
   within_none (suc many) level k link h = absurd (omega (arith, h))
 
   -- the first link counts
@@ -31,11 +31,11 @@ module _ {T M : Type 0} (m : T → M) where
   within_link zero level k link h = absurd (h refl)
   within_link (suc many) level k link h =
       let same : many ≡ suc many - 1 = omega arith in
-      rw (← same) (ap (λ f. standing m level (in_link m (λ older. within m many level older k) k) f k) (outs-Link link))
+      rw (← same) (ap (λ f. value_in_front m level (in_link m (λ older. within m many level older k) k) f k) (outs-Link link))
 
   -- the same behind another pointer
   pub nodes_same : (root copy : Arc (Node T) Global) → arc_value copy ≡ arc_value root → (many level k : ℕ) → within m many level (front.Nodes copy) k ≡ within m many level (front.Nodes root) k
-  nodes_same root copy h many level k = within_nodes many level k copy ∙ ap (λ n. seen m level n k) h ∙ sym (within_nodes many level k root)
+  nodes_same root copy h many level k = within_nodes many level k copy ∙ ap (λ n. value_below m level n k) h ∙ sym (within_nodes many level k root)
 
   pub link_same : (link copy : Arc (Link T (Front T)) Global) → arc_value copy ≡ arc_value link → (many level k : ℕ) → within m many level (front.Link copy) k ≡ within m many level (front.Link link) k
   link_same link copy h zero level k = within_none zero level k copy refl ∙ sym (within_none zero level k link refl)
@@ -69,12 +69,12 @@ module _ {T M : Type 0} (m : T → M) where
   pub none_at : (many level : ℕ) (f : Front T) (link : Arc (Link T (Front T)) Global) → f ≡ front.Link link → many ≡ 0 → (k : ℕ) → within m many level f k ≡ None
   none_at many level f link is none k = ap (λ f. within m many level f k) is ∙ within_none many level k link none
 
-  pub nodes_at : (many level : ℕ) (f : Front T) (root : Arc (Node T) Global) → f ≡ front.Nodes root → (k : ℕ) → within m many level f k ≡ seen m level (arc_value root) k
+  pub nodes_at : (many level : ℕ) (f : Front T) (root : Arc (Node T) Global) → f ≡ front.Nodes root → (k : ℕ) → within m many level f k ≡ value_below m level (arc_value root) k
   nodes_at many level f root is k = ap (λ f. within m many level f k) is ∙ within_nodes many level k root
 
   -- nodes without links in front of them
   pub nodes_settled : (many level : ℕ) (f : Front T) (root copy : Arc (Node T) Global) → f ≡ front.Nodes root → arc_value copy ≡ arc_value root → (k : ℕ) → within m 0 level (front.Nodes copy) k ≡ within m many level f k
-  nodes_settled many level f root copy is h k = within_nodes 0 level k copy ∙ ap (λ n. seen m level n k) h ∙ sym (nodes_at many level f root is k)
+  nodes_settled many level f root copy is h k = within_nodes 0 level k copy ∙ ap (λ n. value_below m level n k) h ∙ sym (nodes_at many level f root is k)
 
   -- the newest link is put behind the others
   pub put_settled : (many level : ℕ) (f : Front T) (link : Arc (Link T (Front T)) Global) (first second third : Link T (Front T)) (value : T) (made new : ℕ → Option M) → f ≡ front.Link link →

@@ -1,7 +1,7 @@
 -- What a tree has under a key: what was put last, and else what its nodes have.
 use Rattle.std.specs.Prelude.{ℕ, zero, suc, ◌%◌, Option, None, Some, eqb, if◌then◌else◌}
 use Rattle.std.specs.Arc.{arc_value}
-use Rattle.kan_tree.specs.Seen.{seen}
+use Rattle.kan_tree.specs.Whole.{value_below}
 use Rattle.kan_tree.specs.declared.front.Link.{Link}
 use Rattle.kan_tree.specs.declared.front.Front.{Front, out-Front}
 use Rattle.kan_tree.specs.declared.front.Front.TheOpen.{Front-F}
@@ -13,17 +13,19 @@ in_link meaning older key link =
     if eqb key link.key then Some (meaning link.value) else older link.older
 
 -- what stands under a key below a root, or in a link in front of it
-abbrev pub standing : {T X M : Type 0} → (T → M) → ℕ → (Link T X → Option M) → Front-F T X → ℕ →
+abbrev pub value_in_front : {T X M : Type 0} → (T → M) → ℕ → (Link T X → Option M) → Front-F T X →
+    ℕ →
     Option M
-standing meaning level linked Front-F.Empty key = None
-standing meaning level linked (Front-F.Nodes root) key = seen meaning level (arc_value root) key
-standing meaning level linked (Front-F.Link link) key = linked (arc_value link)
+value_in_front meaning level linked Front-F.Empty key = None
+value_in_front meaning level linked (Front-F.Nodes root) key =
+    value_below meaning level (arc_value root) key
+value_in_front meaning level linked (Front-F.Link link) key = linked (arc_value link)
 
 -- what stands under a key in so many links, the newest first, and else in the nodes behind them
 abbrev pub within : {T M : Type 0} → (T → M) → ℕ → ℕ → Front T → ℕ → Option M
 within {T} meaning zero level front key =
-    standing meaning level (λ _. None) (out-Front T front) key
-within {T} meaning (suc many) level front key = standing meaning level
+    value_in_front meaning level (λ _. None) (out-Front T front) key
+within {T} meaning (suc many) level front key = value_in_front meaning level
     (in_link meaning (λ older. within meaning many level older key) key) (out-Front T front) key
 
 -- the finite map that a tree is

@@ -1,5 +1,6 @@
+pub mod Orders
 pub mod Slots
 pub mod Lending
 pub mod Nodes
-pub mod Seen
+pub mod Whole
 pub mod Found

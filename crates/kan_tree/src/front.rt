@@ -3,7 +3,7 @@
 ghost use Rattle.std.specs.Prelude.{◌≡◌, ◌<◌, ℕ, IfOk};
 ghost use Rattle.std.specs.Option.{option_map};
 ghost use Rattle.std.specs.Arc.{arc_value};
-ghost use Rattle.kan_tree.specs.Seen.{seen};
+ghost use Rattle.kan_tree.specs.Whole.{value_below};
 ghost use Rattle.kan_tree.specs.Found.{within};
 
 use crate::again::Again;
@@ -38,7 +38,8 @@ pub enum Front<T: Drop> {
 // The value at a key below a root.
 fn find_below<T: Again>(root: &Node<T>, level: u32, key: u64) -> Option<&T>
     requires { level < 16 }
-    ensures { option_map (λ value. T.meaning value.now) result ≡ seen T.meaning level root.now key }
+    ensures { option_map (λ value. T.meaning value.now) result
+        ≡ value_below T.meaning level root.now key }
 {
     if !fits(key, level) {
         return None;

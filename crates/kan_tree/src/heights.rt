@@ -2,7 +2,7 @@
 
 ghost use Rattle.std.specs.Prelude.{◌≡◌, ◌<◌, ℕ, suc, ltb, IfOk};
 ghost use Rattle.std.specs.Arc.{arc_value};
-ghost use Rattle.kan_tree.specs.Seen.{seen, bound};
+ghost use Rattle.kan_tree.specs.Whole.{value_below, key_limit};
 
 use crate::again::Again;
 use crate::nodes::Node;
@@ -14,7 +14,7 @@ use std::sync::Arc;
 /// A key has no digit above a level.
 pub fn fits(key: u64, level: u32) -> bool
     requires { level < 16 }
-    ensures { result ≡ ltb key (bound level) }
+    ensures { result ≡ ltb key (key_limit level) }
 {
     level >= 15 || key >> ((level + 1) * 4) == 0
 }
@@ -22,7 +22,7 @@ pub fn fits(key: u64, level: u32) -> bool
 // A node one level higher.
 fn above<T: Again>(alloc: Global, root: Arc<Node<T>>) -> Result<Arc<Node<T>>, Memory>
     ensures { IfOk result (λ up. (level : ℕ) (k : ℕ) →
-        seen T.meaning (suc level) (arc_value up) k ≡ seen T.meaning level (arc_value root) k) }
+        value_below T.meaning (suc level) (arc_value up) k ≡ value_below T.meaning level (arc_value root) k) }
 {
     let mut slots = Slots::empty(alloc);
     slots.put(0, root)?;
@@ -47,9 +47,9 @@ pub fn raise<T: Again>(
 ) -> Result<Raised<T>, Memory>
     requires { level < 16 }
     ensures low { IfOk result (λ r. r.level < 16) }
-    ensures fits { IfOk result (λ r. key < bound r.level) }
-    ensures same { IfOk result (λ r. (k : ℕ) → seen T.meaning r.level (arc_value r.root) k ≡
-        seen T.meaning level (arc_value root) k) }
+    ensures fits { IfOk result (λ r. key < key_limit r.level) }
+    ensures same { IfOk result (λ r. (k : ℕ) → value_below T.meaning r.level (arc_value r.root) k ≡
+        value_below T.meaning level (arc_value root) k) }
 {
     if level >= 15 || fits(key, level) {
         return Ok(Raised { root, level });
@@ -61,7 +61,7 @@ pub fn raise<T: Again>(
 pub fn level_of(key: u64, level: u32) -> u32
     requires { level < 16 }
     ensures low { result < 16 }
-    ensures fits { key < bound result }
+    ensures fits { key < key_limit result }
 {
     if level >= 15 || fits(key, level) {
         return level;

@@ -6,6 +6,7 @@ mod again;
 mod front;
 mod heights;
 mod nodes;
+mod order;
 mod slots;
 mod var_tree;
 

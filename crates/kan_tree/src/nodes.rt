@@ -36,20 +36,25 @@ pub fn find<T: Again>(node: &Node<T>, level: u32, key: u64) -> Option<&T>
     requires { level < 16 }
     ensures { option_map (λ value. T.meaning value.now) result ≡ look T.meaning level key node.now }
 {
-    match node {
-        Node::Leaf(slots) => {
-            if level != 0 {
-                return None;
+    let mut reached = node;
+    let mut left = level;
+    loop {
+        match reached {
+            Node::Leaf(slots) => {
+                if left != 0 {
+                    return None;
+                }
+                return slots.get(digit(key, 0));
             }
-            slots.get(digit(key, 0))
-        }
-        Node::Inner(slots) => {
-            if level == 0 {
-                return None;
-            }
-            match slots.get(digit(key, level)) {
-                Some(below) => find(&**below, level - 1, key),
-                None => None,
+            Node::Inner(slots) => {
+                if left == 0 {
+                    return None;
+                }
+                match slots.get(digit(key, left)) {
+                    Some(below) => reached = &**below,
+                    None => return None,
+                }
+                left -= 1;
             }
         }
     }

@@ -1,24 +1,22 @@
 //! The sixteen places of a node, of which those that are filled have an entry.
 
 ghost use Rattle.std.specs.Prelude.{◌≡◌, ◌<◌, ◌≤◌, ℕ, Some, None, eqb, if◌then◌else◌, OnOk, OnErr};
-ghost use Rattle.std.specs.Prelude.{IfOk, IfSome, map, slice_get};
+ghost use Rattle.std.specs.Prelude.{IfOk, map, length, slice_get};
 ghost use Rattle.std.specs.Option.{option_map};
 ghost use Rattle.std.specs.Borrow.{sem};
 ghost use Rattle.kan_tree.specs.Slots.{at, index_in};
 ghost use Rattle.kan_tree.specs.Lending.{lends_entry};
 
 use crate::again::Again;
+use crate::order::Order;
 use kan_terms::Memory;
 use std::alloc::Global;
 
-/// Sixteen places. One is filled where the entry at its index has it for its owner, so nothing
-/// needs to hold of the others.
+/// Sixteen places. One is filled where there is an entry at its index.
 #[derive(Drop)]
 pub struct Slots<E> {
-    // The index of each place's entry, if it has one.
-    indices: [u8; 16],
-    // The place of each entry.
-    owners: [u8; 16],
+    // The places that are filled come first.
+    order: Order,
     entries: Vec<E>,
 }
 
@@ -28,23 +26,18 @@ impl<E> Slots<E> {
         ensures { (d : ℕ) → at result d ≡ None }
     {
         Slots {
-            indices: [0; 16],
-            owners: [0; 16],
+            order: Order::rising(),
             entries: Vec::new(alloc),
         }
     }
 
-    /// The index of a place's entry, or how many entries there are.
+    /// The index of a place, at which its entry is, if it has one.
     pub fn index_of(&self, place: usize) -> usize
         requires { place < 16 }
-        ensures { result ≡ index_in self.now place }
+        ensures index { result ≡ index_in self.now place }
+        ensures small { result < 16 }
     {
-        let index = self.indices[place] as usize;
-        if index < 16 && self.owners[index] as usize == place {
-            index
-        } else {
-            self.entries.len()
-        }
+        self.order.index_of(place)
     }
 
     /// The entry of a place.
@@ -75,22 +68,18 @@ impl<E: Drop> Slots<E> {
         ensures err { OnErr result ((d : ℕ) → at self.new d ≡ at self.old d) }
     {
         let index = self.index_of(place);
-        if index < self.entries.len() {
+        let last = self.entries.len();
+        if index < last {
             self.entries[index] = entry;
             return Ok(());
         }
-        let last = self.entries.len();
-        if last >= 16 {
-            return Err(Memory);
-        }
         self.entries.push(entry)?;
-        self.indices[place] = last as u8;
-        self.owners[last] = place as u8;
+        self.order.bring(place, last);
         Ok(())
     }
 }
 
-// Entries once more, with room for more of them.
+// Entries once more, with room for some more of them.
 fn copied<E: Again>(alloc: Global, from: &[E], room: usize) -> Result<Vec<E>, Memory>
     ensures { IfOk result (λ made. map E.meaning made.items ≡ map E.meaning from.now) }
 {
@@ -102,15 +91,14 @@ fn copied<E: Again>(alloc: Global, from: &[E], room: usize) -> Result<Vec<E>, Me
 }
 
 impl<E: Again> Slots<E> {
-    /// The places once more, with room for one more entry.
+    /// The places once more, with room for some more entries.
     pub fn again(&self, alloc: Global) -> Result<Slots<E>, Memory>
         ensures { IfOk result (λ made. (d : ℕ) → option_map E.meaning (at made d) ≡
             option_map E.meaning (at self.now d)) }
     {
         Ok(Slots {
-            indices: self.indices,
-            owners: self.owners,
-            entries: copied(alloc, &self.entries, self.entries.len().saturating_add(1))?,
+            order: self.order,
+            entries: copied(alloc, &self.entries, self.entries.len().saturating_add(4))?,
         })
     }
 }

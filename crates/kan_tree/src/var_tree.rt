@@ -3,7 +3,7 @@
 ghost use Rattle.std.specs.Prelude.{◌≡◌, ◌<◌, ◌%◌, ℕ, Some, None, eqb, if◌then◌else◌};
 ghost use Rattle.std.specs.Prelude.{OnOk, OnErr, IfOk};
 ghost use Rattle.std.specs.Option.{option_map};
-ghost use Rattle.kan_tree.specs.Seen.{bound};
+ghost use Rattle.kan_tree.specs.Whole.{key_limit};
 ghost use Rattle.kan_tree.specs.Found.{found, within};
 
 use crate::again::Again;
@@ -110,7 +110,7 @@ impl<T: Again> VarTree<T> {
     // A higher root, so that a key fits.
     fn grow(&mut self, key: u64) -> Result<(), Memory>
         requires { self.old.waiting ≡ 0 }
-        ensures fits { OnOk result (key < bound (self.new.height % 16)) }
+        ensures fits { OnOk result (key < key_limit (self.new.height % 16)) }
         ensures same { (k : ℕ) → found T.meaning self.new k ≡ found T.meaning self.old k }
         ensures settled { self.new.waiting ≡ 0 }
     {
@@ -133,7 +133,7 @@ impl<T: Again> VarTree<T> {
     // The first nodes, with a value at a key.
     fn begin(&mut self, key: u64, value: T) -> Result<(), Memory>
         requires settled { self.old.waiting ≡ 0 }
-        requires fits { key < bound (self.old.height % 16) }
+        requires fits { key < key_limit (self.old.height % 16) }
         ensures ok { OnOk result ((k : ℕ) → found T.meaning self.new k ≡
             (if eqb k key then Some (T.meaning value) else None)) }
         ensures err { OnErr result ((k : ℕ) → found T.meaning self.new k ≡
