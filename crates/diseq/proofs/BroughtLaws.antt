@@ -1,6 +1,5 @@
 -- Disequalities that were brought up to bindings.
-use Rattle.std.proofs.Common.{◌≡◌, ◌↔◌, ℕ, zero, suc, Bool, true, false, ◌||◌, List, [], ◌∷◌, ◌++◌, sym, ap, ap₂, refl, ◌∙◌}
-use Rattle.std.specs.List.{list_any}
+use Rattle.std.proofs.Common.{◌≡◌, ◌↔◌, ℕ, true, List, [], ◌∷◌, ◌++◌, sym, ap, refl, ◌∙◌}
 use Rattle.kan_terms.specs.Tree.{Tree, Tm, Gd, fill}
 use Rattle.kan_terms.proofs.TreeLaws.{fill-fill, fill-leaf, fill-same, term_eq-true, eq-term_eq}
 use Rattle.kan_model.specs.Stores.Unifiers.{Unifies}
@@ -10,7 +9,6 @@ use Rattle.unify_core.proofs.Grown.{Grown}
 use Rattle.unify_core.proofs.SolutionLaws.{solution_of, IsSolution-same}
 use Rattle.unify_core.proofs.AddedLaws.{added_solutions}
 use Rattle.diseq.specs.Disequalities.{Disequality, SaysAsMuch, NeverEqual, Brought, has_same_sides, is_identical}
-use Rattle.diseq.specs.Tables.{gathered}
 use Rattle.diseq.specs.Laws.{AllDiffer, GroundMeaning, BringingGoesOn}
 use Rattle.diseq.proofs.ListLaws.{and_parts, and_both}
 
@@ -48,11 +46,6 @@ bringing_goes_on = record {
   joined = brought_joined;
 }
 
--- what is gathered from places that were brought up
-pub brought_gathered : (bound : Pairs) (look look' : ℕ → List Disequality) → ((k : ℕ) → Brought bound (look k) (look' k)) → (n : ℕ) → Brought bound (gathered look n) (gathered look' n)
-brought_gathered bound look look' h zero = Brought.none_left
-brought_gathered bound look look' h (suc n) = brought_joined bound (gathered look n) (gathered look' n) (look n) (look' n) (brought_gathered bound look look' h n) (h n)
-
 -- the full values of variables are a solution, under which a disequality's equations hold where it is identical
 pub full_solves : (bound : Pairs) → Grown bound → IsSolution (ends bound) bound
 full_solves bound g = IsSolution-same (λ v. fill Tree.leaf (ends bound v)) (ends bound) (λ v. fill-leaf (ends bound v)) bound (solution_of bound g Tree.leaf)
@@ -67,26 +60,6 @@ pub unifies_identical : (bound : Pairs) (es : Disequality) → Unifies (ends bou
 unifies_identical bound [] u = refl
 unifies_identical bound (e ∷ es) (same, u) =
     and_both (has_same_sides bound e) (is_identical bound es) (eq-term_eq (full bound e.left) (full bound e.right) same) (unifies_identical bound es u)
-
--- two tests that follow from each other
-same_tests : (a b : Bool) → (a ≡ true → b ≡ true) → (b ≡ true → a ≡ true) → a ≡ b
-same_tests true b f g = sym (f refl)
-same_tests false true f g = g refl
-same_tests false false f g = refl
-
--- none is identical exactly where none of the older ones is
-pub identical_brought : (bound : Pairs) → Grown bound → (old new : List Disequality) → Brought bound old new → list_any (is_identical bound) old ≡ list_any (is_identical bound) new
-identical_brought bound g old new Brought.none_left = refl
-identical_brought bound g old new (Brought.listed {es = es} {fs = fs} {old = os} {new = ns} same h) =
-    ap₂ (λ a b. a || b)
-    (same_tests (is_identical bound es) (is_identical bound fs)
-    (λ i. unifies_identical bound fs ((same (ends bound) (full_solves bound g)).0 (identical_unifies bound es i)))
-    (λ i. unifies_identical bound es ((same (ends bound) (full_solves bound g)).1 (identical_unifies bound fs i))))
-    (identical_brought bound g os ns h)
-identical_brought bound g old new (Brought.left_out {es = es} {old = os} {new = ns} never h) =
-    ap (λ a. a || list_any (is_identical bound) os)
-    (same_tests (is_identical bound es) false (λ i. absurd (never (ends bound) (full_solves bound g) (identical_unifies bound es i))) (λ i. cc))
-    ∙ identical_brought bound g os ns h
 
 -- a ground term as a term without variables
 abbrev pub embed : Gd → Tm

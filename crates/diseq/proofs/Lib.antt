@@ -1,8 +1,7 @@
 pub mod AddLaws
+pub mod AmongLaws
 pub mod BroughtLaws
 mod Examples
+pub mod KeptLaws
 pub mod ListLaws
-pub mod MovedLaws
-pub mod ReadingLaws
-pub mod TableLaws
 pub mod WatchLaws

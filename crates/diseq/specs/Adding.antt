@@ -1,11 +1,13 @@
 -- What disequalities become with one more.
-use Rattle.std.specs.Prelude.{◌≡◌, true, List, [], ◌∷◌, ◌++◌, Option, Some, None}
+use Rattle.std.specs.Prelude.{◌≡◌, List, [], ◌∷◌, ◌++◌, Option, Some, None}
 use Rattle.kan_terms.specs.Tree.{Tm}
 use Rattle.unify_core.specs.Walking.{Pairs}
 use Rattle.unify_core.specs.Unifying.{Unifying}
 use Rattle.unify_core.specs.Laws.{added_equations}
 use Rattle.diseq.specs.Disequalities.{Disequality, Brought}
-use Rattle.diseq.specs.Watching.{are_watchable}
+use Rattle.diseq.specs.Kept.{AreWatched}
+use Rattle.diseq.specs.Seen.{asserted_in, watching_in}
+use Rattle.diseq.specs.declared.diseqs.Diseqs.{Diseqs}
 
 -- where there is no unifier the disequality holds already and is left out, else what unification
 -- adds is put at the end
@@ -13,11 +15,12 @@ abbrev pub WithAdded : List Disequality → List Disequality → Option (List (T
 WithAdded old new None = new ≡ old
 WithAdded old new (Some added) = new ≡ old ++ added_equations added ∷ []
 
--- disequalities with one more: what unification finds for its equations is put at the end; the list
--- stays watchable; and it is the old one with the disequality itself, brought up to the bindings
-pub record Adds (bound : Pairs) (es : Disequality) (old new : List Disequality) : Type 0 where
+-- disequalities with one more: what unification finds for its equations is put at the end; all stay
+-- watched; and they are the old ones with the disequality itself, brought up to the bindings
+pub record Adds (bound : Pairs) (es : Disequality) (old new : Diseqs) : Type 0 where
   pub found : Option (List (Tm × Tm))
   pub unifying : Unifying bound es found
-  pub put : WithAdded old new found
-  pub watchable : are_watchable bound old ≡ true → are_watchable bound new ≡ true
-  pub brought : Brought bound (old ++ es ∷ []) new
+  pub put : WithAdded (asserted_in old) (asserted_in new) found
+  pub watched : AreWatched bound (asserted_in old) (watching_in old) →
+      AreWatched bound (asserted_in new) (watching_in new)
+  pub brought : Brought bound (asserted_in old ++ es ∷ []) (asserted_in new)

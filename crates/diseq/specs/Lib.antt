@@ -1,6 +1,11 @@
 pub mod Adding
+pub mod Among
+pub mod Chains
+pub mod ChainsFall
 pub mod Code
 pub mod Disequalities
+pub mod Kept
 pub mod Laws
-pub mod Tables
+pub mod Looking
+pub mod Seen
 pub mod Watching

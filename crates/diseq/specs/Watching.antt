@@ -2,7 +2,7 @@
 -- were added.
 use Rattle.std.specs.Prelude.{ℕ, Bool, true, false, ◌&&◌, ◌||◌, not, List, [], ◌∷◌, Option, Some}
 use Rattle.std.specs.Prelude.{None}
-use Rattle.std.specs.List.{list_all, list_any}
+use Rattle.std.specs.List.{list_any}
 use Rattle.kan_terms.specs.Tree.{Tree, Tm}
 use Rattle.kan_terms.specs.Bound.{bound_to}
 use Rattle.kan_model.specs.Stores.Kept.{is_variable}
@@ -24,9 +24,6 @@ is_apart bound _ t = false
 abbrev pub is_watchable : Pairs → Disequality → Bool
 is_watchable bound [] = false
 is_watchable bound (e ∷ es) = is_apart bound e.left e.right
-
-abbrev pub are_watchable : Pairs → List Disequality → Bool
-are_watchable bound ds = list_all (is_watchable bound) ds
 
 -- the disequality is watched by the variable: this is its first left side
 abbrev pub is_watched_by : ℕ → Disequality → Bool

@@ -1,7 +1,7 @@
 //! Disequalities, solved and watched.
 
-ghost use Rattle.std.specs.Prelude.{◌≡◌, ◌↔◌, ◌<◌, ◌++◌, ◌∷◌, [], map, length, slice_get};
-ghost use Rattle.std.specs.Prelude.{IfOk, IfSome, IsSome, IsTrue, None, true};
+ghost use Rattle.std.specs.Prelude.{◌≡◌, ◌↔◌, ◌++◌, ◌∷◌, [], ℕ, map, reverse, IfOk, IfSome, IsTrue};
+ghost use Rattle.std.specs.Prelude.{None, true};
 ghost use Rattle.std.specs.Option.{option_map};
 ghost use Rattle.std.specs.List.{list_any};
 ghost use Rattle.kan_model.specs.Stores.Prims.{equation as pair_equation};
@@ -11,14 +11,16 @@ ghost use Rattle.unify_core.specs.Solutions.{AddedTo, equation};
 ghost use Rattle.unify_core.specs.Unifying.{Unifying};
 ghost use Rattle.unify_core.specs.Walking.{Pairs};
 ghost use Rattle.diseq.specs.Adding.{Adds};
-ghost use Rattle.diseq.specs.Disequalities.{Brought, is_identical};
-ghost use Rattle.diseq.specs.Watching.{are_watchable};
+ghost use Rattle.diseq.specs.Disequalities.{is_identical};
+ghost use Rattle.diseq.specs.Kept.{AreWatched};
+ghost use Rattle.diseq.specs.Looking.{IsGiven};
+ghost use Rattle.diseq.specs.Seen.{asserted_in, watching_in};
 
-use crate::solving::adds_nothing;
-use crate::table::Table;
-use kan_terms::{Bindings, Memory, PairLists, Term, TermPair, TermPairs};
+use crate::chains::Chain;
+use crate::watching::{Watched, adds_nothing};
+use kan_terms::{Bindings, Memory, Term, TermPair, TermPairs};
+use kan_tree::Again;
 use std::alloc::Global;
-use std::marker::Model;
 use unify_core::would_add;
 
 // What would make two terms the same under bindings.
@@ -40,92 +42,89 @@ fn difference<B: Bindings>(
     Ok(would_add(alloc, &[pair], bindings)?)
 }
 
-/// Disequalities in the order of assertion, without those that hold by now. Each is kept as the
-/// bindings that would make it false, and is watched by the variable of the first of them.
-#[derive(Drop)]
-pub struct Diseqs {
-    table: Table,
+// Pairs once more.
+fn copied(alloc: Global, pairs: &[TermPair]) -> Result<TermPairs, Memory>
+    ensures { IfOk result (λ copies. map pair_equation copies ≡ map pair_equation pairs.now) }
+{
+    let mut copies = TermPairs::new(alloc);
+    for pair in pairs {
+        let copy = TermPair {
+            first: pair.first.again()?,
+            rest: pair.rest.again()?,
+        };
+        if copies.push(copy).is_err() {
+            return Err(Memory);
+        }
+    }
+    Ok(copies)
 }
 
-impl Model for Diseqs {
-    ghost use Rattle.std.specs.Prelude.{List};
-    ghost use Rattle.diseq.specs.Code.{diseqs_code};
-    ghost use Rattle.diseq.specs.Disequalities.{Disequality};
-    ghost use Rattle.diseq.specs.Tables.{AllWatched, listed_in};
-
-    ghost Value = { List Disequality };
-
-    ghost coded = { diseqs_code };
-
-    ghost view = { λ diseqs. listed_in diseqs.table };
-
-    ghost invariant = { λ diseqs. AllWatched diseqs.table };
+/// Disequalities in the order of assertion, each as the bindings that would have made it false
+/// then. Beside them stand those that would make it false now, which the variable of the first of
+/// them watches.
+#[derive(Drop)]
+pub struct Diseqs {
+    asserted: Chain,
+    watched: Watched,
 }
 
 impl Diseqs {
     /// No disequality.
     pub fn empty(alloc: Global) -> Diseqs
-        ensures { result ≡ [] }
+        ensures asserted { asserted_in result ≡ [] }
+        ensures watching { (x : ℕ) → watching_in result x ≡ [] }
     {
         Diseqs {
-            table: Table::empty(alloc),
+            asserted: Chain::Empty,
+            watched: Watched::empty(alloc),
         }
     }
 
     /// The same disequalities once more, in the same time for all.
     pub fn again(&self) -> Result<Diseqs, Memory>
-        ensures { IfOk result (λ copy. copy ≡ self.now) }
+        ensures asserted { IfOk result (λ copy. asserted_in copy ≡ asserted_in self.now) }
+        ensures watching { IfOk result
+            (λ copy. (x : ℕ) → watching_in copy x ≡ watching_in self.now x) }
     {
         Ok(Diseqs {
-            table: self.table.again()?,
+            asserted: self.asserted.again()?,
+            watched: self.watched.again()?,
         })
-    }
-
-    /// How many disequalities there are. It takes no memory.
-    pub fn count(&self) -> usize
-        ensures { result ≡ length self.now }
-    {
-        self.table.count()
     }
 
     /// Whether no disequality was ever added. It takes no memory.
     pub fn is_untouched(&self) -> bool
-        ensures { IsTrue result → self.now ≡ [] }
+        ensures { IsTrue result → asserted_in self.now ≡ [] }
     {
-        self.table.next == 0
+        self.asserted.is_empty()
     }
 
-    /// The pairs of a disequality, by its place in the order of assertion. It takes no memory.
-    #[tactic(auto, using(crate::proofs::ReadingLaws::found_within))]
-    pub fn pairs(&self, at: usize) -> Option<&TermPairs>
-        ensures pairs { option_map (λ pairs. map pair_equation pairs.now) result ≡
-            slice_get self.now at }
-        ensures found { IsSome result ↔ (at < length self.now) }
+    /// All disequalities as they were when they were asserted, the newest first.
+    pub fn newest_first(&self, alloc: Global) -> Result<Vec<&TermPairs>, Memory>
+        ensures { IfOk result (λ lent. map (λ pairs. map pair_equation pairs.now) lent.items ≡
+            reverse (asserted_in self.now)) }
     {
-        self.table.nth(at)
-    }
-
-    /// All disequalities in the order of assertion.
-    pub fn listed(&self, alloc: Global) -> Result<PairLists, Memory>
-        ensures { IfOk result (λ lists. map (map pair_equation) lists ≡ self.now) }
-    {
-        self.table.listed(alloc)
+        self.asserted.newest_first(alloc)
     }
 
     // One more at the end.
     fn with(self, alloc: Global, pairs: TermPairs) -> Result<Diseqs, Memory>
-        ensures { IfOk result (λ made. made ≡ self ++ map pair_equation pairs ∷ []) }
+        ensures asserted { IfOk result
+            (λ made. asserted_in made ≡ asserted_in self ++ map pair_equation pairs ∷ []) }
+        ensures given { IfOk result (λ made.
+            IsGiven (watching_in self) (map pair_equation pairs) (watching_in made)) }
     {
-        let Diseqs { table } = self;
-        let mut table = table;
-        table.push(alloc, pairs)?;
-        Ok(Diseqs { table })
+        let Diseqs { asserted, watched } = self;
+        let mut watched = watched;
+        watched.watch(alloc, copied(alloc, pairs.items())?)?;
+        let asserted = asserted.with(alloc, pairs)?;
+        Ok(Diseqs { asserted, watched })
     }
 
-    /// What `add` gives, made of these disequalities themselves: in place where nobody else holds
-    /// them.
+    /// The disequalities with one more, that the two sides differ, unless it holds already; None
+    /// where the sides are the same. They change in place where nobody else holds them.
     #[tactic(auto, using(crate::proofs::AddLaws::adds_always, crate::proofs::AddLaws::adds_one))]
-    pub fn add_owned<B: Bindings>(
+    pub fn add<B: Bindings>(
         self,
         alloc: Global,
         left: &Term,
@@ -149,28 +148,9 @@ impl Diseqs {
         }
     }
 
-    /// The disequalities with one more, that the two sides differ, unless it holds already; None
-    /// where the sides are the same.
-    pub fn add<B: Bindings>(
-        &self,
-        alloc: Global,
-        left: &Term,
-        right: &Term,
-        bindings: &B,
-    ) -> Result<Option<Diseqs>, Memory>
-        requires { HasNoCycle (B.pairs bindings.now) }
-        ensures none { IfOk result (λ found. (found ≡ None) ↔ (is_identical (B.pairs bindings.now)
-            (equation (tree left.now) (tree right.now) ∷ []) ≡ true)) }
-        ensures added { IfOk result (λ found. IfSome found (λ made. Adds (B.pairs bindings.now)
-            (equation (tree left.now) (tree right.now) ∷ []) self.now made)) }
-    {
-        self.again()?.add_owned(alloc, left, right, bindings)
-    }
-
-    /// What `recheck` gives, made of these disequalities themselves: in place where nobody else
-    /// holds them.
-    #[tactic(auto, using(crate::proofs::MovedLaws::fine_first))]
-    pub fn recheck_owned<B: Bindings>(
+    /// The disequalities, where pairs were just added to the bindings; None where one is false by
+    /// now. Only what a side of an added pair watches is looked at again.
+    pub fn recheck<B: Bindings>(
         self,
         alloc: Global,
         added: &TermPairs,
@@ -179,41 +159,19 @@ impl Diseqs {
         requires no_cycle { HasNoCycle (B.pairs bindings.now) }
         requires older { (older : Pairs) ×
             AddedTo older (map sides added.now) (B.pairs bindings.now) ×
-            (are_watchable older self ≡ true) }
+            AreWatched older (asserted_in self) (watching_in self) }
         ensures none { IfOk result (λ found. (found ≡ None) ↔
-            (list_any (is_identical (B.pairs bindings.now)) self ≡ true)) }
-        ensures brought { IfOk result (λ found. IfSome found
-            (λ made. Brought (B.pairs bindings.now) self made)) }
-        ensures watchable { IfOk result (λ found. IfSome found
-            (λ made. are_watchable (B.pairs bindings.now) made ≡ true)) }
+            (list_any (is_identical (B.pairs bindings.now)) (asserted_in self) ≡ true)) }
+        ensures asserted { IfOk result (λ found. IfSome found
+            (λ made. asserted_in made ≡ asserted_in self)) }
+        ensures watched { IfOk result (λ found. IfSome found
+            (λ made. AreWatched (B.pairs bindings.now) (asserted_in made) (watching_in made))) }
     {
-        let Diseqs { table } = self;
-        let mut table = table;
-        if !table.settle_all(alloc, added.items(), bindings)? {
+        let Diseqs { asserted, watched } = self;
+        let mut watched = watched;
+        if !watched.settle(alloc, added.items(), bindings)? {
             return Ok(None);
         }
-        Ok(Some(Diseqs { table }))
-    }
-
-    /// The disequalities brought up to bindings, to which pairs were just added; None where one is
-    /// false by now. Only those are looked at again that a side of an added pair watches.
-    pub fn recheck<B: Bindings>(
-        &self,
-        alloc: Global,
-        added: &TermPairs,
-        bindings: &B,
-    ) -> Result<Option<Diseqs>, Memory>
-        requires no_cycle { HasNoCycle (B.pairs bindings.now) }
-        requires older { (older : Pairs) ×
-            AddedTo older (map sides added.now) (B.pairs bindings.now) ×
-            (are_watchable older self.now ≡ true) }
-        ensures none { IfOk result (λ found. (found ≡ None) ↔
-            (list_any (is_identical (B.pairs bindings.now)) self.now ≡ true)) }
-        ensures brought { IfOk result (λ found. IfSome found
-            (λ made. Brought (B.pairs bindings.now) self.now made)) }
-        ensures watchable { IfOk result (λ found. IfSome found
-            (λ made. are_watchable (B.pairs bindings.now) made ≡ true)) }
-    {
-        self.again()?.recheck_owned(alloc, added, bindings)
+        Ok(Some(Diseqs { asserted, watched }))
     }
 }

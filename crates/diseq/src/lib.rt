@@ -2,11 +2,9 @@
 //! and is looked at again only where the variable of the first of them may have changed.
 #![tactic(auto)]
 
+mod chains;
 mod diseqs;
-mod entries;
 pub mod laws;
-mod reading;
-mod solving;
-mod table;
+mod watching;
 
 pub use diseqs::Diseqs;

@@ -8,7 +8,7 @@ use Rattle.unify_core.specs.Walking.{Pairs, ends, full}
 use Rattle.unify_core.specs.Solutions.{IsSolution, AddedTo}
 use Rattle.unify_core.proofs.Grown.{Grown, bound-newest, bound-older, unbound_parts, ends-bound, ends-unbound}
 use Rattle.unify_core.proofs.SolutionLaws.{solution_of, fill-full, IsSolution-same}
-use Rattle.kan_store.proofs.KeptParts.{Among}
+use Rattle.diseq.specs.Among.{Among}
 
 -- a variable that isn't bound at the end wasn't bound before
 pub unbound-before : (bound : Pairs) (added : List (Tm × Tm)) (new : Pairs) → AddedTo bound added new → (v : ℕ) → bound_to v new ≡ None → bound_to v bound ≡ None

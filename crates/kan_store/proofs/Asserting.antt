@@ -24,12 +24,13 @@ use Rattle.unify_core.proofs.WalkLaws.{full-walked, walked-end}
 use Rattle.type_absence.specs.Types.{Types, GivesTypes, same_kind}
 use Rattle.type_absence.specs.Absent.{TagsOf, GivesTag, GivesTags}
 use Rattle.diseq.specs.Disequalities.{Disequality, Brought, is_identical}
-use Rattle.diseq.specs.Watching.{are_watchable}
+use Rattle.diseq.specs.Kept.{AreWatched, Disequalities}
 use Rattle.kan_store.specs.Asked.{asked}
 use Rattle.kan_store.specs.InStep.{InStep, TypesInStep, TagsInStep}
 use Rattle.kan_store.specs.Moving.{TypesMove, TagsMove}
 use Rattle.kan_store.proofs.Along.{goes_along, ends_along}
-use Rattle.kan_store.proofs.KeptParts.{among-left, among-last, among-cases, all-among, all-from, typing, has_type-from, has_type-asked, has_absence-from, has_absence-asked, Allowed, OneType, holds-parts, holds-from}
+use Rattle.diseq.proofs.AmongLaws.{among-left, among-last, among-cases}
+use Rattle.kan_store.proofs.KeptParts.{all-among, all-from, typing, has_type-from, has_type-asked, has_absence-from, has_absence-asked, Allowed, OneType, holds-parts, holds-from}
 use Rattle.kan_store.proofs.TypesStep.{TypesAllowed, types_allowed, types_step, types_stop, move_keeps, move_puts, move_may, move_cases, move_stuck, Stuck, same_kind-same, may_be-full, full-variable}
 use Rattle.kan_store.proofs.TagsStep as of_tags
 use Rattle.kan_store.proofs.TagsStep.{TagsAllowed, tags_step, tags_stop}
@@ -49,7 +50,7 @@ pub not_kept : (st : Store) (s : Replacement) → solve_store st ≡ Some s → 
 not_kept st s h never = false_from_ne_true (is_kept st) (λ kept. (let (allowed, one) = kept_parts st s h kept in never allowed one))
 
 -- a store whose parts are in step
-module _ (bound : Pairs) (types : Types) (tags : TagsOf) (lists : List Disequality) (st : Store) (step : InStep bound types tags lists st) where
+module _ (bound : Pairs) (types : Types) (tags : TagsOf) (lists : Disequalities) (st : Store) (step : InStep bound types tags lists st) where
   abbrev pub s : Replacement
   s = step.answer
 
@@ -170,7 +171,7 @@ typing_facts Text t = (refl, refl, λ s. refl, same, λ tag a e. cc)
     same Number a e = cc
     same Text a e = (refl, cc)
 
-module _ (bound : Pairs) (types : Types) (tags : TagsOf) (lists : List Disequality) (st : Store) (step : InStep bound types tags lists st) where
+module _ (bound : Pairs) (types : Types) (tags : TagsOf) (lists : Disequalities) (st : Store) (step : InStep bound types tags lists st) where
   -- where the full value of a term is a variable, the term walks to it
   walks_there : (t : Tm) (v : ℕ) → apply step.answer t ≡ Tree.leaf v → walked bound t ≡ Tree.leaf v
   walks_there t v is = by (full-variable bound (walked bound t) v (full-walked bound (g bound types tags lists st step) t ∙ step.fulls t ∙ is))
@@ -206,8 +207,8 @@ module _ (bound : Pairs) (types : Types) (tags : TagsOf) (lists : List Disequali
       fulls = step.fulls;
       typed = λ v free l. (come v free l, asked_at v free l);
       tagged = tags_more bound tags step.answer st.prims p facts.4 step.tagged;
-      differ = same_asked bound st.prims p lists facts.1 step.differ;
-      watchable = step.watchable;
+      differ = same_asked bound st.prims p lists.asserted facts.1 step.differ;
+      watched = step.watched;
       allowed = allowed_more step.answer st.prims p (allowed bound types tags lists st step) (facts.2 step.answer ∙ may_be_there k t ∙ move_may types (Some k) (walked bound t) new gives k refl);
     }
       where
@@ -275,7 +276,7 @@ false_allowed : (c : Bool) → c ≡ false → not c ≡ true
 false_allowed true h = sym h
 false_allowed false h = refl
 
-module _ (bound : Pairs) (types : Types) (tags : TagsOf) (lists : List Disequality) (st : Store) (step : InStep bound types tags lists st) where
+module _ (bound : Pairs) (types : Types) (tags : TagsOf) (lists : Disequalities) (st : Store) (step : InStep bound types tags lists st) where
   grows : Grown bound
   grows = g bound types tags lists st step
 
@@ -295,8 +296,8 @@ module _ (bound : Pairs) (types : Types) (tags : TagsOf) (lists : List Disequali
       fulls = step.fulls;
       typed = types_more bound types step.answer st.prims asked_out (no_typing_absent tag t) step.typed;
       tagged = λ v free other. (come v free other, asked_at v free other);
-      differ = same_asked bound st.prims asked_out lists refl step.differ;
-      watchable = step.watchable;
+      differ = same_asked bound st.prims asked_out lists.asserted refl step.differ;
+      watched = step.watched;
       allowed = allowed_more step.answer st.prims asked_out (allowed bound types tags lists st step) (false_allowed (has_symbol tag (apply step.answer t)) (ap (has_symbol tag) (sym (step.fulls t)) ∙ gives.0));
     }
       where
@@ -334,18 +335,18 @@ module _ (bound : Pairs) (types : Types) (tags : TagsOf) (lists : List Disequali
     abbrev e : Equation
     e = record { left = a; right = b }
 
-    pub differ_added : (new : List Disequality) → term_eq (full bound a) (full bound b) ≡ false → Brought bound (lists ++ (e ∷ []) ∷ []) new → are_watchable bound new ≡ true → InStep bound types tags new (with_prim st q)
-    differ_added new apart brought watchable = record {
+    pub differ_added : (new : Disequalities) → term_eq (full bound a) (full bound b) ≡ false → Brought bound (lists.asserted ++ (e ∷ []) ∷ []) new.asserted → AreWatched bound new.asserted new.watching → InStep bound types tags new (with_prim st q)
+    differ_added new apart brought watched = record {
       answer = step.answer;
       no_cycle = step.no_cycle;
       solved = same_answer st q step.answer refl step.solved;
       fulls = step.fulls;
       typed = types_more bound types step.answer st.prims q (no_typing_differ a b) step.typed;
       tagged = tags_more bound tags step.answer st.prims q (λ tag c x. cc) step.tagged;
-      differ = subst (λ old. Brought bound old new) (sym (asked-append st.prims (q ∷ [])))
-          (laws.goes_on bound [] bound (asked st.prims ++ (e ∷ []) ∷ []) (lists ++ (e ∷ []) ∷ []) new refl
-          (laws.joined bound (asked st.prims) lists ((e ∷ []) ∷ []) ((e ∷ []) ∷ []) step.differ (laws.stays bound ((e ∷ []) ∷ []))) brought);
-      watchable = watchable;
+      differ = subst (λ old. Brought bound old new.asserted) (sym (asked-append st.prims (q ∷ [])))
+          (laws.goes_on bound [] bound (asked st.prims ++ (e ∷ []) ∷ []) (lists.asserted ++ (e ∷ []) ∷ []) new.asserted refl
+          (laws.joined bound (asked st.prims) lists.asserted ((e ∷ []) ∷ []) ((e ∷ []) ∷ []) step.differ (laws.stays bound ((e ∷ []) ∷ []))) brought);
+      watched = watched;
       allowed = allowed_more step.answer st.prims q (allowed bound types tags lists st step)
           (false_allowed (term_eq (apply step.answer a) (apply step.answer b)) (ap₂ term_eq (sym (step.fulls a)) (sym (step.fulls b)) ∙ apart));
     }
@@ -396,29 +397,29 @@ module _ (bound : Pairs) (types : Types) (tags : TagsOf) (lists : List Disequali
           not_true false h = refl
 
       -- all that was asked, under the longer bindings
-      brought_on : Brought new (asked st.prims) lists
-      brought_on = laws.goes_on bound added new (asked st.prims) lists lists put step.differ (laws.stays new lists)
+      brought_on : Brought new (asked st.prims) lists.asserted
+      brought_on = laws.goes_on bound added new (asked st.prims) lists.asserted lists.asserted put step.differ (laws.stays new lists.asserted)
 
-      pub same_differs_fail : list_any (is_identical new) lists ≡ true → is_kept (with_prim st r) ≡ false
+      pub same_differs_fail : list_any (is_identical new) lists.asserted ≡ true → is_kept (with_prim st r) ≡ false
       same_differs_fail identical = not_kept (with_prim st r) on.0 solved_on (λ allowed one.
-          differs_fail new grown_new on.0 on.2 st.prims lists brought_on identical
+          differs_fail new grown_new on.0 on.2 st.prims lists.asserted brought_on identical
           (λ c e among. not_true (term_eq (apply on.0 c) (apply on.0 e)) (allowed (Primitive.differ c e) (among-left (Primitive.differ c e) st.prims (r ∷ []) among))))
         where
           not_true : (c : Bool) → not c ≡ true → c ≡ false
           not_true true h = absurd (true≢false (sym h))
           not_true false h = refl
 
-      pub same_added : (types' : Types) (tags' : TagsOf) (lists' : List Disequality) → TypesMove new types added (Some types') → TagsMove new tags added (Some tags') →
-          list_any (is_identical new) lists ≡ false → Brought new lists lists' → are_watchable new lists' ≡ true → InStep new types' tags' lists' (with_prim st r)
-      same_added types' tags' lists' types_move tags_move apart brought watchable = record {
+      pub same_added : (types' : Types) (tags' : TagsOf) (lists' : Disequalities) → TypesMove new types added (Some types') → TagsMove new tags added (Some tags') →
+          list_any (is_identical new) lists.asserted ≡ false → lists'.asserted ≡ lists.asserted → AreWatched new lists'.asserted lists'.watching → InStep new types' tags' lists' (with_prim st r)
+      same_added types' tags' lists' types_move tags_move apart stay watched = record {
         answer = on.0;
         no_cycle = none;
         solved = solved_on;
         fulls = on.2;
         typed = types_more new types' on.0 st.prims r (no_typing_same a b) typed_on.0;
         tagged = tags_more new tags' on.0 st.prims r (λ tag c x. cc) tagged_on.0;
-        differ = same_asked new st.prims r lists' refl (laws.goes_on bound added new (asked st.prims) lists lists' put step.differ brought);
-        watchable = watchable;
+        differ = same_asked new st.prims r lists'.asserted refl (subst (λ ds. Brought new (asked st.prims) ds) (sym stay) brought_on);
+        watched = watched;
         allowed = allowed_more on.0 st.prims r each refl;
       }
         where
@@ -429,7 +430,7 @@ module _ (bound : Pairs) (types : Types) (tags : TagsOf) (lists : List Disequali
           tagged_on = tags_step bound new added grows grown_new put step.answer on.0 step.fulls on.2 st.prims tags tags' step.tagged (tags_allowed bound types tags lists st step) tags_move
 
           differ_on : DiffersAllowed on.0 st.prims
-          differ_on = differs_allowed new grown_new on.0 on.2 st.prims lists brought_on apart
+          differ_on = differs_allowed new grown_new on.0 on.2 st.prims lists.asserted brought_on apart
 
           each : Allowed on.0 st.prims
           each (Primitive.same c e) among = refl

@@ -11,7 +11,7 @@ use Rattle.unify_core.specs.Walking.{Pairs, ends, full}
 use Rattle.unify_core.proofs.Grown.{Grown}
 use Rattle.diseq.specs.Disequalities.{Disequality, is_identical, has_same_sides, Brought}
 use Rattle.kan_store.specs.Asked.{asked}
-use Rattle.kan_store.proofs.KeptParts.{Among}
+use Rattle.diseq.specs.Among.{Among}
 use Rattle.kan_store.proofs.AddedLaws.{ends-solve}
 
 -- a disequality is identical exactly where full values make its sides the same

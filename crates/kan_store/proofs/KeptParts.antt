@@ -3,6 +3,8 @@ use Rattle.std.proofs.Common.{◌≡◌, ℕ, Bool, true, false, not, eqb, List,
 use Rattle.std.specs.List.{list_all, list_any}
 use Rattle.std.proofs.lemmas.Bool.{eq-eqb, eqb-true, and_parts, and_from, or_cases, or_left, or_right, true≢false}
 use Rattle.kan_terms.specs.Tree.{Tree, Tm, occurs}
+use Rattle.diseq.specs.Among.{Among}
+use Rattle.diseq.proofs.AmongLaws.{among-left, any-among}
 use Rattle.kan_model.specs.Programs.Goals.{Primitive}
 use Rattle.kan_model.specs.Stores.Solve.{Replacement, apply}
 use Rattle.kan_model.specs.Stores.Kept.{allows, is_variable, gives_type, has_type, lacks_type, gives_one_type, holds_under}
@@ -10,29 +12,7 @@ use Rattle.kan_model.specs.Answers.Answer.{keeps_out, has_absence}
 use Rattle.kan_model.specs.declared.prims.Kind.{Kind}
 use Rattle.kan_model.specs.declared.prims.Kind.TheVariants.{Symbol, Number, Text}
 
--- x is one of a list
-abbrev pub Among : {X : Type 0} → X → List X → Type 0
-Among x [] = ⊥
-Among x (y ∷ xs) = (y ≡ x) ⊎ Among x xs
-
-pub among-left : {X : Type 0} (x : X) (xs ys : List X) → Among x xs → Among x (xs ++ ys)
-among-left x [] ys none = absurd none
-among-left x (y ∷ xs) ys (inl e) = inl e
-among-left x (y ∷ xs) ys (inr a) = inr (among-left x xs ys a)
-
-pub among-last : {X : Type 0} (x : X) (xs : List X) → Among x (xs ++ x ∷ [])
-among-last x [] = inl refl
-among-last x (y ∷ xs) = inr (among-last x xs)
-
-pub among-cases : {X : Type 0} (x y : X) (xs : List X) → Among x (xs ++ y ∷ []) → Among x xs ⊎ (x ≡ y)
-among-cases x y [] (inl e) = inr (sym e)
-among-cases x y [] (inr none) = absurd none
-among-cases x y (z ∷ xs) (inl e) = inl (inl e)
-among-cases x y (z ∷ xs) (inr a) = elim (among-cases x y xs a) [
-  | inl b ↦ inl (inr b)
-  | inr e ↦ inr e
-]
-
+-- tests of all of a list, and of some
 pub all-among : {X : Type 0} (p : X → Bool) (xs : List X) → list_all p xs ≡ true → (x : X) → Among x xs → p x ≡ true
 all-among p [] h x none = absurd none
 all-among p (y ∷ xs) h x (inl e) = subst (λ z. p z ≡ true) e (and_parts (p y) (list_all p xs) h).0
@@ -41,11 +21,6 @@ all-among p (y ∷ xs) h x (inr a) = all-among p xs (and_parts (p y) (list_all p
 pub all-from : {X : Type 0} (p : X → Bool) (xs : List X) → ((x : X) → Among x xs → p x ≡ true) → list_all p xs ≡ true
 all-from p [] h = refl
 all-from p (x ∷ xs) h = and_from (p x) (list_all p xs) (h x (inl refl)) (all-from p xs (λ y a. h y (inr a)))
-
-pub any-among : {X : Type 0} (p : X → Bool) (xs : List X) (x : X) → Among x xs → p x ≡ true → list_any p xs ≡ true
-any-among p [] x none h = absurd none
-any-among p (y ∷ xs) x (inl e) h = or_left (p y) (list_any p xs) (subst (λ z. p z ≡ true) (sym e) h)
-any-among p (y ∷ xs) x (inr a) h = or_right (p y) (list_any p xs) (any-among p xs x a h)
 
 pub any-found : {X : Type 0} (p : X → Bool) (xs : List X) → list_any p xs ≡ true → (x : X) × Among x xs × (p x ≡ true)
 any-found p [] h = absurd (true≢false (sym h))

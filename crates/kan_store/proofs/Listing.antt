@@ -187,8 +187,8 @@ module _ (ground : GroundMeaning) (parts : Parts) (st : Store) (step : AreInStep
       let others : more ≡ map (λ e. e ∷ []) es = cc in
       subst (λ c. Listed c ⊥ (SaysTheSame st e) (Settled st es) out) (sym (can't e (λ f h same. subst (λ y. NeverEqual bound y) first never f h (same, tt)))) (settles es more left out rest others d)
 
-  pub lists_settle : (out : List (List Equation)) → Resolved bound parts.lists out → Settled st (differences st.prims) out
-  lists_settle out d = settles (differences st.prims) (map (λ e. e ∷ []) (differences st.prims)) parts.lists out step.differ refl d
+  pub lists_settle : (out : List (List Equation)) → Resolved bound parts.lists.asserted out → Settled st (differences st.prims) out
+  lists_settle out d = settles (differences st.prims) (map (λ e. e ∷ []) (differences st.prims)) parts.lists.asserted out step.differ refl d
 
-pub differences_known : GroundMeaning → (parts : Parts) (st : Store) → ∥ AreInStep parts st ∥₁ → (out : List (List Equation)) → Resolved parts.bound parts.lists out → AreDifferences st (differences st.prims) out
+pub differences_known : GroundMeaning → (parts : Parts) (st : Store) → ∥ AreInStep parts st ∥₁ → (out : List (List Equation)) → Resolved parts.bound parts.lists.asserted out → AreDifferences st (differences st.prims) out
 differences_known ground parts st step out d = settled-lists st (differences st.prims) out (settled-known st (differences st.prims) out (∥∥₁_map step (λ i. lists_settle ground parts st i out d)))

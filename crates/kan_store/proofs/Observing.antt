@@ -1,6 +1,6 @@
 -- What a store's parts show is what its primitives say.
 use Rattle.std.proofs.Common.{◌≡◌, ℕ, zero, suc, Bool, true, false, eqb, List, [], ◌∷◌, Contains, Option, Some, None, inl, inr, unwrap_or, sym, ap, ap₂, subst, refl, ◌∙◌, arith, if◌then◌else◌}
-use Rattle.std.proofs.Math.Logic.{∥∥₁_elim, ∥∥₁_map}
+use Rattle.std.proofs.Math.Logic.{∥∥₁_elim, ∥∥₁_map, ∥∥₁_prop}
 use Rattle.std.proofs.lemmas.Bool.{eq-eqb, eqb-true, or_cases, or_left, or_right, false_from_ne_true, true≢false}
 use Rattle.std.proofs.lemmas.List.Elements.{Contains-append_right, Contains-append_cases}
 use Rattle.kan_terms.specs.Tree.{Tree, Tm, occurs, term_eq}
@@ -21,7 +21,7 @@ use Rattle.unify_core.proofs.WalkLaws.{full-walked, walked-end, walked-term}
 use Rattle.unify_core.proofs.AnswerLaws.{full_unbound}
 use Rattle.type_absence.specs.Tags.{is_listed}
 use Rattle.type_absence.specs.Types.{same_kind}
-use Rattle.diseq.specs.Watching.{are_watchable}
+use Rattle.diseq.specs.Kept.{AreWatched}
 use Rattle.unify_core.specs.Cycles.{HasNoCycle}
 use Rattle.kan_store.specs.Parts.{Parts, AreInStep}
 use Rattle.kan_store.proofs.AddedLaws.{full-free}
@@ -198,5 +198,5 @@ module _ (parts : Parts) (st : Store) (step : ∥ AreInStep parts st ∥₁) whe
   pub no_cycle_known : HasNoCycle parts.bound
   no_cycle_known = no_cycle parts.bound (grown-known parts.bound (∥∥₁_map step (λ i. grown parts.bound i.no_cycle)))
 
-  pub watchable_known : are_watchable parts.bound parts.lists ≡ true
-  watchable_known = test-known (are_watchable parts.bound parts.lists) true (∥∥₁_map step (λ i. i.watchable))
+  pub watched_known : AreWatched parts.bound parts.lists.asserted parts.lists.watching
+  watched_known = ∥∥₁_elim step ∥∥₁_prop (λ i. i.watched)

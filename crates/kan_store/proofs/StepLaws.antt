@@ -11,7 +11,9 @@ use Rattle.unify_core.specs.Walking.{full}
 use Rattle.unify_core.proofs.CycleLaws.{no_cycle_empty}
 use Rattle.std.proofs.lemmas.Bool.{true≢false}
 use Rattle.diseq.specs.Disequalities.{Brought}
-use Rattle.diseq.specs.Watching.{are_watchable}
+use Rattle.diseq.specs.Among.{Among}
+use Rattle.diseq.specs.Disequalities.{Disequality}
+use Rattle.diseq.specs.Kept.{AreWatched, Disequalities}
 use Rattle.kan_model.specs.Stores.Kept.{is_kept}
 use Rattle.kan_model.specs.declared.prims.Kind.{Kind}
 use Rattle.type_absence.specs.Tags.{is_listed}
@@ -40,8 +42,8 @@ module _ (laws : BringingGoesOn) (old : Parts) (st : Store) (step : AreInStep ol
   equated_makes a b r (Equated.no_type {added = added} {bound = bound} unify put none moves) = same_types_fail old.bound old.types old.tags old.lists st step laws a b added bound unify put none moves
   equated_makes a b r (Equated.no_absence {added = added} {bound = bound} unify put none moves) = same_tags_fail old.bound old.types old.tags old.lists st step laws a b added bound unify put none moves
   equated_makes a b r (Equated.no_difference {added = added} {bound = bound} unify put none same) = same_differs_fail old.bound old.types old.tags old.lists st step laws a b added bound unify put none same
-  equated_makes a b r (Equated.equated {added = added} {new = new} unify put none types tags apart brought watchable) =
-      same_added old.bound old.types old.tags old.lists st step laws a b added new.bound unify put none new.types new.tags new.lists types tags apart brought watchable
+  equated_makes a b r (Equated.equated {added = added} {new = new} unify put none types tags apart stay watched) =
+      same_added old.bound old.types old.tags old.lists st step laws a b added new.bound unify put none new.types new.tags new.lists types tags apart stay watched
 
   pub typing_makes : (kind : Kind) (t : Tm) (r : Option Parts) → Typing old kind t r → Makes (with_prim st (typing kind t)) r
   typing_makes kind t r (Typing.not_typed gives) = typing_fails old.bound old.types old.tags old.lists st step kind t gives
@@ -53,11 +55,15 @@ module _ (laws : BringingGoesOn) (old : Parts) (st : Store) (step : AreInStep ol
 
   pub differing_makes : (a b : Tm) (r : Option Parts) → Differing old a b r → Makes (with_prim st (Primitive.differ a b)) r
   differing_makes a b r (Differing.identical same) = differ_fails old.bound old.types old.tags old.lists st step laws a b same
-  differing_makes a b r (Differing.differs {lists = lists} apart brought watchable) = differ_added old.bound old.types old.tags old.lists st step laws a b lists apart brought watchable
+  differing_makes a b r (Differing.differs {lists = lists} apart brought watched) = differ_added old.bound old.types old.tags old.lists st step laws a b lists apart brought watched
+
+-- disequalities with the same assertions, of which each variable watches the same
+same_disequalities : (old new : Disequalities) → new.asserted ≡ old.asserted → ((v : ℕ) → new.watching v ≡ old.watching v) → new ≡ old
+same_disequalities old new asserted watching = λ i. record { asserted = asserted i; watching = λ v. watching v i }
 
 -- parts that say the same are in step with the same stores
 pub same_in_step : (old new : Parts) (st : Store) → SameParts old new → AreInStep old st → AreInStep new st
-same_in_step old new st same step = subst (λ l. InStep new.bound new.types new.tags l st) (sym same.lists) (subst (λ b. InStep b new.types new.tags old.lists st) (sym same.bound) (record {
+same_in_step old new st same step = subst (λ l. InStep new.bound new.types new.tags l st) (sym (same_disequalities old.lists new.lists same.asserted same.watching)) (subst (λ b. InStep b new.types new.tags old.lists st) (sym same.bound) (record {
   answer = step.answer;
   no_cycle = step.no_cycle;
   solved = step.solved;
@@ -65,7 +71,7 @@ same_in_step old new st same step = subst (λ l. InStep new.bound new.types new.
   typed = λ v free k. (λ has. (step.typed v free k).0 (sym (same.types v) ∙ has), λ has. same.types v ∙ (step.typed v free k).1 has);
   tagged = λ v free tag. (λ listed. (step.tagged v free tag).0 (subst (λ ts. is_listed tag ts ≡ true) (same.tags v) listed), λ has. subst (λ ts. is_listed tag ts ≡ true) (sym (same.tags v)) ((step.tagged v free tag).1 has));
   differ = step.differ;
-  watchable = step.watchable;
+  watched = step.watched;
   allowed = step.allowed;
 }))
 
@@ -79,13 +85,13 @@ fresh_in_step parts st k step = record {
   typed = step.typed;
   tagged = step.tagged;
   differ = step.differ;
-  watchable = step.watchable;
+  watched = step.watched;
   allowed = step.allowed;
 }
 
 -- nothing is in step with the store in which nothing was asserted
-pub empty_in_step : (parts : Parts) → parts.bound ≡ [] → ((v : ℕ) → parts.types v ≡ None) → ((v : ℕ) → parts.tags v ≡ []) → parts.lists ≡ [] → AreInStep parts (bare 0)
-empty_in_step parts bound types tags lists = record {
+pub empty_in_step : (parts : Parts) → parts.bound ≡ [] → ((v : ℕ) → parts.types v ≡ None) → ((v : ℕ) → parts.tags v ≡ []) → parts.lists.asserted ≡ [] → ((v : ℕ) → parts.lists.watching v ≡ []) → AreInStep parts (bare 0)
+empty_in_step parts bound types tags lists watching = record {
   answer = [];
   no_cycle = no_cycle_empty parts.bound bound;
   solved = solve_by-nothing left_first;
@@ -93,6 +99,10 @@ empty_in_step parts bound types tags lists = record {
   typed = λ v free k. (λ has. (let none : None ≡ Some k = sym (types v) ∙ has in cc), λ has. absurd (true≢false (sym has)));
   tagged = λ v free tag. (λ listed. absurd (true≢false (sym listed ∙ ap (is_listed tag) (tags v))), λ has. absurd (true≢false (sym has)));
   differ = subst (λ l. Brought parts.bound [] l) (sym lists) Brought.none_left;
-  watchable = subst (λ l. are_watchable parts.bound l ≡ true) (sym lists) refl;
+  watched = ∣ record {
+    kept = λ es a. absurd (subst (Among es) lists a);
+    waits = λ fs a. absurd a;
+    stands = λ v fs a. absurd (subst (Among fs) (watching v) a);
+  } ∣₁;
   allowed = refl;
 }

@@ -32,8 +32,8 @@ kept_known parts st step = test-known (is_kept st) true (∥∥₁_map step (λ 
 pub same_store : (a b : Store) → b.prims ≡ a.prims → b.counter ≡ a.counter → b ≡ a
 same_store a b prims counter = ap₂ (λ ps n. record { prims = ps; counter = n }) prims counter
 
-pub empty_known : (parts : Parts) (st : Store) → st.prims ≡ [] → st.counter ≡ 0 → parts.bound ≡ [] → ((v : ℕ) → parts.types v ≡ None) → ((v : ℕ) → parts.tags v ≡ []) → parts.lists ≡ [] → Known parts st
-empty_known parts st prims counter bound types tags lists = subst (λ s. Known parts s) (sym (same_store (bare 0) st prims counter)) ∣ empty_in_step parts bound types tags lists ∣₁
+pub empty_known : (parts : Parts) (st : Store) → st.prims ≡ [] → st.counter ≡ 0 → parts.bound ≡ [] → ((v : ℕ) → parts.types v ≡ None) → ((v : ℕ) → parts.tags v ≡ []) → parts.lists.asserted ≡ [] → ((v : ℕ) → parts.lists.watching v ≡ []) → Known parts st
+empty_known parts st prims counter bound types tags lists watching = subst (λ s. Known parts s) (sym (same_store (bare 0) st prims counter)) ∣ empty_in_step parts bound types tags lists watching ∣₁
 
 pub same_known : (old new : Parts) (st : Store) → Known old st → SameParts old new → Known new st
 same_known old new st step same = ∥∥₁_map step (λ i. same_in_step old new st same i)
@@ -95,7 +95,7 @@ adding_known old st step p r d = known-to (with_prim st p) r (∥∥₁_map step
 pub walk_told : (parts : Parts) (st : Store) → Known parts st → (t found : Tm) → found ≡ walked parts.bound t → WalksTo (answer st) t found
 walk_told parts st step t found is = subst (λ f. WalksTo (answer st) t f) (sym is) (walk_known parts st step t)
 
-pub differences_told : (parts : Parts) (st : Store) → Known parts st → (all out : List (List Equation)) → all ≡ parts.lists → Resolved parts.bound all out → AreDifferences st (differences st.prims) out
+pub differences_told : (parts : Parts) (st : Store) → Known parts st → (all out : List (List Equation)) → all ≡ parts.lists.asserted → Resolved parts.bound all out → AreDifferences st (differences st.prims) out
 differences_told parts st step all out is d = differences_known ground_meaning parts st step out (subst (λ ls. Resolved parts.bound ls out) is d)
 
 -- what is seen through a pointer is what is held

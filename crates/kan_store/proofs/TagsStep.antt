@@ -15,7 +15,8 @@ use Rattle.type_absence.specs.Tags.{is_listed, with_tag, with_tags, has_any}
 use Rattle.type_absence.specs.Absent.{TagsOf, GivesTags}
 use Rattle.kan_store.specs.Moving.{TagsMove}
 use Rattle.kan_store.specs.InStep.{TagsInStep}
-use Rattle.kan_store.proofs.KeptParts.{Among, has_absence-from, has_absence-asked}
+use Rattle.diseq.specs.Among.{Among}
+use Rattle.kan_store.proofs.KeptParts.{has_absence-from, has_absence-asked}
 use Rattle.kan_store.proofs.AddedLaws.{unbound-before, added-free, added-bound, bound-added, full-onward, full-bound, full-free}
 
 -- lists of tags

@@ -15,7 +15,8 @@ use Rattle.unify_core.proofs.WalkLaws.{full-walked, walked-end}
 use Rattle.type_absence.specs.Types.{Types, same_kind, no_other, may_have, with_type, MovesTypes}
 use Rattle.kan_store.specs.Moving.{TypesMove}
 use Rattle.kan_store.specs.InStep.{TypesInStep}
-use Rattle.kan_store.proofs.KeptParts.{Among, typing, has_type-from, has_type-asked, Allowed, OneType}
+use Rattle.diseq.specs.Among.{Among}
+use Rattle.kan_store.proofs.KeptParts.{typing, has_type-from, has_type-asked, Allowed, OneType}
 use Rattle.kan_store.proofs.AddedLaws.{unbound-before, added-free, added-bound, bound-added, full-onward, full-bound, full-free}
 
 pub same_kind-true : (k l : Kind) → same_kind k l ≡ true → k ≡ l

@@ -14,8 +14,8 @@ use Rattle.unify_core.specs.Walking.{Pairs, full}
 use Rattle.type_absence.specs.Tags.{is_listed}
 use Rattle.type_absence.specs.Types.{Types}
 use Rattle.type_absence.specs.Absent.{TagsOf}
-use Rattle.diseq.specs.Disequalities.{Disequality, Brought}
-use Rattle.diseq.specs.Watching.{are_watchable}
+use Rattle.diseq.specs.Disequalities.{Brought}
+use Rattle.diseq.specs.Kept.{AreWatched, Disequalities}
 use Rattle.kan_store.specs.Asked.{asked}
 
 -- the types of variables that aren't bound are those that the store's primitives give them
@@ -33,9 +33,9 @@ TagsInStep bound tags s ps =
 
 -- The bindings make of each term what the answer s of the store's equations makes of it, types and
 -- absences of unbound variables are those that
--- the primitives give, the disequalities are brought up to the bindings and watchable, and each
+-- the primitives give, the disequalities are brought up to the bindings and watched, and each
 -- primitive is allowed.
-pub record InStep (bound : Pairs) (types : Types) (tags : TagsOf) (lists : List Disequality)
+pub record InStep (bound : Pairs) (types : Types) (tags : TagsOf) (lists : Disequalities)
     (st : Store) : Type 0 where
   pub answer : Replacement
   pub no_cycle : HasNoCycle bound
@@ -43,6 +43,6 @@ pub record InStep (bound : Pairs) (types : Types) (tags : TagsOf) (lists : List 
   pub fulls : (t : Tm) → full bound t ≡ apply answer t
   pub typed : TypesInStep bound types answer st.prims
   pub tagged : TagsInStep bound tags answer st.prims
-  pub differ : Brought bound (asked st.prims) lists
-  pub watchable : are_watchable bound lists ≡ true
+  pub differ : Brought bound (asked st.prims) lists.asserted
+  pub watched : AreWatched bound lists.asserted lists.watching
   pub allowed : list_all (allows answer) st.prims ≡ true

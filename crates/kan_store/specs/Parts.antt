@@ -15,7 +15,7 @@ use Rattle.unify_core.specs.Laws.{added_equations}
 use Rattle.type_absence.specs.Types.{Types, GivesTypes}
 use Rattle.type_absence.specs.Absent.{TagsOf, GivesTag}
 use Rattle.diseq.specs.Disequalities.{Disequality, Brought, is_identical}
-use Rattle.diseq.specs.Watching.{are_watchable}
+use Rattle.diseq.specs.Kept.{AreWatched, Disequalities}
 use Rattle.kan_store.specs.InStep.{InStep}
 use Rattle.kan_store.specs.Moving.{TypesMove, TagsMove}
 
@@ -24,7 +24,7 @@ pub record Parts : Type 0 where
   pub bound : Pairs
   pub types : Types
   pub tags : TagsOf
-  pub lists : List Disequality
+  pub lists : Disequalities
 
 abbrev pub AreInStep : Parts → Store → Type 0
 AreInStep parts st = InStep parts.bound parts.types parts.tags parts.lists st
@@ -40,11 +40,12 @@ pub record SameParts (old new : Parts) : Type 0 where
   pub bound : new.bound ≡ old.bound
   pub types : (v : ℕ) → new.types v ≡ old.types v
   pub tags : (v : ℕ) → new.tags v ≡ old.tags v
-  pub lists : new.lists ≡ old.lists
+  pub asserted : new.lists.asserted ≡ old.lists.asserted
+  pub watching : (v : ℕ) → new.lists.watching v ≡ old.lists.watching v
 
 -- The parts with an equation more: its bindings are added, types and absences go over to the terms
 -- of the variables that were bound, and the
--- disequalities are brought up to the bindings. There are none where one of these steps can't be
+-- disequalities are watched under the bindings. There are none where one of these steps can't be
 -- made.
 pub data Equated (old : Parts) (a b : Tm) : Option Parts → Type 0 where
   no_unifier : Unifying old.bound (equation a b ∷ []) None → Equated old a b None
@@ -59,25 +60,26 @@ pub data Equated (old : Parts) (a b : Tm) : Option Parts → Type 0 where
   no_difference : {added : List (Tm × Tm)} {bound : Pairs} →
       Unifying old.bound (equation a b ∷ []) (Some added) → AddedTo old.bound added bound →
       HasNoCycle bound →
-      list_any (is_identical bound) old.lists ≡ true → Equated old a b None
+      list_any (is_identical bound) old.lists.asserted ≡ true → Equated old a b None
   equated : {added : List (Tm × Tm)} {new : Parts} →
       Unifying old.bound (equation a b ∷ []) (Some added) → AddedTo old.bound added new.bound →
       HasNoCycle new.bound →
       TypesMove new.bound old.types added (Some new.types) →
       TagsMove new.bound old.tags added (Some new.tags) →
-      list_any (is_identical new.bound) old.lists ≡ false → Brought new.bound old.lists new.lists →
-      are_watchable new.bound new.lists ≡ true → Equated old a b (Some new)
+      list_any (is_identical new.bound) old.lists.asserted ≡ false →
+      new.lists.asserted ≡ old.lists.asserted →
+      AreWatched new.bound new.lists.asserted new.lists.watching → Equated old a b (Some new)
 
--- disequalities brought up to bindings that were made; there are none where one of them is false by
--- now
-abbrev pub BroughtUp : Pairs → List Disequality → Option (List Disequality) → Type 0
-BroughtUp bound lists None = list_any (is_identical bound) lists ≡ true
+-- disequalities as variables watch them under bindings that were made; there are none where one of
+-- them is false by now
+abbrev pub BroughtUp : Pairs → Disequalities → Option Disequalities → Type 0
+BroughtUp bound lists None = list_any (is_identical bound) lists.asserted ≡ true
 BroughtUp bound lists (Some new) =
-    (list_any (is_identical bound) lists ≡ false) × Brought bound lists new
-    × (are_watchable bound new ≡ true)
+    (list_any (is_identical bound) lists.asserted ≡ false) × (new.asserted ≡ lists.asserted)
+    × AreWatched bound new.asserted new.watching
 
 -- the parts where types and absences went over from variables that were bound to their terms, and
--- the disequalities were brought up to the bindings
+-- the disequalities are watched under the bindings
 pub data Carried (old : Parts) (added : List (Tm × Tm)) : Option Parts → Type 0 where
   types_clash : TypesMove old.bound old.types added None → Carried old added None
   tags_clash : TagsMove old.bound old.tags added None → Carried old added None
@@ -102,9 +104,10 @@ pub data Keeping (old : Parts) (tag : ℕ) (t : Tm) : Option Parts → Type 0 wh
 -- the parts with a disequality more
 pub data Differing (old : Parts) (a b : Tm) : Option Parts → Type 0 where
   identical : term_eq (full old.bound a) (full old.bound b) ≡ true → Differing old a b None
-  differs : {lists : List Disequality} → term_eq (full old.bound a) (full old.bound b) ≡ false →
-      Brought old.bound (old.lists ++ (equation a b ∷ []) ∷ []) lists →
-      are_watchable old.bound lists ≡ true → Differing old a b (Some (record old { lists = lists }))
+  differs : {lists : Disequalities} → term_eq (full old.bound a) (full old.bound b) ≡ false →
+      Brought old.bound (old.lists.asserted ++ (equation a b ∷ []) ∷ []) lists.asserted →
+      AreWatched old.bound lists.asserted lists.watching →
+      Differing old a b (Some (record old { lists = lists }))
 
 -- what is left of disequalities, each solved anew
 pub data Resolved (bound : Pairs) : List Disequality → List (List Equation) → Type 0 where

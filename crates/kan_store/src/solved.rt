@@ -4,7 +4,8 @@ ghost use Rattle.std.specs.Prelude.{◌≡◌, ℕ, [], None, true, map, IfOk};
 ghost use Rattle.kan_terms.specs.Terms.{tree};
 ghost use Rattle.kan_model.specs.Stores.Prims.{prim as primitive};
 ghost use Rattle.unify_core.specs.Cycles.{HasNoCycle};
-ghost use Rattle.diseq.specs.Watching.{are_watchable};
+ghost use Rattle.diseq.specs.Kept.{AreWatched};
+ghost use Rattle.diseq.specs.Seen.{asserted_in, disequalities_in, watching_in};
 ghost use Rattle.kan_terms.specs.Terms.{sides};
 ghost use Rattle.unify_core.specs.Solutions.{AddedTo};
 ghost use Rattle.unify_core.specs.Walking.{Pairs};
@@ -31,7 +32,7 @@ pub struct Solved<B> {
     pub kinds: Kinds,
     /// The absences of variables.
     pub absences: Absences,
-    /// The disequalities that don't hold yet.
+    /// The disequalities that didn't hold when they were asserted.
     pub diseqs: Diseqs,
 }
 
@@ -40,7 +41,9 @@ pub fn unsolved<B: Bindings>(alloc: Global) -> Result<Solved<B>, Memory>
     ensures bindings { IfOk result (λ made. (parts_of B.pairs made).bound ≡ []) }
     ensures types { IfOk result (λ made. (v : ℕ) → (parts_of B.pairs made).types v ≡ None) }
     ensures tags { IfOk result (λ made. (v : ℕ) → (parts_of B.pairs made).tags v ≡ []) }
-    ensures lists { IfOk result (λ made. (parts_of B.pairs made).lists ≡ []) }
+    ensures lists { IfOk result (λ made. (parts_of B.pairs made).lists.asserted ≡ []) }
+    ensures watching { IfOk result
+        (λ made. (v : ℕ) → (parts_of B.pairs made).lists.watching v ≡ []) }
 {
     Ok(Solved {
         bindings: B::empty(alloc)?,
@@ -63,7 +66,7 @@ pub fn copied<B: Bindings>(solved: &Solved<B>) -> Result<Solved<B>, Memory>
     })
 }
 
-// Brings disequalities up to bindings that were made; false where one of them is false by now.
+// Looks at disequalities under bindings that were made; false where one of them is false by now.
 fn recheck<B: Bindings>(
     alloc: Global,
     diseqs: &mut Diseqs,
@@ -73,15 +76,15 @@ fn recheck<B: Bindings>(
     requires no_cycle { HasNoCycle (B.pairs bindings.now) }
     requires older { (older : Pairs) ×
         AddedTo older (map sides added.now) (B.pairs bindings.now) ×
-        (are_watchable older diseqs.old ≡ true) }
-    ensures { IfOk result (λ differ. BroughtUp (B.pairs bindings.now) diseqs.old
-        (made_if differ diseqs.new)) }
+        AreWatched older (asserted_in diseqs.old) (watching_in diseqs.old) }
+    ensures { IfOk result (λ differ. BroughtUp (B.pairs bindings.now) (disequalities_in diseqs.old)
+        (made_if differ (disequalities_in diseqs.new))) }
 {
     if diseqs.is_untouched() {
         return Ok(true);
     }
     let older = mem::replace(diseqs, Diseqs::empty(alloc));
-    match older.recheck_owned(alloc, added, bindings)? {
+    match older.recheck(alloc, added, bindings)? {
         None => Ok(false),
         Some(brought) => {
             *diseqs = brought;
@@ -90,8 +93,8 @@ fn recheck<B: Bindings>(
     }
 }
 
-// What stands on variables that were bound goes over to their terms, and disequalities are brought
-// up to the bindings.
+// What stands on variables that were bound goes over to their terms, and disequalities are looked
+// at under the bindings.
 fn carry<B: Bindings>(
     alloc: Global,
     solved: &mut Solved<B>,
@@ -100,7 +103,8 @@ fn carry<B: Bindings>(
     requires no_cycle { HasNoCycle (parts_of B.pairs solved.old).bound }
     requires older { (older : Pairs) ×
         AddedTo older (map sides added.now) (parts_of B.pairs solved.old).bound ×
-        (are_watchable older (parts_of B.pairs solved.old).lists ≡ true) }
+        AreWatched older (parts_of B.pairs solved.old).lists.asserted
+        (parts_of B.pairs solved.old).lists.watching }
     ensures { IfOk result (λ fits. Carried (parts_of B.pairs solved.old) (map sides added.now)
         (made_if fits (parts_of B.pairs solved.new))) }
 {
@@ -121,8 +125,9 @@ fn equate<B: Bindings>(
     right: &Term,
 ) -> Result<bool, Memory>
     requires no_cycle { HasNoCycle (parts_of B.pairs solved.old).bound }
-    requires watchable { are_watchable (parts_of B.pairs solved.old).bound
-        (parts_of B.pairs solved.old).lists ≡ true }
+    requires watched { AreWatched (parts_of B.pairs solved.old).bound
+        (parts_of B.pairs solved.old).lists.asserted
+        (parts_of B.pairs solved.old).lists.watching }
     ensures { IfOk result (λ fits. Equated (parts_of B.pairs solved.old) (tree left.now)
         (tree right.now) (made_if fits (parts_of B.pairs solved.new))) }
 {
@@ -170,13 +175,14 @@ fn add_difference<B: Bindings>(
     right: &Term,
 ) -> Result<bool, Memory>
     requires no_cycle { HasNoCycle (parts_of B.pairs solved.old).bound }
-    requires watchable { are_watchable (parts_of B.pairs solved.old).bound
-        (parts_of B.pairs solved.old).lists ≡ true }
+    requires watched { AreWatched (parts_of B.pairs solved.old).bound
+        (parts_of B.pairs solved.old).lists.asserted
+        (parts_of B.pairs solved.old).lists.watching }
     ensures { IfOk result (λ fits. Differing (parts_of B.pairs solved.old) (tree left.now)
         (tree right.now) (made_if fits (parts_of B.pairs solved.new))) }
 {
     let older = mem::replace(&mut solved.diseqs, Diseqs::empty(alloc));
-    match older.add_owned(alloc, left, right, &solved.bindings)? {
+    match older.add(alloc, left, right, &solved.bindings)? {
         None => Ok(false),
         Some(made) => {
             solved.diseqs = made;
@@ -193,8 +199,9 @@ pub fn add<B: Bindings>(
     prim: &Asserted,
 ) -> Result<bool, Memory>
     requires no_cycle { HasNoCycle (parts_of B.pairs solved.old).bound }
-    requires watchable { are_watchable (parts_of B.pairs solved.old).bound
-        (parts_of B.pairs solved.old).lists ≡ true }
+    requires watched { AreWatched (parts_of B.pairs solved.old).bound
+        (parts_of B.pairs solved.old).lists.asserted
+        (parts_of B.pairs solved.old).lists.watching }
     ensures { IfOk result (λ fits. Adding (parts_of B.pairs solved.old) (primitive prim.now)
         (made_if fits (parts_of B.pairs solved.new))) }
 {

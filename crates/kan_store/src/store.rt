@@ -1,19 +1,19 @@
 //! The solved store: constraints that are solved as they come.
 
-ghost use Rattle.std.specs.Prelude.{◌≡◌, ◌^◌, ◌≤◌, ◌+◌, ◌++◌, ◌∷◌, [], true, map, IfOk, IsTrue};
-ghost use Rattle.std.specs.Prelude.{OnOk};
+ghost use Rattle.std.specs.Prelude.{◌≡◌, ◌^◌, ◌≤◌, ◌+◌, ◌++◌, ◌∷◌, [], true, map, reverse, IfOk};
+ghost use Rattle.std.specs.Prelude.{IsTrue, OnOk};
 ghost use Rattle.std.specs.Option.{option_to_list};
 ghost use Rattle.std.specs.Arc.{arc_value};
 ghost use Rattle.kan_model.specs.Programs.Scope.{is_counted};
 ghost use Rattle.kan_model.specs.Stores.Kept.{is_kept};
 ghost use Rattle.kan_model.specs.Stores.Prims.{equation};
 ghost use Rattle.unify_core.specs.Cycles.{HasNoCycle};
-ghost use Rattle.diseq.specs.Watching.{are_watchable};
+ghost use Rattle.diseq.specs.Kept.{AreWatched};
 ghost use Rattle.kan_model.specs.Stores.Prims.{prim as primitive};
 ghost use Rattle.kan_model.specs.Stores.Store.{with_prim};
 ghost use Rattle.type_absence.specs.Types.{made_if};
 ghost use Rattle.kan_store.specs.Parts.{Adding, AreInStep, KnownToMake, Resolved, SameParts};
-ghost use Rattle.kan_store.specs.Held.{parts_of, store_of};
+ghost use Rattle.kan_store.specs.Held.{lent_pairs, parts_of, store_of};
 
 use crate::history::{History, Tells};
 use crate::solved::{Solved, add, copied, unsolved};
@@ -73,8 +73,9 @@ fn copied_with<B: Bindings>(held: &Held<B>, counter: u64) -> Result<Held<B>, Mem
 // Adds a primitive to what is held; false where it can't be kept with those before.
 fn add_held<B: Bindings>(alloc: Global, held: &mut Held<B>, prim: &Asserted) -> Result<bool, Memory>
     requires no_cycle { HasNoCycle (parts_of B.pairs held.old.solved).bound }
-    requires watchable { are_watchable (parts_of B.pairs held.old.solved).bound
-        (parts_of B.pairs held.old.solved).lists ≡ true }
+    requires watched { AreWatched (parts_of B.pairs held.old.solved).bound
+        (parts_of B.pairs held.old.solved).lists.asserted
+        (parts_of B.pairs held.old.solved).lists.watching }
     ensures parts { IfOk result (λ fits. Adding (parts_of B.pairs held.old.solved)
         (primitive prim.now) (made_if fits (parts_of B.pairs held.new.solved))) }
     ensures store { OnOk result (store_of held.new ≡
@@ -145,18 +146,19 @@ fn keep_found(left: &mut PairLists, found: Option<TermPairs>) -> Result<(), Memo
     }
 }
 
-// Of disequalities those whose sides may still become equal, each solved anew.
+// Of disequalities, the last of which comes first, those whose sides may still become equal, each
+// solved anew.
 fn still_open<B: Bindings>(
     alloc: Global,
-    lists: &[TermPairs],
+    waiting: &mut Vec<&TermPairs>,
     bindings: &B,
 ) -> Result<PairLists, Memory>
     requires { HasNoCycle (B.pairs bindings.now) }
-    ensures { IfOk result (λ left. Resolved (B.pairs bindings.now) (map (map equation) lists.now)
-        (map (map equation) left)) }
+    ensures { IfOk result (λ left. Resolved (B.pairs bindings.now)
+        (reverse (lent_pairs waiting.old.items)) (map (map equation) left)) }
 {
     let mut left = ListOf::new(alloc);
-    for pairs in lists {
+    while let Some(pairs) = waiting.pop() {
         let found = would_add(alloc, pairs.items(), bindings)?;
         keep_found(&mut left, found)?;
     }
@@ -254,7 +256,7 @@ impl<B: Bindings> Store for SolvedStore<B> {
     }
 
     fn differences(&self, alloc: Global) -> Result<PairLists, Memory> {
-        let lists = self.held.solved.diseqs.listed(alloc)?;
-        still_open(alloc, lists.items(), &self.held.solved.bindings)
+        let mut newest_first = self.held.solved.diseqs.newest_first(alloc)?;
+        still_open(alloc, &mut newest_first, &self.held.solved.bindings)
     }
 }

@@ -17,6 +17,15 @@ returns-in-None g c =
     Equated.no_unifier (subst (λ b. Unifying (g.B.Bindings.pairs b) (equation (tree c.args.left.now) (tree c.args.right.now) ∷ []) None) same
     (subst (λ o. Unifying (g.B.Bindings.pairs c.replace-bindings.result) (equation (tree c.args.left.now) (tree c.args.right.now) ∷ []) (option_map (λ made. map sides made.added) o)) c.in-None.is c.in_ok-unify_owned.ensures.in_order))
 
+pub carry-requires-clause-older : goal.carry-requires-clause-older
+carry-requires-clause-older g c =
+    let same : c.replace-bindings.result ≡ c.args.solved.now.bindings = search rules in (
+      g.B.Bindings.pairs c.args.solved.now.bindings,
+      subst (λ b. AddedTo (g.B.Bindings.pairs b) (map sides c.in-Some.unified.added) (g.B.Bindings.pairs c.in-Some.unified.bindings)) same
+          (subst (λ o. IfSome o (λ made. AddedTo (g.B.Bindings.pairs c.replace-bindings.result) (map sides made.added) (g.B.Bindings.pairs made.bindings))) c.in-Some.is c.in_ok-unify_owned.ensures.added),
+      c.requires.watched,
+    )
+
 pub returns-in-Some : goal.returns-in-Some
 returns-in-Some g c =
     let same : c.replace-bindings.result ≡ c.args.solved.now.bindings = search rules in

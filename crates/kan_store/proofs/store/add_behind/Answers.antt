@@ -6,7 +6,7 @@ use Rattle.type_absence.specs.Types.{made_if}
 use Rattle.kan_model.specs.Stores.Store.{with_prim}
 use Rattle.kan_store.specs.Parts.{KnownToMake}
 use Rattle.kan_store.specs.Held.{parts_of, store_of}
-use Rattle.kan_store.proofs.Observing.{no_cycle_known, watchable_known}
+use Rattle.kan_store.proofs.Observing.{no_cycle_known, watched_known}
 use Rattle.kan_store.proofs.StoreLaws.{same_known, seen_known, adding_known}
 use Rattle.kan_store.proofs.store.add_behind.Goals as goal
 
@@ -15,10 +15,10 @@ add_held-requires-clause-no_cycle g c =
     let here : c.in-Some.own.now ≡ arc_value c.args.held.now = search rules in
     no_cycle_known (parts_of g.B.Bindings.pairs c.in-Some.own.now.solved) (store_of (arc_value c.args.held.now)) (seen_known g.B.Bindings.pairs c.in-Some.own.now (arc_value c.args.held.now) (store_of (arc_value c.args.held.now)) here c.requires)
 
-pub add_held-requires-clause-watchable : goal.add_held-requires-clause-watchable
-add_held-requires-clause-watchable g c =
+pub add_held-requires-clause-watched : goal.add_held-requires-clause-watched
+add_held-requires-clause-watched g c =
     let here : c.in-Some.own.now ≡ arc_value c.args.held.now = search rules in
-    watchable_known (parts_of g.B.Bindings.pairs c.in-Some.own.now.solved) (store_of (arc_value c.args.held.now)) (seen_known g.B.Bindings.pairs c.in-Some.own.now (arc_value c.args.held.now) (store_of (arc_value c.args.held.now)) here c.requires)
+    watched_known (parts_of g.B.Bindings.pairs c.in-Some.own.now.solved) (store_of (arc_value c.args.held.now)) (seen_known g.B.Bindings.pairs c.in-Some.own.now (arc_value c.args.held.now) (store_of (arc_value c.args.held.now)) here c.requires)
 
 pub returns-in-Some-clause-made : goal.returns-in-Some-clause-made
 returns-in-Some-clause-made g c =
@@ -34,10 +34,10 @@ add_held-requires-in-None-clause-no_cycle g c =
     no_cycle_known (parts_of g.B.Bindings.pairs c.in_ok-copy-in-None.copy.solved) (store_of (arc_value c.args.held.now))
     (same_known (parts_of g.B.Bindings.pairs c.deref.result.now.solved) _ _ (seen_known g.B.Bindings.pairs c.deref.result.now (arc_value c.args.held.now) (store_of (arc_value c.args.held.now)) there c.requires) c.in_ok-copy-in-None.ensures.same)
 
-pub add_held-requires-in-None-clause-watchable : goal.add_held-requires-in-None-clause-watchable
-add_held-requires-in-None-clause-watchable g c =
+pub add_held-requires-in-None-clause-watched : goal.add_held-requires-in-None-clause-watched
+add_held-requires-in-None-clause-watched g c =
     let there : c.deref.result.now ≡ arc_value c.args.held.now = search rules in
-    watchable_known (parts_of g.B.Bindings.pairs c.in_ok-copy-in-None.copy.solved) (store_of (arc_value c.args.held.now))
+    watched_known (parts_of g.B.Bindings.pairs c.in_ok-copy-in-None.copy.solved) (store_of (arc_value c.args.held.now))
     (same_known (parts_of g.B.Bindings.pairs c.deref.result.now.solved) _ _ (seen_known g.B.Bindings.pairs c.deref.result.now (arc_value c.args.held.now) (store_of (arc_value c.args.held.now)) there c.requires) c.in_ok-copy-in-None.ensures.same)
 
 pub returns-in_ok-held-in-None-clause-made : goal.returns-in_ok-held-in-None-clause-made

@@ -1,4 +1,0 @@
-use Rattle.diseq.proofs.diseqs.Diseqs.again.Goals as goal
-
-pub invariant_of-result : goal.invariant_of-result
-invariant_of-result c = c.in_ok-again.ensures.watched c.self.invariant

@@ -1,7 +1,0 @@
-use Rattle.kan_terms.specs.Terms.{tree}
-use Rattle.unify_core.proofs.WalkSteps.{no_leaf}
-use Rattle.diseq.proofs.MovedLaws.{settled_term}
-use Rattle.diseq.proofs.table.Table.settle.Goals as goal
-
-pub returns-in_default : goal.returns-in_default
-returns-in_default g c = settled_term (g.B.Bindings.pairs c.args.bindings.now) (tree c.args.term.now) c.args.self.now (no_leaf c.args.term.now c.in_default.not-Var)
