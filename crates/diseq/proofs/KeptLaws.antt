@@ -26,7 +26,7 @@ use Rattle.diseq.specs.Watching.{is_watchable, is_apart, is_watched_by, watches,
 use Rattle.diseq.specs.declared.watching.Watched.{Watched}
 use Rattle.diseq.proofs.AmongLaws.{among-left, among-last, among-cases, any-among, none-among}
 use Rattle.diseq.proofs.BroughtLaws.{full_solves, unifies_identical, identical_unifies}
-use Rattle.diseq.proofs.ListLaws.{and_parts, and_both}
+use Rattle.diseq.proofs.ListLaws.{and_both}
 use Rattle.kan_model.specs.Stores.Unifiers.{Unifies}
 use Rattle.diseq.proofs.WatchLaws.{watchable_differs_grown, stays_watchable}
 

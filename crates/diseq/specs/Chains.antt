@@ -1,5 +1,5 @@
 -- What chains of disequalities stand for.
-use Rattle.std.specs.Prelude.{List, [], ◌∷◌, ◌++◌, map}
+use Rattle.std.specs.Prelude.{List, []}
 use Rattle.std.specs.Arc.{arc_value}
 use Rattle.diseq.specs.Disequalities.{Disequality}
 use Rattle.diseq.specs.declared.chains.Chain.{Chain}

@@ -1,10 +1,10 @@
 -- What it is that a store is kept: each primitive is allowed, and no variable has two types.
-use Rattle.std.proofs.Common.{◌≡◌, ℕ, Bool, true, false, not, eqb, List, [], ◌∷◌, ◌++◌, ◌⊎◌, inl, inr, sym, ap, subst, refl, ◌∙◌}
+use Rattle.std.proofs.Common.{◌≡◌, ℕ, Bool, true, false, not, eqb, List, [], ◌∷◌, inl, inr, sym, ap, subst, refl, ◌∙◌}
 use Rattle.std.specs.List.{list_all, list_any}
-use Rattle.std.proofs.lemmas.Bool.{eq-eqb, eqb-true, and_parts, and_from, or_cases, or_left, or_right, true≢false}
+use Rattle.std.proofs.lemmas.Bool.{eq-eqb, eqb-true, and_parts, and_from, or_cases, true≢false}
 use Rattle.kan_terms.specs.Tree.{Tree, Tm, occurs}
 use Rattle.diseq.specs.Among.{Among}
-use Rattle.diseq.proofs.AmongLaws.{among-left, any-among}
+use Rattle.diseq.proofs.AmongLaws.{any-among}
 use Rattle.kan_model.specs.Programs.Goals.{Primitive}
 use Rattle.kan_model.specs.Stores.Solve.{Replacement, apply}
 use Rattle.kan_model.specs.Stores.Kept.{allows, is_variable, gives_type, has_type, lacks_type, gives_one_type, holds_under}

@@ -12,7 +12,7 @@ use Rattle.type_absence.specs.Types.{Types, GivesTypes, made_if}
 use Rattle.type_absence.specs.Absent.{TagsOf, GivesTag}
 use Rattle.kan_model.specs.declared.prims.Kind.{Kind}
 use Rattle.diseq.specs.Among.{Among}
-use Rattle.diseq.specs.Disequalities.{Disequality, is_identical}
+use Rattle.diseq.specs.Disequalities.{is_identical}
 use Rattle.diseq.specs.Kept.{AreWatched, Disequalities}
 use Rattle.kan_store.specs.Moving.{TypesMove, TagsMove, binds_variable}
 use Rattle.kan_store.specs.Parts.{Parts, Equated, BroughtUp, Carried, Typing, Keeping}

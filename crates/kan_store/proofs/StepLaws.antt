@@ -12,8 +12,7 @@ use Rattle.unify_core.proofs.CycleLaws.{no_cycle_empty}
 use Rattle.std.proofs.lemmas.Bool.{true≢false}
 use Rattle.diseq.specs.Disequalities.{Brought}
 use Rattle.diseq.specs.Among.{Among}
-use Rattle.diseq.specs.Disequalities.{Disequality}
-use Rattle.diseq.specs.Kept.{AreWatched, Disequalities}
+use Rattle.diseq.specs.Kept.{Disequalities}
 use Rattle.kan_model.specs.Stores.Kept.{is_kept}
 use Rattle.kan_model.specs.declared.prims.Kind.{Kind}
 use Rattle.type_absence.specs.Tags.{is_listed}

@@ -1,7 +1,6 @@
-use Rattle.std.proofs.Common.{◌≡◌, ◌∙◌, ◌++◌, ◌∷◌, [], false, rules, map, sym, ap, subst}
+use Rattle.std.proofs.Common.{◌≡◌, ◌++◌, ◌∷◌, [], rules, map}
 use Rattle.kan_model.specs.Stores.Prims.{equation as pair_equation}
 use Rattle.diseq.specs.Chains.{forms}
-use Rattle.diseq.specs.Looking.{LooksAt}
 use Rattle.diseq.specs.Seen.{watchers}
 use Rattle.diseq.proofs.KeptLaws.{looking_off}
 use Rattle.diseq.proofs.watching.Watched.solve_all.Goals as goal
