@@ -1,10 +1,10 @@
 -- The steps of moving what stands on bound variables.
 use Rattle.std.proofs.Common.{◌≡◌, ℕ, zero, suc, ◌+◌, ◌<◌, Bool, true, false, List, [], ◌∷◌, map, drop, length, Option, Some, None, sym, ap, subst, refl, ◌∙◌, arith}
 use Rattle.std.proofs.Math.Seq.{drop-cons}
-use Rattle.std.specs.Prelude.{slice_index_or}
+use Rattle.std.specs.Prelude.{slice_index_or, if◌then◌else◌}
 use Rattle.std.specs.List.{list_all}
 use Rattle.std.proofs.lemmas.Bool.{and_parts, true≢false}
-use Rattle.kan_terms.specs.Tree.{Tree, Tm}
+use Rattle.kan_terms.specs.Tree.{Tree, Tm, occurs}
 use Rattle.kan_terms.specs.Terms.{tree, sides}
 use Rattle.kan_terms.specs.declared.terms.Term.{Term}
 use Rattle.kan_terms.specs.declared.terms.Term.TheVariants.{Var, Sym, Str, Num, Truth, Nil, Pair}
@@ -79,3 +79,35 @@ types_done bound xs shown i old same past = subst (λ ps. TypesMove bound old ps
 
 pub tags_done : (bound : Pairs) (xs shown : List TermPair) (i : ℕ) (old : TagsOf) → shown ≡ xs → (i < length shown → ⊥) → TagsMove bound old (map sides (drop i xs)) (Some old)
 tags_done bound xs shown i old same past = subst (λ ps. TagsMove bound old ps (Some old)) (all_left xs shown i same past) (TagsMove.all_moved (λ v. refl))
+
+-- where no variable has a type, nothing moves
+module _ (bound : Pairs) (old : Types) (none : (v : ℕ) → old v ≡ None) where
+  pub types_stay : (ps : List (Tm × Tm)) → list_all binds_variable ps ≡ true → TypesMove bound old ps (Some old)
+  types_stay [] h = TypesMove.all_moved (λ v. refl)
+  types_stay ((Tree.leaf x, t) ∷ ps) h =
+      TypesMove.moved_one (subst (λ o. MovesTypes old o (walked bound t) (Some old)) (sym (none x)) (λ v. refl))
+      (types_stay ps (and_parts (binds_variable (Tree.leaf x, t)) (list_all binds_variable ps) h).1)
+  types_stay ((Tree.sym s, t) ∷ ps) h = absurd (true≢false (sym (and_parts (binds_variable (Tree.sym s, t)) (list_all binds_variable ps) h).0))
+  types_stay ((Tree.str s, t) ∷ ps) h = absurd (true≢false (sym (and_parts (binds_variable (Tree.str s, t)) (list_all binds_variable ps) h).0))
+  types_stay ((Tree.num n, t) ∷ ps) h = absurd (true≢false (sym (and_parts (binds_variable (Tree.num n, t)) (list_all binds_variable ps) h).0))
+  types_stay ((Tree.truth b, t) ∷ ps) h = absurd (true≢false (sym (and_parts (binds_variable (Tree.truth b, t)) (list_all binds_variable ps) h).0))
+  types_stay ((Tree.nil, t) ∷ ps) h = absurd (true≢false (sym (and_parts (binds_variable (Tree.nil, t)) (list_all binds_variable ps) h).0))
+  types_stay ((Tree.pair a b, t) ∷ ps) h = absurd (true≢false (sym (and_parts (binds_variable (Tree.pair a b, t)) (list_all binds_variable ps) h).0))
+
+if_same : {A : Type 0} (b : Bool) (x : A) → x ≡ (if b then x else x)
+if_same true x = refl
+if_same false x = refl
+
+-- where no variable has a tag, nothing moves
+module _ (bound : Pairs) (old : TagsOf) (none : (v : ℕ) → old v ≡ []) where
+  pub tags_stay : (ps : List (Tm × Tm)) → list_all binds_variable ps ≡ true → TagsMove bound old ps (Some old)
+  tags_stay [] h = TagsMove.all_moved (λ v. refl)
+  tags_stay ((Tree.leaf x, t) ∷ ps) h =
+      TagsMove.moved_one (subst (λ o. GivesTags old o (full bound t) (Some old)) (sym (none x)) (refl, λ v. if_same (occurs v (full bound t)) (old v)))
+      (tags_stay ps (and_parts (binds_variable (Tree.leaf x, t)) (list_all binds_variable ps) h).1)
+  tags_stay ((Tree.sym s, t) ∷ ps) h = absurd (true≢false (sym (and_parts (binds_variable (Tree.sym s, t)) (list_all binds_variable ps) h).0))
+  tags_stay ((Tree.str s, t) ∷ ps) h = absurd (true≢false (sym (and_parts (binds_variable (Tree.str s, t)) (list_all binds_variable ps) h).0))
+  tags_stay ((Tree.num n, t) ∷ ps) h = absurd (true≢false (sym (and_parts (binds_variable (Tree.num n, t)) (list_all binds_variable ps) h).0))
+  tags_stay ((Tree.truth b, t) ∷ ps) h = absurd (true≢false (sym (and_parts (binds_variable (Tree.truth b, t)) (list_all binds_variable ps) h).0))
+  tags_stay ((Tree.nil, t) ∷ ps) h = absurd (true≢false (sym (and_parts (binds_variable (Tree.nil, t)) (list_all binds_variable ps) h).0))
+  tags_stay ((Tree.pair a b, t) ∷ ps) h = absurd (true≢false (sym (and_parts (binds_variable (Tree.pair a b, t)) (list_all binds_variable ps) h).0))

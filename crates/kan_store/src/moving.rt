@@ -23,6 +23,9 @@ pub fn move_types<B: Bindings>(
     ensures { IfOk result (λ fits. TypesMove (B.pairs bindings.now) (types kinds.old)
         (map sides added.now) (made_if fits (types kinds.new))) }
 {
+    if kinds.is_untouched() {
+        return Ok(true);
+    }
     for pair in added.items() {
         let Term::Var(var) = &pair.first else {
             unreachable!()
@@ -46,6 +49,9 @@ pub fn move_tags<B: Bindings>(
     ensures { IfOk result (λ fits. TagsMove (B.pairs bindings.now) (tags absences.old)
         (map sides added.now) (made_if fits (tags absences.new))) }
 {
+    if absences.is_untouched() {
+        return Ok(true);
+    }
     for pair in added.items() {
         let Term::Var(var) = &pair.first else {
             unreachable!()

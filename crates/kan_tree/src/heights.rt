@@ -22,7 +22,8 @@ pub fn fits(key: u64, level: u32) -> bool
 // A node one level higher.
 fn above<T: Again>(alloc: Global, root: Arc<Node<T>>) -> Result<Arc<Node<T>>, Memory>
     ensures { IfOk result (λ up. (level : ℕ) (k : ℕ) →
-        value_below T.meaning (suc level) (arc_value up) k ≡ value_below T.meaning level (arc_value root) k) }
+        value_below T.meaning (suc level) (arc_value up) k ≡
+        value_below T.meaning level (arc_value root) k) }
 {
     let mut slots = Slots::empty(alloc);
     slots.put(0, root)?;

@@ -1,7 +1,7 @@
 //! A tree from variables to values.
 
 ghost use Rattle.std.specs.Prelude.{◌≡◌, ◌<◌, ◌%◌, ℕ, Some, None, eqb, if◌then◌else◌};
-ghost use Rattle.std.specs.Prelude.{OnOk, OnErr, IfOk};
+ghost use Rattle.std.specs.Prelude.{OnOk, OnErr, IfOk, IsTrue};
 ghost use Rattle.std.specs.Option.{option_map};
 ghost use Rattle.kan_tree.specs.Whole.{key_limit};
 ghost use Rattle.kan_tree.specs.Found.{found, within};
@@ -98,6 +98,13 @@ impl<T: Again> VarTree<T> {
             height: self.height,
             alloc: self.alloc,
         })
+    }
+
+    /// Whether no value was ever put. It takes no memory.
+    pub fn is_untouched(&self) -> bool
+        ensures { IsTrue result → (k : ℕ) → found T.meaning self.now k ≡ None }
+    {
+        matches!(self.front, Front::Empty)
     }
 
     /// The value at a key. It takes no memory.

@@ -59,6 +59,13 @@ impl Absences {
         }
     }
 
+    /// Whether no variable ever had a tag. It takes no memory.
+    pub fn is_untouched(&self) -> bool
+        ensures { IsTrue result → (v : ℕ) → tags self.now v ≡ [] }
+    {
+        self.stored.is_untouched()
+    }
+
     /// The tags of a variable, in the order in which they came.
     pub fn of(&self, alloc: Global, var: u64) -> Result<Tags, Memory>
         ensures { IfOk result (λ made. made ≡ tags self.now var) }

@@ -1,6 +1,6 @@
 //! Types of variables.
 
-ghost use Rattle.std.specs.Prelude.{◌≡◌, ℕ, Some, None, eqb, IfOk, OnOk, option_map};
+ghost use Rattle.std.specs.Prelude.{◌≡◌, ℕ, Some, None, eqb, IfOk, IsTrue, OnOk, option_map};
 ghost use Rattle.kan_model.specs.declared.prims.Kind.{Kind};
 ghost use Rattle.kan_model.specs.Stores.Kept.{may_be};
 ghost use Rattle.kan_terms.specs.Terms.{tree};
@@ -71,6 +71,13 @@ impl Kinds {
         Kinds {
             stored: VarTree::empty(alloc),
         }
+    }
+
+    /// Whether no variable ever had a type. It takes no memory.
+    pub fn is_untouched(&self) -> bool
+        ensures { IsTrue result → (v : ℕ) → types self.now v ≡ None }
+    {
+        self.stored.is_untouched()
     }
 
     /// The type of a variable. It takes no memory.

@@ -1,9 +1,9 @@
-use Rattle.std.proofs.Common.{Some, None, true, false, subst, arith, rules}
-use Rattle.kan_terms.specs.Terms.{tree}
+use Rattle.std.proofs.Common.{map, Some, None, true, false, subst, arith, rules}
+use Rattle.kan_terms.specs.Terms.{tree, sides}
 use Rattle.unify_core.specs.Walking.{walked}
 use Rattle.type_absence.specs.Types.{MovesTypes, made_if}
 use Rattle.type_absence.specs.Seen.{types}
-use Rattle.kan_store.proofs.MovingLaws.{never_other, types_go_on, types_end, types_done}
+use Rattle.kan_store.proofs.MovingLaws.{never_other, types_go_on, types_end, types_done, types_stay}
 use Rattle.kan_store.proofs.moving.move_types.Goals as goal
 
 pub unreachable-requires : goal.unreachable-requires
@@ -19,3 +19,6 @@ loop-pair-preserved g c = λ r d. c.loop-pair.invariant r (types_go_on (g.B.Bind
 
 pub returns : goal.returns
 returns g c = c.loop-pair.invariant (Some (types c.loop-pair.kinds)) (types_done (g.B.Bindings.pairs c.args.bindings.now) c.args.added.now c.items-pair-items.result.now c.loop-pair.pair-index (types c.loop-pair.kinds) c.items-pair-items.ensures (λ low. (let past = c.loop-pair-test.false in omega (arith, low, past))))
+
+pub returns-then-is_untouched : goal.returns-then-is_untouched
+returns-then-is_untouched g c = types_stay (g.B.Bindings.pairs c.args.bindings.now) (types c.args.kinds.now) (c.is_untouched.ensures (search rules)) (map sides c.args.added.now) c.requires.binds
