@@ -8,7 +8,7 @@ use Rattle.std.proofs.lemmas.List.{drop_all}
 use Rattle.kan_terms.specs.Tree.{Tree, Tm}
 use Rattle.kan_terms.specs.Terms.{sides, tree}
 use Rattle.kan_terms.specs.declared.terms.TermPair.{TermPair}
-use Rattle.kan_tree.specs.Found.{found}
+use Rattle.kan_tree.specs.UnderKeys.{under_key}
 use Rattle.kan_model.specs.Stores.Kept.{is_variable}
 use Rattle.unify_core.specs.Walking.{Pairs, ends}
 use Rattle.unify_core.specs.Cycles.{HasNoCycle}
@@ -63,10 +63,10 @@ has_watcher bound (e ∷ es) h = by e.left h
     by (Tree.pair a b) h = cc
 
 -- what a variable watches, where a chain was put
-module _ (old new : Watched) (x : ℕ) (fs : List Disequality) (put : (k : ℕ) → found forms new.chains k ≡ (if eqb k x then Some fs else found forms old.chains k)) where
+module _ (old new : Watched) (x : ℕ) (fs : List Disequality) (put : (k : ℕ) → under_key forms new.chains k ≡ (if eqb k x then Some fs else under_key forms old.chains k)) where
   at_key : (y : ℕ) (c : Bool) → eqb y x ≡ c → watchers new y ≡ (if c then fs else watchers old y)
-  at_key y true e = ap (λ o. unwrap_or o []) (put y ∙ ap (λ c. if c then Some fs else found forms old.chains y) e)
-  at_key y false e = ap (λ o. unwrap_or o []) (put y ∙ ap (λ c. if c then Some fs else found forms old.chains y) e)
+  at_key y true e = ap (λ o. unwrap_or o []) (put y ∙ ap (λ c. if c then Some fs else under_key forms old.chains y) e)
+  at_key y false e = ap (λ o. unwrap_or o []) (put y ∙ ap (λ c. if c then Some fs else under_key forms old.chains y) e)
 
   -- one more
   pub put_behind : (es : Disequality) → fs ≡ watchers old x ++ es ∷ [] → IsPut (watchers old) x es (watchers new)

@@ -7,14 +7,14 @@ use Rattle.kan_terms.proofs.TreeLaws.{term_eq-true}
 use Rattle.kan_model.specs.Stores.Store.{Equation}
 use Rattle.kan_model.specs.Stores.Kept.{is_variable}
 use Rattle.kan_model.specs.Stores.Unifiers.{Unifies}
-use Rattle.unify_core.specs.Walking.{Pairs, walked, full, ends, go_on}
+use Rattle.unify_core.specs.Walking.{Pairs, walk, full, ends, go_on}
 use Rattle.unify_core.specs.Cycles.{HasNoCycle}
 use Rattle.unify_core.specs.Solutions.{AddedTo, IsSolution, equation}
 use Rattle.unify_core.specs.Unifying.{Unifying}
 use Rattle.unify_core.specs.Laws.{added_equations}
 use Rattle.unify_core.proofs.CycleLaws.{grown}
 use Rattle.unify_core.proofs.Grown.{Grown, ends-unbound}
-use Rattle.unify_core.proofs.WalkLaws.{full-walked, walked-twice}
+use Rattle.unify_core.proofs.WalkLaws.{full-walk, walk-twice}
 use Rattle.unify_core.proofs.UnifyingLaws.{full-apart, unifying_makes}
 use Rattle.unify_core.proofs.AddedLaws.{added_solve}
 use Rattle.diseq.specs.Disequalities.{Disequality, has_same_sides, is_identical}
@@ -56,21 +56,21 @@ other_variable : (x : ℕ) (t : Tm) → t ≢ Tree.leaf x → is_variable x t �
 other_variable x t other = false_from_ne_true (is_variable x t) (λ h. other (variable_is x t h))
 
 -- the two parts of being apart
-pub apart_parts : (bound : Pairs) (x : ℕ) (t : Tm) → is_apart bound (Tree.leaf x) t ≡ true → (bound_to x bound ≡ None) × (walked bound t ≢ Tree.leaf x)
+pub apart_parts : (bound : Pairs) (x : ℕ) (t : Tm) → is_apart bound (Tree.leaf x) t ≡ true → (bound_to x bound ≡ None) × (walk bound t ≢ Tree.leaf x)
 apart_parts bound x t h =
-    let (open_, other) = and_parts (is_none (bound_to x bound)) (not (is_variable x (walked bound t))) h in
-    (none_is (bound_to x bound) open_, λ e. true≢false (sym (is_variable-leaf x (walked bound t) e) ∙ not_true (is_variable x (walked bound t)) other))
+    let (open_, other) = and_parts (is_none (bound_to x bound)) (not (is_variable x (walk bound t))) h in
+    (none_is (bound_to x bound) open_, λ e. true≢false (sym (is_variable-leaf x (walk bound t) e) ∙ not_true (is_variable x (walk bound t)) other))
 
-pub apart_both : (bound : Pairs) (x : ℕ) (t : Tm) → bound_to x bound ≡ None → walked bound t ≢ Tree.leaf x → is_apart bound (Tree.leaf x) t ≡ true
+pub apart_both : (bound : Pairs) (x : ℕ) (t : Tm) → bound_to x bound ≡ None → walk bound t ≢ Tree.leaf x → is_apart bound (Tree.leaf x) t ≡ true
 apart_both bound x t none other =
-    and_both (is_none (bound_to x bound)) (not (is_variable x (walked bound t))) (is_none-none (bound_to x bound) none)
-    (not_false (is_variable x (walked bound t)) (other_variable x (walked bound t) other))
+    and_both (is_none (bound_to x bound)) (not (is_variable x (walk bound t))) (is_none-none (bound_to x bound) none)
+    (not_false (is_variable x (walk bound t)) (other_variable x (walk bound t) other))
 
 -- the full values of a variable and a term that are apart differ
 apart_differs : (bound : Pairs) → Grown bound → (x : ℕ) (t : Tm) → is_apart bound (Tree.leaf x) t ≡ true → full bound (Tree.leaf x) ≢ full bound t
 apart_differs bound g x t h e =
     let (none, other) = apart_parts bound x t h in
-    full-apart bound g x (walked bound t) (walked-twice bound g t) other (full-walked bound g t ∙ sym e ∙ ends-unbound bound x none)
+    full-apart bound g x (walk bound t) (walk-twice bound g t) other (full-walk bound g t ∙ sym e ∙ ends-unbound bound x none)
 
 sides_differ : (bound : Pairs) → Grown bound → (a b : Tm) → is_apart bound a b ≡ true → full bound a ≢ full bound b
 sides_differ bound g (Tree.leaf x) t h = apart_differs bound g x t h
@@ -104,15 +104,15 @@ pub added_watchable : (bound : Pairs) → Grown bound → (es : List Equation) (
 added_watchable bound g es p more d =
     let (new, (x, same, none, walks, put), gn, exact) = unifying_makes ℕ bound es (Some (p ∷ more)) d g in
     let (free, out, old) = grown_older ((x, p.1) ∷ bound) more new put gn in
-    let other : walked bound p.1 ≢ Tree.leaf x = λ e. true≢false (sym (leaf_inside bound x p.1 none (sym walks ∙ e)) ∙ out) in
+    let other : walk bound p.1 ≢ Tree.leaf x = λ e. true≢false (sym (leaf_inside bound x p.1 none (sym walks ∙ e)) ∙ out) in
     subst (λ a. is_apart bound a p.1 ≡ true) (sym same) (apart_both bound x p.1 none other)
 
 -- under bindings that were added to, a variable that is no side of an added pair stays apart
-stays_apart_once : (older : Pairs) (y : ℕ) (t : Tm) → walked older t ≡ t → (x : ℕ) (u : Tm) → x ≢ y → t ≢ Tree.leaf x →
-    bound_to x older ≡ None → walked older u ≢ Tree.leaf x → (bound_to x ((y, t) ∷ older) ≡ None) × (walked ((y, t) ∷ older) u ≢ Tree.leaf x)
+stays_apart_once : (older : Pairs) (y : ℕ) (t : Tm) → walk older t ≡ t → (x : ℕ) (u : Tm) → x ≢ y → t ≢ Tree.leaf x →
+    bound_to x older ≡ None → walk older u ≢ Tree.leaf x → (bound_to x ((y, t) ∷ older) ≡ None) × (walk ((y, t) ∷ older) u ≢ Tree.leaf x)
 stays_apart_once older y t walks x u other aside none apart = (
   ap (λ c. if c then Some t else bound_to x older) (ne_eqb x y other) ∙ none,
-  λ e. by (walked older u) apart (sym (ap (λ w. go_on y w (walked older u)) walks) ∙ e),
+  λ e. by (walk older u) apart (sym (ap (λ w. go_on y w (walk older u)) walks) ∙ e),
 )
   where
     choose : (z : ℕ) (c : Bool) → Tree.leaf z ≢ Tree.leaf x → (if c then t else Tree.leaf z) ≢ Tree.leaf x
@@ -138,7 +138,7 @@ or_false true b h = cc
 or_false false b h = (refl, h)
 
 stays_apart : (older : Pairs) (added : List (Tm × Tm)) (new : Pairs) → AddedTo older added new → (x : ℕ) (u : Tm) (es : List Equation) →
-    is_woken added (equation (Tree.leaf x) u ∷ es) ≡ false → bound_to x older ≡ None → walked older u ≢ Tree.leaf x → is_apart new (Tree.leaf x) u ≡ true
+    is_woken added (equation (Tree.leaf x) u ∷ es) ≡ false → bound_to x older ≡ None → walk older u ≢ Tree.leaf x → is_apart new (Tree.leaf x) u ≡ true
 stays_apart older [] new put x u es asleep none apart = subst (λ b. is_apart b (Tree.leaf x) u ≡ true) (sym put) (apart_both older x u none apart)
 stays_apart older (p ∷ more) new (y, same, free, walks, put) x u es asleep none apart =
     let (here, rest) = or_false (watches p.0 (equation (Tree.leaf x) u ∷ es) || watches p.1 (equation (Tree.leaf x) u ∷ es)) (is_woken more (equation (Tree.leaf x) u ∷ es)) asleep in

@@ -1,6 +1,6 @@
 -- What the code's disequalities stand for.
 use Rattle.std.specs.Prelude.{[], List, unwrap_or}
-use Rattle.kan_tree.specs.Found.{found}
+use Rattle.kan_tree.specs.UnderKeys.{under_key}
 use Rattle.diseq.specs.Chains.{forms}
 use Rattle.diseq.specs.Disequalities.{Disequality}
 use Rattle.diseq.specs.Kept.{Disequalities, Watchers}
@@ -9,7 +9,7 @@ use Rattle.diseq.specs.declared.diseqs.Diseqs.{Diseqs}
 
 -- what a variable watches is what is stored at it, and nothing where there is nothing
 abbrev pub watchers : Watched → Watchers
-watchers watched x = unwrap_or (found forms watched.chains x) []
+watchers watched x = unwrap_or (under_key forms watched.chains x) []
 
 -- the disequalities as they were when they were asserted, in the order of assertion
 abbrev pub asserted_in : Diseqs → List Disequality

@@ -6,7 +6,7 @@ use Rattle.std.specs.List.{list_any}
 use Rattle.kan_terms.specs.Tree.{Tree, Tm}
 use Rattle.kan_terms.specs.Bound.{bound_to}
 use Rattle.kan_model.specs.Stores.Kept.{is_variable}
-use Rattle.unify_core.specs.Walking.{Pairs, walked}
+use Rattle.unify_core.specs.Walking.{Pairs, walk}
 use Rattle.diseq.specs.Disequalities.{Disequality}
 
 -- nothing is there
@@ -16,7 +16,7 @@ is_none (Some x) = false
 
 -- an unbound variable that isn't what the term walks to
 abbrev pub is_apart : Pairs → Tm → Tm → Bool
-is_apart bound (Tree.leaf x) t = is_none (bound_to x bound) && not (is_variable x (walked bound t))
+is_apart bound (Tree.leaf x) t = is_none (bound_to x bound) && not (is_variable x (walk bound t))
 is_apart bound _ t = false
 
 -- a disequality is watchable: its first left side is an unbound variable, and isn't what the right

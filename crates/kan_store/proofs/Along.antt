@@ -10,11 +10,11 @@ use Rattle.kan_model.proofs.Solving.WorkLaws.{OneIs}
 use Rattle.kan_model.proofs.Solving.SolveLaws.{solve_by-nothing, solve_by-identical, solve_by-parts, solve_by-substitute}
 use Rattle.kan_model.proofs.Solving.UnifierLaws.{answer_unifies, apply-put_first}
 use Rattle.kan_model.proofs.Solving.CompositionLaws.{compose_is_both, solver_goes_on}
-use Rattle.unify_core.specs.Walking.{Pairs, walked, ends, full}
+use Rattle.unify_core.specs.Walking.{Pairs, walk, ends, full}
 use Rattle.unify_core.specs.Solutions.{AddedTo}
 use Rattle.unify_core.specs.Unifying.{Meeting, met, Unifying}
 use Rattle.unify_core.proofs.Grown.{Grown, full-newest, ends-unbound}
-use Rattle.unify_core.proofs.WalkLaws.{full-walked, walked-end}
+use Rattle.unify_core.proofs.WalkLaws.{full-walk, walk-end}
 use Rattle.unify_core.proofs.SolutionLaws.{solution_of}
 use Rattle.unify_core.proofs.MeetingLaws.{met_says}
 use Rattle.unify_core.proofs.UnifyingLaws.{full-apart, one_ends, unifying_makes, binding_grows}
@@ -79,34 +79,34 @@ along_binding : (bound : Pairs) → Grown bound → (e : Equation) (rest : List 
     Along ((x, t) ∷ bound) others (solve (map (full_sides ((x, t) ∷ bound)) rest)) → Along bound ((Tree.leaf x, t) ∷ others) (solve (map (full_sides bound) (e ∷ rest)))
 along_binding bound g e rest x t others h out (q, found, makes) = (put_first x (full bound t) q, solved, after)
   where
-    says : OneIs x t (walked bound e.left) (walked bound e.right) × (t ≢ Tree.leaf x) × ((y : ℕ) → walked bound e.left ≡ Tree.leaf y → y ≡ x)
+    says : OneIs x t (walk bound e.left) (walk bound e.right) × (t ≢ Tree.leaf x) × ((y : ℕ) → walk bound e.left ≡ Tree.leaf y → y ≡ x)
     says = met_says ⊥ bound e (Meeting.binding x t) h
 
-    stands : (bound_to x bound ≡ None) × (walked bound t ≡ t)
+    stands : (bound_to x bound ≡ None) × (walk bound t ≡ t)
     stands = one_ends bound g e.left e.right x t says.0
 
     variable : full bound (Tree.leaf x) ≡ Tree.leaf x
     variable = ends-unbound bound x stands.0
 
-    one_full : OneIs x t (walked bound e.left) (walked bound e.right) → OneIs x (full bound t) (full bound e.left) (full bound e.right)
-    one_full (inl (l, m)) = inl (sym (full-walked bound g e.left) ∙ ap (full bound) l ∙ variable, sym (full-walked bound g e.right) ∙ ap (full bound) m)
-    one_full (inr (l, m)) = inr (sym (full-walked bound g e.left) ∙ ap (full bound) l, sym (full-walked bound g e.right) ∙ ap (full bound) m ∙ variable)
+    one_full : OneIs x t (walk bound e.left) (walk bound e.right) → OneIs x (full bound t) (full bound e.left) (full bound e.right)
+    one_full (inl (l, m)) = inl (sym (full-walk bound g e.left) ∙ ap (full bound) l ∙ variable, sym (full-walk bound g e.right) ∙ ap (full bound) m)
+    one_full (inr (l, m)) = inr (sym (full-walk bound g e.left) ∙ ap (full bound) l, sym (full-walk bound g e.right) ∙ ap (full bound) m ∙ variable)
 
     turn : (y : ℕ) → full bound e.left ≡ Tree.leaf y → y ≡ x
-    turn y full_is = by (walked bound e.left) refl
+    turn y full_is = by (walk bound e.left) refl
       where
-        by : (w : Tm) → walked bound e.left ≡ w → y ≡ x
+        by : (w : Tm) → walk bound e.left ≡ w → y ≡ x
         by (Tree.leaf z) k =
-            let z_is : full bound e.left ≡ Tree.leaf z = sym (full-walked bound g e.left) ∙ ap (full bound) k ∙ ends-unbound bound z (walked-end bound g e.left z k) in
+            let z_is : full bound e.left ≡ Tree.leaf z = sym (full-walk bound g e.left) ∙ ap (full bound) k ∙ ends-unbound bound z (walk-end bound g e.left z k) in
             let one : Tree.leaf y ≡ Tree.leaf z = sym full_is ∙ z_is in
             let y_is : y ≡ z = cc in
             y_is ∙ says.2 z k
-        by (Tree.sym s) k = let bad : Tree.sym s ≡ Tree.leaf y = sym (ap (full bound) k) ∙ full-walked bound g e.left ∙ full_is in cc
-        by (Tree.str s) k = let bad : Tree.str s ≡ Tree.leaf y = sym (ap (full bound) k) ∙ full-walked bound g e.left ∙ full_is in cc
-        by (Tree.num n) k = let bad : Tree.num n ≡ Tree.leaf y = sym (ap (full bound) k) ∙ full-walked bound g e.left ∙ full_is in cc
-        by (Tree.truth c) k = let bad : Tree.truth c ≡ Tree.leaf y = sym (ap (full bound) k) ∙ full-walked bound g e.left ∙ full_is in cc
-        by Tree.nil k = let bad : Tree.nil ≡ Tree.leaf y = sym (ap (full bound) k) ∙ full-walked bound g e.left ∙ full_is in cc
-        by (Tree.pair c d) k = let bad : Tree.pair (full bound c) (full bound d) ≡ Tree.leaf y = sym (ap (full bound) k) ∙ full-walked bound g e.left ∙ full_is in cc
+        by (Tree.sym s) k = let bad : Tree.sym s ≡ Tree.leaf y = sym (ap (full bound) k) ∙ full-walk bound g e.left ∙ full_is in cc
+        by (Tree.str s) k = let bad : Tree.str s ≡ Tree.leaf y = sym (ap (full bound) k) ∙ full-walk bound g e.left ∙ full_is in cc
+        by (Tree.num n) k = let bad : Tree.num n ≡ Tree.leaf y = sym (ap (full bound) k) ∙ full-walk bound g e.left ∙ full_is in cc
+        by (Tree.truth c) k = let bad : Tree.truth c ≡ Tree.leaf y = sym (ap (full bound) k) ∙ full-walk bound g e.left ∙ full_is in cc
+        by Tree.nil k = let bad : Tree.nil ≡ Tree.leaf y = sym (ap (full bound) k) ∙ full-walk bound g e.left ∙ full_is in cc
+        by (Tree.pair c d) k = let bad : Tree.pair (full bound c) (full bound d) ≡ Tree.leaf y = sym (ap (full bound) k) ∙ full-walk bound g e.left ∙ full_is in cc
 
     does : work left_first (full_sides bound e) ≡ Work.substitute x (full bound t)
     does = substituted (full bound e.left) (full bound e.right) (full bound t) x (one_full says.0) (full-apart bound g x t stands.1 says.1) turn out
@@ -129,8 +129,8 @@ along bound es r Unifying.no_equation g added is =
     nothing_new : (new : Pairs) → AddedTo bound [] new → (t : Tm) → full new t ≡ apply [] (full bound t)
     nothing_new new put t = ap (λ b. full b t) put ∙ sym (fill-leaf (full bound t))
 along bound es r (Unifying.same {e = e} {es = rest} h d) g added is =
-    let same : walked bound e.left ≡ walked bound e.right = met_says ⊥ bound e Meeting.nothing h in
-    let full_same : full bound e.left ≡ full bound e.right = sym (full-walked bound g e.left) ∙ ap (full bound) same ∙ full-walked bound g e.right in
+    let same : walk bound e.left ≡ walk bound e.right = met_says ⊥ bound e Meeting.nothing h in
+    let full_same : full bound e.left ≡ full bound e.right = sym (full-walk bound g e.left) ∙ ap (full bound) same ∙ full-walk bound g e.right in
     let (q, found, makes) = along bound rest r d g added is in (
       q,
       solve_by-identical left_first (full_sides bound e) (map (full_sides bound) rest)
@@ -139,8 +139,8 @@ along bound es r (Unifying.same {e = e} {es = rest} h d) g added is =
     )
 along bound es r (Unifying.parted {e = e} {first = first} {rest = last} {es = rest} h d) g added is =
     let (l, m) = met_says ⊥ bound e (Meeting.parts first last) h in
-    let left_is : full bound e.left ≡ Tree.pair (full bound first.left) (full bound last.left) = sym (full-walked bound g e.left) ∙ ap (full bound) l in
-    let right_is : full bound e.right ≡ Tree.pair (full bound first.right) (full bound last.right) = sym (full-walked bound g e.right) ∙ ap (full bound) m in
+    let left_is : full bound e.left ≡ Tree.pair (full bound first.left) (full bound last.left) = sym (full-walk bound g e.left) ∙ ap (full bound) l in
+    let right_is : full bound e.right ≡ Tree.pair (full bound first.right) (full bound last.right) = sym (full-walk bound g e.right) ∙ ap (full bound) m in
     let (q, found, makes) = along bound (first ∷ last ∷ rest) r d g added is in (
       q,
       ap₂ (λ a b. solve (record { left = a; right = b } ∷ map (full_sides bound) rest)) left_is right_is

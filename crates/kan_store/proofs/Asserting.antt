@@ -14,18 +14,18 @@ use Rattle.kan_model.specs.Answers.Answer.{has_absence}
 use Rattle.kan_model.specs.declared.prims.Kind.{Kind}
 use Rattle.kan_model.specs.declared.prims.Kind.TheVariants.{Symbol, Number, Text}
 use Rattle.kan_model.proofs.Solving.FreshLaws.{equations-append}
-use Rattle.unify_core.specs.Walking.{Pairs, walked, full}
+use Rattle.unify_core.specs.Walking.{Pairs, walk, full}
 use Rattle.unify_core.specs.Solutions.{AddedTo}
 use Rattle.unify_core.specs.Unifying.{Unifying}
 use Rattle.unify_core.proofs.Grown.{Grown}
 use Rattle.unify_core.specs.Cycles.{HasNoCycle}
 use Rattle.unify_core.proofs.CycleLaws.{grown}
-use Rattle.unify_core.proofs.WalkLaws.{full-walked, walked-end}
+use Rattle.unify_core.proofs.WalkLaws.{full-walk, walk-end}
 use Rattle.type_absence.specs.Types.{Types, GivesTypes, same_kind}
 use Rattle.type_absence.specs.Absent.{TagsOf, GivesTag, GivesTags}
 use Rattle.diseq.specs.Disequalities.{Disequality, Brought, is_identical}
 use Rattle.diseq.specs.Kept.{AreWatched, Disequalities}
-use Rattle.kan_store.specs.Asked.{asked}
+use Rattle.kan_store.specs.AskedDifferences.{asked_differences}
 use Rattle.kan_store.specs.InStep.{InStep, TypesInStep, TagsInStep}
 use Rattle.kan_store.specs.Moving.{TypesMove, TagsMove}
 use Rattle.kan_store.proofs.Along.{goes_along, ends_along}
@@ -70,12 +70,12 @@ module _ (bound : Pairs) (types : Types) (tags : TagsOf) (lists : Disequalities)
   -- a variable that has a type isn't bound, so it has no other one
   typed_free : (k : Kind) (v : ℕ) → has_type k s st.prims v ≡ true → bound_to v bound ≡ None
   typed_free k v has =
-      let (a, among, is) = has_type-asked s st.prims k v has in by a is (full-variable bound (walked bound a) v (full-walked bound g a ∙ step.fulls a ∙ is))
+      let (a, among, is) = has_type-asked s st.prims k v has in by a is (full-variable bound (walk bound a) v (full-walk bound g a ∙ step.fulls a ∙ is))
     where
-      by : (a : Tm) → apply s a ≡ Tree.leaf v → (u : ℕ) × (walked bound a ≡ Tree.leaf u) → bound_to v bound ≡ None
+      by : (a : Tm) → apply s a ≡ Tree.leaf v → (u : ℕ) × (walk bound a ≡ Tree.leaf u) → bound_to v bound ≡ None
       by a is (u, walks) =
-          let free = walked-end bound g a u walks in
-          let one : Tree.leaf u ≡ Tree.leaf v = sym (full_leaf u free) ∙ ap (full bound) (sym walks) ∙ full-walked bound g a ∙ step.fulls a ∙ is in
+          let free = walk-end bound g a u walks in
+          let one : Tree.leaf u ≡ Tree.leaf v = sym (full_leaf u free) ∙ ap (full bound) (sym walks) ∙ full-walk bound g a ∙ step.fulls a ∙ is in
           let same : u ≡ v = cc in
           subst (λ w. bound_to w bound ≡ None) same free
         where
@@ -136,19 +136,19 @@ differences-append (Primitive.number a ∷ ps) qs = differences-append ps qs
 differences-append (Primitive.text a ∷ ps) qs = differences-append ps qs
 differences-append (Primitive.absent tag a ∷ ps) qs = differences-append ps qs
 
-asked-append : (ps qs : List (Primitive Tm)) → asked (ps ++ qs) ≡ asked ps ++ asked qs
-asked-append ps qs = ap (map (λ e. e ∷ [])) (differences-append ps qs) ∙ map-append (λ e. e ∷ []) (differences ps) (differences qs)
+asked_differences-append : (ps qs : List (Primitive Tm)) → asked_differences (ps ++ qs) ≡ asked_differences ps ++ asked_differences qs
+asked_differences-append ps qs = ap (map (λ e. e ∷ [])) (differences-append ps qs) ∙ map-append (λ e. e ∷ []) (differences ps) (differences qs)
 
 -- a primitive that is no equation leaves the answer as it is, and one that is no disequality asks none
 same_answer : (st : Store) (p : Primitive Tm) (s : Replacement) → equations (p ∷ []) ≡ [] → solve_store st ≡ Some s → solve_store (with_prim st p) ≡ Some s
 same_answer st p s none h = ap solve (equations-append st.prims (p ∷ []) ∙ ap (λ es. equations st.prims ++ es) none ∙ append-nil (equations st.prims)) ∙ h
 
-same_asked : (bound : Pairs) (ps : List (Primitive Tm)) (p : Primitive Tm) (lists : List Disequality) → asked (p ∷ []) ≡ [] → Brought bound (asked ps) lists → Brought bound (asked (ps ++ p ∷ [])) lists
-same_asked bound ps p lists none d = subst (λ old. Brought bound old lists) (sym (asked-append ps (p ∷ []) ∙ ap (λ es. asked ps ++ es) none ∙ append-nil (asked ps))) d
+same_asked : (bound : Pairs) (ps : List (Primitive Tm)) (p : Primitive Tm) (lists : List Disequality) → asked_differences (p ∷ []) ≡ [] → Brought bound (asked_differences ps) lists → Brought bound (asked_differences (ps ++ p ∷ [])) lists
+same_asked bound ps p lists none d = subst (λ old. Brought bound old lists) (sym (asked_differences-append ps (p ∷ []) ∙ ap (λ es. asked_differences ps ++ es) none ∙ append-nil (asked_differences ps))) d
 
 -- a type that is asked of a term
 abbrev TypingFacts : Kind → Tm → Type 0
-TypingFacts k t = (equations (typing k t ∷ []) ≡ []) × (asked (typing k t ∷ []) ≡ []) × ((s : Replacement) → allows s (typing k t) ≡ may_be k (apply s t))
+TypingFacts k t = (equations (typing k t ∷ []) ≡ []) × (asked_differences (typing k t ∷ []) ≡ []) × ((s : Replacement) → allows s (typing k t) ≡ may_be k (apply s t))
     × ((l : Kind) (a : Tm) → typing l a ≡ typing k t → (l ≡ k) × (a ≡ t)) × ((tag : ℕ) (a : Tm) → Primitive.absent tag a ≡ typing k t → ⊥)
 
 typing_facts : (k : Kind) (t : Tm) → TypingFacts k t
@@ -173,21 +173,21 @@ typing_facts Text t = (refl, refl, λ s. refl, same, λ tag a e. cc)
 
 module _ (bound : Pairs) (types : Types) (tags : TagsOf) (lists : Disequalities) (st : Store) (step : InStep bound types tags lists st) where
   -- where the full value of a term is a variable, the term walks to it
-  walks_there : (t : Tm) (v : ℕ) → apply step.answer t ≡ Tree.leaf v → walked bound t ≡ Tree.leaf v
-  walks_there t v is = by (full-variable bound (walked bound t) v (full-walked bound (g bound types tags lists st step) t ∙ step.fulls t ∙ is))
+  walks_there : (t : Tm) (v : ℕ) → apply step.answer t ≡ Tree.leaf v → walk bound t ≡ Tree.leaf v
+  walks_there t v is = by (full-variable bound (walk bound t) v (full-walk bound (g bound types tags lists st step) t ∙ step.fulls t ∙ is))
     where
-      by : (u : ℕ) × (walked bound t ≡ Tree.leaf u) → walked bound t ≡ Tree.leaf v
+      by : (u : ℕ) × (walk bound t ≡ Tree.leaf u) → walk bound t ≡ Tree.leaf v
       by (u, walks) =
-          let one : Tree.leaf u ≡ Tree.leaf v = sym (full-free bound u (walked-end bound (g bound types tags lists st step) t u walks)) ∙ ap (full bound) (sym walks) ∙ full-walked bound (g bound types tags lists st step) t ∙ step.fulls t ∙ is in
+          let one : Tree.leaf u ≡ Tree.leaf v = sym (full-free bound u (walk-end bound (g bound types tags lists st step) t u walks)) ∙ ap (full bound) (sym walks) ∙ full-walk bound (g bound types tags lists st step) t ∙ step.fulls t ∙ is in
           let same : u ≡ v = cc in
           walks ∙ ap Tree.leaf same
 
-  is_there : (t : Tm) (v : ℕ) → walked bound t ≡ Tree.leaf v → apply step.answer t ≡ Tree.leaf v
-  is_there t v walks = sym (step.fulls t) ∙ sym (full-walked bound (g bound types tags lists st step) t) ∙ ap (full bound) walks ∙ full-free bound v (walked-end bound (g bound types tags lists st step) t v walks)
+  is_there : (t : Tm) (v : ℕ) → walk bound t ≡ Tree.leaf v → apply step.answer t ≡ Tree.leaf v
+  is_there t v walks = sym (step.fulls t) ∙ sym (full-walk bound (g bound types tags lists st step) t) ∙ ap (full bound) walks ∙ full-free bound v (walk-end bound (g bound types tags lists st step) t v walks)
 
-  may_be_there : (k : Kind) (t : Tm) → may_be k (apply step.answer t) ≡ may_be k (walked bound t)
-  may_be_there k t = ap (may_be k) (sym (step.fulls t) ∙ sym (full-walked bound (g bound types tags lists st step) t))
-      ∙ may_be-full k bound (walked bound t) (λ v walks. walked-end bound (g bound types tags lists st step) t v walks)
+  may_be_there : (k : Kind) (t : Tm) → may_be k (apply step.answer t) ≡ may_be k (walk bound t)
+  may_be_there k t = ap (may_be k) (sym (step.fulls t) ∙ sym (full-walk bound (g bound types tags lists st step) t))
+      ∙ may_be-full k bound (walk bound t) (λ v walks. walk-end bound (g bound types tags lists st step) t v walks)
 
   module _ (k : Kind) (t : Tm) where
     abbrev p : Primitive Tm
@@ -199,7 +199,7 @@ module _ (bound : Pairs) (types : Types) (tags : TagsOf) (lists : Disequalities)
     facts : TypingFacts k t
     facts = typing_facts k t
 
-    pub typing_added : (new : Types) → GivesTypes types k (walked bound t) (Some new) → InStep bound new tags lists (with_prim st p)
+    pub typing_added : (new : Types) → GivesTypes types k (walk bound t) (Some new) → InStep bound new tags lists (with_prim st p)
     typing_added new gives = record {
       answer = step.answer;
       no_cycle = step.no_cycle;
@@ -209,11 +209,11 @@ module _ (bound : Pairs) (types : Types) (tags : TagsOf) (lists : Disequalities)
       tagged = tags_more bound tags step.answer st.prims p facts.4 step.tagged;
       differ = same_asked bound st.prims p lists.asserted facts.1 step.differ;
       watched = step.watched;
-      allowed = allowed_more step.answer st.prims p (allowed bound types tags lists st step) (facts.2 step.answer ∙ may_be_there k t ∙ move_may types (Some k) (walked bound t) new gives k refl);
+      allowed = allowed_more step.answer st.prims p (allowed bound types tags lists st step) (facts.2 step.answer ∙ may_be_there k t ∙ move_may types (Some k) (walk bound t) new gives k refl);
     }
       where
         come : (v : ℕ) → bound_to v bound ≡ None → (l : Kind) → new v ≡ Some l → has_type l step.answer longer v ≡ true
-        come v free l has = elim (move_cases types (Some k) (walked bound t) new gives v l has) [
+        come v free l has = elim (move_cases types (Some k) (walk bound t) new gives v l has) [
           | inl before ↦ has_before step.answer st.prims p l v ((step.typed v free l).0 before)
           | inr (is, walks) ↦ (
               let same : k ≡ l = cc in
@@ -222,22 +222,22 @@ module _ (bound : Pairs) (types : Types) (tags : TagsOf) (lists : Disequalities)
 
         asked_at : (v : ℕ) → bound_to v bound ≡ None → (l : Kind) → has_type l step.answer longer v ≡ true → new v ≡ Some l
         asked_at v free l has = let (a, among, is) = has_type-asked step.answer longer l v has in elim (among-cases (typing l a) p st.prims among) [
-          | inl before ↦ move_keeps types (Some k) (walked bound t) new gives v l ((step.typed v free l).1 (has_type-from step.answer st.prims l v a before is))
+          | inl before ↦ move_keeps types (Some k) (walk bound t) new gives v l ((step.typed v free l).1 (has_type-from step.answer st.prims l v a before is))
           | inr last ↦ (
               let (same, term) = facts.3 l a last in
-              move_puts types (Some k) (walked bound t) new gives v l (ap Some (sym same)) (walks_there t v (ap (apply step.answer) (sym term) ∙ is)))
+              move_puts types (Some k) (walk bound t) new gives v l (ap Some (sym same)) (walks_there t v (ap (apply step.answer) (sym term) ∙ is)))
         ]
 
-    pub typing_fails : GivesTypes types k (walked bound t) None → is_kept (with_prim st p) ≡ false
-    typing_fails gives = not_kept (with_prim st p) step.answer (same_answer st p step.answer facts.0 step.solved) (λ allowed one. by allowed one (move_stuck types (Some k) (walked bound t) gives))
+    pub typing_fails : GivesTypes types k (walk bound t) None → is_kept (with_prim st p) ≡ false
+    typing_fails gives = not_kept (with_prim st p) step.answer (same_answer st p step.answer facts.0 step.solved) (λ allowed one. by allowed one (move_stuck types (Some k) (walk bound t) gives))
       where
-        by : Allowed step.answer longer → OneType step.answer longer → Stuck types (Some k) (walked bound t) → ⊥
+        by : Allowed step.answer longer → OneType step.answer longer → Stuck types (Some k) (walk bound t) → ⊥
         by allowed one (l, is, inl atom) =
             let same : k ≡ l = cc in
-            true≢false (sym (allowed p (among-last p st.prims)) ∙ facts.2 step.answer ∙ may_be_there k t ∙ subst (λ m. may_be m (walked bound t) ≡ false) (sym same) atom)
+            true≢false (sym (allowed p (among-last p st.prims)) ∙ facts.2 step.answer ∙ may_be_there k t ∙ subst (λ m. may_be m (walk bound t) ≡ false) (sym same) atom)
         by allowed one (l, is, inr (y, m, walks, there, differ)) =
             let same : k ≡ l = cc in
-            let free = walked-end bound (g bound types tags lists st step) t y walks in
+            let free = walk-end bound (g bound types tags lists st step) t y walks in
             let other = has_before step.answer st.prims p m y ((step.typed y free m).0 there) in
             let one_kind : k ≡ m = one y k m (has_type-from step.answer longer k y t (among-last p st.prims) (is_there t y walks)) other in
             true≢false (sym (same_kind-same k) ∙ ap (same_kind k) one_kind ∙ subst (λ n. same_kind n m ≡ false) (sym same) differ)
@@ -343,9 +343,9 @@ module _ (bound : Pairs) (types : Types) (tags : TagsOf) (lists : Disequalities)
       fulls = step.fulls;
       typed = types_more bound types step.answer st.prims q (no_typing_differ a b) step.typed;
       tagged = tags_more bound tags step.answer st.prims q (λ tag c x. cc) step.tagged;
-      differ = subst (λ old. Brought bound old new.asserted) (sym (asked-append st.prims (q ∷ [])))
-          (laws.goes_on bound [] bound (asked st.prims ++ (e ∷ []) ∷ []) (lists.asserted ++ (e ∷ []) ∷ []) new.asserted refl
-          (laws.joined bound (asked st.prims) lists.asserted ((e ∷ []) ∷ []) ((e ∷ []) ∷ []) step.differ (laws.stays bound ((e ∷ []) ∷ []))) brought);
+      differ = subst (λ old. Brought bound old new.asserted) (sym (asked_differences-append st.prims (q ∷ [])))
+          (laws.goes_on bound [] bound (asked_differences st.prims ++ (e ∷ []) ∷ []) (lists.asserted ++ (e ∷ []) ∷ []) new.asserted refl
+          (laws.joined bound (asked_differences st.prims) lists.asserted ((e ∷ []) ∷ []) ((e ∷ []) ∷ []) step.differ (laws.stays bound ((e ∷ []) ∷ []))) brought);
       watched = watched;
       allowed = allowed_more step.answer st.prims q (allowed bound types tags lists st step)
           (false_allowed (term_eq (apply step.answer a) (apply step.answer b)) (ap₂ term_eq (sym (step.fulls a)) (sym (step.fulls b)) ∙ apart));
@@ -397,8 +397,8 @@ module _ (bound : Pairs) (types : Types) (tags : TagsOf) (lists : Disequalities)
           not_true false h = refl
 
       -- all that was asked, under the longer bindings
-      brought_on : Brought new (asked st.prims) lists.asserted
-      brought_on = laws.goes_on bound added new (asked st.prims) lists.asserted lists.asserted put step.differ (laws.stays new lists.asserted)
+      brought_on : Brought new (asked_differences st.prims) lists.asserted
+      brought_on = laws.goes_on bound added new (asked_differences st.prims) lists.asserted lists.asserted put step.differ (laws.stays new lists.asserted)
 
       pub same_differs_fail : list_any (is_identical new) lists.asserted ≡ true → is_kept (with_prim st r) ≡ false
       same_differs_fail identical = not_kept (with_prim st r) on.0 solved_on (λ allowed one.
@@ -418,7 +418,7 @@ module _ (bound : Pairs) (types : Types) (tags : TagsOf) (lists : Disequalities)
         fulls = on.2;
         typed = types_more new types' on.0 st.prims r (no_typing_same a b) typed_on.0;
         tagged = tags_more new tags' on.0 st.prims r (λ tag c x. cc) tagged_on.0;
-        differ = same_asked new st.prims r lists'.asserted refl (subst (λ ds. Brought new (asked st.prims) ds) (sym stay) brought_on);
+        differ = same_asked new st.prims r lists'.asserted refl (subst (λ ds. Brought new (asked_differences st.prims) ds) (sym stay) brought_on);
         watched = watched;
         allowed = allowed_more on.0 st.prims r each refl;
       }

@@ -10,7 +10,7 @@ use Rattle.kan_model.specs.Stores.Unifiers.{Unifies}
 use Rattle.unify_core.specs.Walking.{Pairs, ends, full}
 use Rattle.unify_core.proofs.Grown.{Grown}
 use Rattle.diseq.specs.Disequalities.{Disequality, is_identical, has_same_sides, Brought}
-use Rattle.kan_store.specs.Asked.{asked}
+use Rattle.kan_store.specs.AskedDifferences.{asked_differences}
 use Rattle.diseq.specs.Among.{Among}
 use Rattle.kan_store.proofs.AddedLaws.{ends-solve}
 
@@ -55,42 +55,42 @@ module _ (bound : Pairs) (g : Grown bound) where
       let (es, a, is) = one_identical more left d h in (es, inr a, is)
 
 -- a disequality of a store is one of those that it asks
-pub among-asked : (ps : List (Primitive Tm)) (a b : Tm) → Among (Primitive.differ a b) ps → Among (record { left = a; right = b } ∷ []) (asked ps)
-among-asked [] a b none = absurd none
-among-asked (p ∷ ps) a b (inl is) = subst (λ q. Among (record { left = a; right = b } ∷ []) (asked (q ∷ ps))) (sym is) (inl refl)
-among-asked (Primitive.differ c d ∷ ps) a b (inr m) = inr (among-asked ps a b m)
-among-asked (Primitive.same c d ∷ ps) a b (inr m) = among-asked ps a b m
-among-asked (Primitive.symbol c ∷ ps) a b (inr m) = among-asked ps a b m
-among-asked (Primitive.number c ∷ ps) a b (inr m) = among-asked ps a b m
-among-asked (Primitive.text c ∷ ps) a b (inr m) = among-asked ps a b m
-among-asked (Primitive.absent t c ∷ ps) a b (inr m) = among-asked ps a b m
+pub among-asked_differences : (ps : List (Primitive Tm)) (a b : Tm) → Among (Primitive.differ a b) ps → Among (record { left = a; right = b } ∷ []) (asked_differences ps)
+among-asked_differences [] a b none = absurd none
+among-asked_differences (p ∷ ps) a b (inl is) = subst (λ q. Among (record { left = a; right = b } ∷ []) (asked_differences (q ∷ ps))) (sym is) (inl refl)
+among-asked_differences (Primitive.differ c d ∷ ps) a b (inr m) = inr (among-asked_differences ps a b m)
+among-asked_differences (Primitive.same c d ∷ ps) a b (inr m) = among-asked_differences ps a b m
+among-asked_differences (Primitive.symbol c ∷ ps) a b (inr m) = among-asked_differences ps a b m
+among-asked_differences (Primitive.number c ∷ ps) a b (inr m) = among-asked_differences ps a b m
+among-asked_differences (Primitive.text c ∷ ps) a b (inr m) = among-asked_differences ps a b m
+among-asked_differences (Primitive.absent t c ∷ ps) a b (inr m) = among-asked_differences ps a b m
 
 abbrev pub IsAsked : List (Primitive Tm) → Disequality → Type 0
 IsAsked ps es = (a : Tm) × (b : Tm) × Among (Primitive.differ a b) ps × (es ≡ record { left = a; right = b } ∷ [])
 
-pub asked-among : (ps : List (Primitive Tm)) (es : Disequality) → Among es (asked ps) → IsAsked ps es
-asked-among [] es none = absurd none
-asked-among (Primitive.differ c d ∷ ps) es (inl is) = (c, d, inl refl, sym is)
-asked-among (Primitive.differ c d ∷ ps) es (inr m) = let (a, b, among, is) = asked-among ps es m in (a, b, inr among, is)
-asked-among (Primitive.same c d ∷ ps) es m = let (a, b, among, is) = asked-among ps es m in (a, b, inr among, is)
-asked-among (Primitive.symbol c ∷ ps) es m = let (a, b, among, is) = asked-among ps es m in (a, b, inr among, is)
-asked-among (Primitive.number c ∷ ps) es m = let (a, b, among, is) = asked-among ps es m in (a, b, inr among, is)
-asked-among (Primitive.text c ∷ ps) es m = let (a, b, among, is) = asked-among ps es m in (a, b, inr among, is)
-asked-among (Primitive.absent t c ∷ ps) es m = let (a, b, among, is) = asked-among ps es m in (a, b, inr among, is)
+pub asked_differences-among : (ps : List (Primitive Tm)) (es : Disequality) → Among es (asked_differences ps) → IsAsked ps es
+asked_differences-among [] es none = absurd none
+asked_differences-among (Primitive.differ c d ∷ ps) es (inl is) = (c, d, inl refl, sym is)
+asked_differences-among (Primitive.differ c d ∷ ps) es (inr m) = let (a, b, among, is) = asked_differences-among ps es m in (a, b, inr among, is)
+asked_differences-among (Primitive.same c d ∷ ps) es m = let (a, b, among, is) = asked_differences-among ps es m in (a, b, inr among, is)
+asked_differences-among (Primitive.symbol c ∷ ps) es m = let (a, b, among, is) = asked_differences-among ps es m in (a, b, inr among, is)
+asked_differences-among (Primitive.number c ∷ ps) es m = let (a, b, among, is) = asked_differences-among ps es m in (a, b, inr among, is)
+asked_differences-among (Primitive.text c ∷ ps) es m = let (a, b, among, is) = asked_differences-among ps es m in (a, b, inr among, is)
+asked_differences-among (Primitive.absent t c ∷ ps) es m = let (a, b, among, is) = asked_differences-among ps es m in (a, b, inr among, is)
 
 -- no disequality of the store has identical sides
 abbrev pub DiffersAllowed : Replacement → List (Primitive Tm) → Type 0
 DiffersAllowed s ps = (a b : Tm) → Among (Primitive.differ a b) ps → term_eq (apply s a) (apply s b) ≡ false
 
-module _ (bound : Pairs) (g : Grown bound) (s : Replacement) (makes : (t : Tm) → full bound t ≡ apply s t) (ps : List (Primitive Tm)) (lists : List Disequality) (brought : Brought bound (asked ps) lists) where
+module _ (bound : Pairs) (g : Grown bound) (s : Replacement) (makes : (t : Tm) → full bound t ≡ apply s t) (ps : List (Primitive Tm)) (lists : List Disequality) (brought : Brought bound (asked_differences ps) lists) where
   pub differs_allowed : list_any (is_identical bound) lists ≡ false → DiffersAllowed s ps
   differs_allowed h a b among = false_from_ne_true (term_eq (apply s a) (apply s b)) (λ same.
       true≢false (sym (unifies-identical bound (record { left = a; right = b } ∷ []) (makes a ∙ term_eq-true (apply s a) (apply s b) same ∙ sym (makes b), tt))
-      ∙ none_identical bound g (asked ps) lists brought h (record { left = a; right = b } ∷ []) (among-asked ps a b among)))
+      ∙ none_identical bound g (asked_differences ps) lists brought h (record { left = a; right = b } ∷ []) (among-asked_differences ps a b among)))
 
   pub differs_fail : list_any (is_identical bound) lists ≡ true → DiffersAllowed s ps → ⊥
   differs_fail h allowed =
-      let (es, m, identical) = one_identical bound g (asked ps) lists brought h in
-      let (a, b, among, is) = asked-among ps es m in
+      let (es, m, identical) = one_identical bound g (asked_differences ps) lists brought h in
+      let (a, b, among, is) = asked_differences-among ps es m in
       let (same, _) = identical-unifies bound (record { left = a; right = b } ∷ []) (subst (λ x. is_identical bound x ≡ true) is identical) in
       true≢false (sym (eq-term_eq (apply s a) (apply s b) (sym (makes a) ∙ same ∙ makes b)) ∙ allowed a b among)

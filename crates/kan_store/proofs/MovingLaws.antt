@@ -9,7 +9,7 @@ use Rattle.kan_terms.specs.Terms.{tree, sides}
 use Rattle.kan_terms.specs.declared.terms.Term.{Term}
 use Rattle.kan_terms.specs.declared.terms.Term.TheVariants.{Var, Sym, Str, Num, Truth, Nil, Pair}
 use Rattle.kan_terms.specs.declared.terms.TermPair.{TermPair}
-use Rattle.unify_core.specs.Walking.{Pairs, walked, full}
+use Rattle.unify_core.specs.Walking.{Pairs, walk, full}
 use Rattle.type_absence.specs.Types.{Types, MovesTypes}
 use Rattle.type_absence.specs.Absent.{TagsOf, GivesTags}
 use Rattle.kan_store.specs.Moving.{TypesMove, TagsMove, binds_variable}
@@ -62,10 +62,10 @@ pub all_left : (xs shown : List TermPair) (i : ℕ) → shown ≡ xs → (i < le
 all_left xs shown i same past = ap (map sides) (sym (none_left shown i past)) ∙ ap (λ ys. map sides (drop i ys)) same
 
 module _ (bound : Pairs) (xs shown : List TermPair) (i : ℕ) (item : TermPair) (x : ℕ) (same : shown ≡ xs) (low : i < length shown) (is : item ≡ slice_index_or shown i item) (var : item.first ≡ Var x) where
-  pub types_go_on : (old mid : Types) (r : Option Types) → MovesTypes old (old x) (walked bound (tree item.rest)) (Some mid) → TypesMove bound mid (map sides (drop (i + 1) xs)) r → TypesMove bound old (map sides (drop i xs)) r
+  pub types_go_on : (old mid : Types) (r : Option Types) → MovesTypes old (old x) (walk bound (tree item.rest)) (Some mid) → TypesMove bound mid (map sides (drop (i + 1) xs)) r → TypesMove bound old (map sides (drop i xs)) r
   types_go_on old mid r one d = subst (λ ps. TypesMove bound old ps r) (next_pairs xs shown i item x same low is var) (TypesMove.moved_one one d)
 
-  pub types_end : (old : Types) → MovesTypes old (old x) (walked bound (tree item.rest)) None → TypesMove bound old (map sides (drop i xs)) None
+  pub types_end : (old : Types) → MovesTypes old (old x) (walk bound (tree item.rest)) None → TypesMove bound old (map sides (drop i xs)) None
   types_end old one = subst (λ ps. TypesMove bound old ps None) (next_pairs xs shown i item x same low is var) (TypesMove.not_moved one)
 
   pub tags_go_on : (old mid : TagsOf) (r : Option TagsOf) → GivesTags old (old x) (full bound (tree item.rest)) (Some mid) → TagsMove bound mid (map sides (drop (i + 1) xs)) r → TagsMove bound old (map sides (drop i xs)) r
@@ -85,7 +85,7 @@ module _ (bound : Pairs) (old : Types) (none : (v : ℕ) → old v ≡ None) whe
   pub types_stay : (ps : List (Tm × Tm)) → list_all binds_variable ps ≡ true → TypesMove bound old ps (Some old)
   types_stay [] h = TypesMove.all_moved (λ v. refl)
   types_stay ((Tree.leaf x, t) ∷ ps) h =
-      TypesMove.moved_one (subst (λ o. MovesTypes old o (walked bound t) (Some old)) (sym (none x)) (λ v. refl))
+      TypesMove.moved_one (subst (λ o. MovesTypes old o (walk bound t) (Some old)) (sym (none x)) (λ v. refl))
       (types_stay ps (and_parts (binds_variable (Tree.leaf x, t)) (list_all binds_variable ps) h).1)
   types_stay ((Tree.sym s, t) ∷ ps) h = absurd (true≢false (sym (and_parts (binds_variable (Tree.sym s, t)) (list_all binds_variable ps) h).0))
   types_stay ((Tree.str s, t) ∷ ps) h = absurd (true≢false (sym (and_parts (binds_variable (Tree.str s, t)) (list_all binds_variable ps) h).0))

@@ -14,10 +14,10 @@ use Rattle.kan_model.specs.Stores.Calls.{answer, IsFoundFor, WalksTo, IsFree, ki
 use Rattle.kan_model.specs.Answers.Answer.{has_absence}
 use Rattle.kan_model.specs.declared.prims.Kind.{Kind}
 use Rattle.kan_model.specs.declared.prims.Kind.TheVariants.{Symbol, Number, Text}
-use Rattle.unify_core.specs.Walking.{Pairs, walked, full}
+use Rattle.unify_core.specs.Walking.{Pairs, walk, full}
 use Rattle.unify_core.proofs.Grown.{Grown}
 use Rattle.unify_core.proofs.CycleLaws.{grown, no_cycle}
-use Rattle.unify_core.proofs.WalkLaws.{full-walked, walked-end, walked-term}
+use Rattle.unify_core.proofs.WalkLaws.{full-walk, walk-end, walk-term}
 use Rattle.unify_core.proofs.AnswerLaws.{full_unbound}
 use Rattle.type_absence.specs.Tags.{is_listed}
 use Rattle.type_absence.specs.Types.{same_kind}
@@ -123,33 +123,33 @@ module _ (parts : Parts) (st : Store) (step : AreInStep parts st) where
   answer_is = ap (λ o. unwrap_or o []) step.solved
 
   -- what a variable walks to stands for its image
-  walk_variable : (v : ℕ) → IsFoundFor s (image s v) (walked parts.bound (Tree.leaf v))
-  walk_variable v = by (walked parts.bound (Tree.leaf v)) refl (sym (step.fulls (Tree.leaf v)) ∙ sym (full-walked parts.bound g (Tree.leaf v)))
+  walk_variable : (v : ℕ) → IsFoundFor s (image s v) (walk parts.bound (Tree.leaf v))
+  walk_variable v = by (walk parts.bound (Tree.leaf v)) refl (sym (step.fulls (Tree.leaf v)) ∙ sym (full-walk parts.bound g (Tree.leaf v)))
     where
-      by : (w : Tm) → walked parts.bound (Tree.leaf v) ≡ w → image s v ≡ full parts.bound (walked parts.bound (Tree.leaf v)) → IsFoundFor s (image s v) (walked parts.bound (Tree.leaf v))
+      by : (w : Tm) → walk parts.bound (Tree.leaf v) ≡ w → image s v ≡ full parts.bound (walk parts.bound (Tree.leaf v)) → IsFoundFor s (image s v) (walk parts.bound (Tree.leaf v))
       by (Tree.leaf u) is value =
-          let one : image s v ≡ Tree.leaf u = value ∙ ap (full parts.bound) is ∙ full-free parts.bound u (walked-end parts.bound g (Tree.leaf v) u is) in
-          subst (λ i. IsFoundFor s i (walked parts.bound (Tree.leaf v))) (sym one) is
-      by (Tree.sym u) is value = subst (λ i. IsFoundFor s i (walked parts.bound (Tree.leaf v))) (sym (value ∙ ap (full parts.bound) is)) is
-      by (Tree.str u) is value = subst (λ i. IsFoundFor s i (walked parts.bound (Tree.leaf v))) (sym (value ∙ ap (full parts.bound) is)) is
-      by (Tree.num u) is value = subst (λ i. IsFoundFor s i (walked parts.bound (Tree.leaf v))) (sym (value ∙ ap (full parts.bound) is)) is
-      by (Tree.truth u) is value = subst (λ i. IsFoundFor s i (walked parts.bound (Tree.leaf v))) (sym (value ∙ ap (full parts.bound) is)) is
-      by Tree.nil is value = subst (λ i. IsFoundFor s i (walked parts.bound (Tree.leaf v))) (sym (value ∙ ap (full parts.bound) is)) is
+          let one : image s v ≡ Tree.leaf u = value ∙ ap (full parts.bound) is ∙ full-free parts.bound u (walk-end parts.bound g (Tree.leaf v) u is) in
+          subst (λ i. IsFoundFor s i (walk parts.bound (Tree.leaf v))) (sym one) is
+      by (Tree.sym u) is value = subst (λ i. IsFoundFor s i (walk parts.bound (Tree.leaf v))) (sym (value ∙ ap (full parts.bound) is)) is
+      by (Tree.str u) is value = subst (λ i. IsFoundFor s i (walk parts.bound (Tree.leaf v))) (sym (value ∙ ap (full parts.bound) is)) is
+      by (Tree.num u) is value = subst (λ i. IsFoundFor s i (walk parts.bound (Tree.leaf v))) (sym (value ∙ ap (full parts.bound) is)) is
+      by (Tree.truth u) is value = subst (λ i. IsFoundFor s i (walk parts.bound (Tree.leaf v))) (sym (value ∙ ap (full parts.bound) is)) is
+      by Tree.nil is value = subst (λ i. IsFoundFor s i (walk parts.bound (Tree.leaf v))) (sym (value ∙ ap (full parts.bound) is)) is
       by (Tree.pair c d) is value =
-          subst (λ i. IsFoundFor s i (walked parts.bound (Tree.leaf v))) (sym (value ∙ ap (full parts.bound) is))
+          subst (λ i. IsFoundFor s i (walk parts.bound (Tree.leaf v))) (sym (value ∙ ap (full parts.bound) is))
           (subst (λ w. IsFoundFor s (full parts.bound (Tree.pair c d)) w) (sym is) (sym (step.fulls (Tree.pair c d))))
 
-  walk_by : (t : Tm) → WalksTo s t (walked parts.bound t)
+  walk_by : (t : Tm) → WalksTo s t (walk parts.bound t)
   walk_by (Tree.leaf v) = walk_variable v
-  walk_by (Tree.sym v) = walked-term parts.bound (Tree.sym v) (λ y e. cc)
-  walk_by (Tree.str v) = walked-term parts.bound (Tree.str v) (λ y e. cc)
-  walk_by (Tree.num v) = walked-term parts.bound (Tree.num v) (λ y e. cc)
-  walk_by (Tree.truth v) = walked-term parts.bound (Tree.truth v) (λ y e. cc)
-  walk_by Tree.nil = walked-term parts.bound Tree.nil (λ y e. cc)
-  walk_by (Tree.pair a b) = walked-term parts.bound (Tree.pair a b) (λ y e. cc)
+  walk_by (Tree.sym v) = walk-term parts.bound (Tree.sym v) (λ y e. cc)
+  walk_by (Tree.str v) = walk-term parts.bound (Tree.str v) (λ y e. cc)
+  walk_by (Tree.num v) = walk-term parts.bound (Tree.num v) (λ y e. cc)
+  walk_by (Tree.truth v) = walk-term parts.bound (Tree.truth v) (λ y e. cc)
+  walk_by Tree.nil = walk-term parts.bound Tree.nil (λ y e. cc)
+  walk_by (Tree.pair a b) = walk-term parts.bound (Tree.pair a b) (λ y e. cc)
 
-  pub walk_shows : (t : Tm) → WalksTo (answer st) t (walked parts.bound t)
-  walk_shows t = subst (λ r. WalksTo r t (walked parts.bound t)) (sym answer_is) (walk_by t)
+  pub walk_shows : (t : Tm) → WalksTo (answer st) t (walk parts.bound t)
+  walk_shows t = subst (λ r. WalksTo r t (walk parts.bound t)) (sym answer_is) (walk_by t)
 
   -- a variable that stands for itself isn't bound
   free_unbound : (v : ℕ) → IsFree st v → bound_to v parts.bound ≡ None
@@ -185,8 +185,8 @@ tags_show st v tags same tag = (λ c. sym (same tag) ∙ contains-listed tag tag
 
 -- what holds behind a truncation
 module _ (parts : Parts) (st : Store) (step : ∥ AreInStep parts st ∥₁) where
-  pub walk_known : (t : Tm) → WalksTo (answer st) t (walked parts.bound t)
-  walk_known t = walks-known (answer st) t (walked parts.bound t) (∥∥₁_map step (λ i. walk_shows parts st i t))
+  pub walk_known : (t : Tm) → WalksTo (answer st) t (walk parts.bound t)
+  walk_known t = walks-known (answer st) t (walk parts.bound t) (∥∥₁_map step (λ i. walk_shows parts st i t))
 
   pub kind_known : (v : ℕ) → IsFree st v → parts.types v ≡ kind_at st v
   kind_known v free = kind-known (parts.types v) (kind_at st v) (∥∥₁_map step (λ i. kind_shows parts st i v free))

@@ -5,7 +5,7 @@ use Rattle.std.proofs.Math.Logic.{∥∥₁_map}
 use Rattle.std.proofs.lemmas.Bool.{and_from, false_from_ne_true}
 use Rattle.kan_terms.specs.Tree.{Tm}
 use Rattle.unify_core.specs.Cycles.{HasNoCycle}
-use Rattle.unify_core.specs.Walking.{Pairs, walked, full}
+use Rattle.unify_core.specs.Walking.{Pairs, walk, full}
 use Rattle.unify_core.specs.Solutions.{AddedTo, equation}
 use Rattle.unify_core.specs.Unifying.{Unifying}
 use Rattle.type_absence.specs.Types.{Types, GivesTypes, made_if}
@@ -57,7 +57,7 @@ module _ (old : Parts) (a b : Tm) (added : List (Tm × Tm)) (new : Pairs) (unify
       (subst (λ n. AreWatched n parts.lists.asserted parts.lists.watching) (sym bound) watched)
 
 -- a type or an absence was put, or couldn't be
-pub typing_puts : (old : Parts) (kind : Kind) (t : Tm) (types : Types) (fits : Bool) → GivesTypes old.types kind (walked old.bound t) (made_if fits types) → Typing old kind t (made_if fits (record old { types = types }))
+pub typing_puts : (old : Parts) (kind : Kind) (t : Tm) (types : Types) (fits : Bool) → GivesTypes old.types kind (walk old.bound t) (made_if fits types) → Typing old kind t (made_if fits (record old { types = types }))
 typing_puts old kind t types true gives = Typing.typed gives
 typing_puts old kind t types false gives = Typing.not_typed gives
 

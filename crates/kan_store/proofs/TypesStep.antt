@@ -8,10 +8,10 @@ use Rattle.kan_model.specs.Stores.Solve.{Replacement, apply}
 use Rattle.kan_model.specs.Stores.Kept.{may_be, has_type}
 use Rattle.kan_model.specs.declared.prims.Kind.{Kind}
 use Rattle.kan_model.specs.declared.prims.Kind.TheVariants.{Symbol, Number, Text}
-use Rattle.unify_core.specs.Walking.{Pairs, walked, full}
+use Rattle.unify_core.specs.Walking.{Pairs, walk, full}
 use Rattle.unify_core.specs.Solutions.{AddedTo}
 use Rattle.unify_core.proofs.Grown.{Grown}
-use Rattle.unify_core.proofs.WalkLaws.{full-walked, walked-end}
+use Rattle.unify_core.proofs.WalkLaws.{full-walk, walk-end}
 use Rattle.type_absence.specs.Types.{Types, same_kind, no_other, may_have, with_type, MovesTypes}
 use Rattle.kan_store.specs.Moving.{TypesMove}
 use Rattle.kan_store.specs.InStep.{TypesInStep}
@@ -168,42 +168,42 @@ module _ (new : Pairs) (g : Grown new) where
   Bounds more = (x : ℕ) (t : Tm) → Among (Tree.leaf x, t) more → (u : Tm) × (bound_to x new ≡ Some u)
 
   -- what a term walks to isn't bound
-  apart : (t : Tm) (x : ℕ) (u : Tm) → bound_to x new ≡ Some u → walked new t ≡ Tree.leaf x → ⊥
-  apart t x u bound is = let bad : None ≡ Some u = sym (walked-end new g t x is) ∙ bound in cc
+  apart : (t : Tm) (x : ℕ) (u : Tm) → bound_to x new ≡ Some u → walk new t ≡ Tree.leaf x → ⊥
+  apart t x u bound is = let bad : None ≡ Some u = sym (walk-end new g t x is) ∙ bound in cc
 
   pub moves_keep : (old : Types) (more : List (Tm × Tm)) (r : Option Types) → TypesMove new old more r → (final : Types) → r ≡ Some final → (v : ℕ) (k : Kind) → old v ≡ Some k → final v ≡ Some k
   moves_keep old more r (TypesMove.all_moved {new = made} same) final is v k has = let one : made ≡ final = cc in subst (λ f. f v ≡ Some k) one (same v ∙ has)
   moves_keep old more r (TypesMove.moved_one {mid = mid} {x = x} {t = t} {more = rest} one d) final is v k has =
-      moves_keep mid rest r d final is v k (move_keeps old (old x) (walked new t) mid one v k has)
+      moves_keep mid rest r d final is v k (move_keeps old (old x) (walk new t) mid one v k has)
   moves_keep old more r (TypesMove.not_moved one) final is v k has = cc
 
   pub moves_put : (old : Types) (more : List (Tm × Tm)) (r : Option Types) → TypesMove new old more r → (final : Types) → r ≡ Some final → (x : ℕ) (t : Tm) → Among (Tree.leaf x, t) more →
-      (k : Kind) → old x ≡ Some k → ((v : ℕ) → walked new t ≡ Tree.leaf v → final v ≡ Some k) × (may_be k (walked new t) ≡ true)
+      (k : Kind) → old x ≡ Some k → ((v : ℕ) → walk new t ≡ Tree.leaf v → final v ≡ Some k) × (may_be k (walk new t) ≡ true)
   moves_put old more r (TypesMove.all_moved same) final is x t none k has = absurd none
   moves_put old more r (TypesMove.moved_one {mid = mid} {x = y} {t = u} {more = rest} one d) final is x t (inl e) k has =
       let first : Tree.leaf y ≡ Tree.leaf x = ap (λ p. p.0) e in
       let same : y ≡ x = cc in
       let term : u ≡ t = ap (λ p. p.1) e in
       let at : old y ≡ Some k = ap old same ∙ has in (
-        λ v walks. moves_keep mid rest r d final is v k (move_puts old (old y) (walked new u) mid one v k at (ap (walked new) term ∙ walks)),
-        subst (λ w. may_be k (walked new w) ≡ true) term (move_may old (old y) (walked new u) mid one k at),
+        λ v walks. moves_keep mid rest r d final is v k (move_puts old (old y) (walk new u) mid one v k at (ap (walk new) term ∙ walks)),
+        subst (λ w. may_be k (walk new w) ≡ true) term (move_may old (old y) (walk new u) mid one k at),
       )
   moves_put old more r (TypesMove.moved_one {mid = mid} {x = y} {t = u} {more = rest} one d) final is x t (inr a) k has =
-      moves_put mid rest r d final is x t a k (move_keeps old (old y) (walked new u) mid one x k has)
+      moves_put mid rest r d final is x t a k (move_keeps old (old y) (walk new u) mid one x k has)
   moves_put old more r (TypesMove.not_moved one) final is x t a k has = cc
 
   -- where a type comes from: it was there, or a variable brought it
   abbrev pub From : Types → List (Tm × Tm) → ℕ → Kind → Type 0
-  From old more v k = (old v ≡ Some k) ⊎ ((x : ℕ) × (t : Tm) × Among (Tree.leaf x, t) more × (old x ≡ Some k) × (walked new t ≡ Tree.leaf v))
+  From old more v k = (old v ≡ Some k) ⊎ ((x : ℕ) × (t : Tm) × Among (Tree.leaf x, t) more × (old x ≡ Some k) × (walk new t ≡ Tree.leaf v))
 
-  from_before : (old mid : Types) (x : ℕ) (t : Tm) (rest : List (Tm × Tm)) → MovesTypes old (old x) (walked new t) (Some mid) → Bounds rest → (v : ℕ) (k : Kind) → From mid rest v k → From old ((Tree.leaf x, t) ∷ rest) v k
-  from_before old mid x t rest one bounds v k (inl has) = elim (move_cases old (old x) (walked new t) mid one v k has) [
+  from_before : (old mid : Types) (x : ℕ) (t : Tm) (rest : List (Tm × Tm)) → MovesTypes old (old x) (walk new t) (Some mid) → Bounds rest → (v : ℕ) (k : Kind) → From mid rest v k → From old ((Tree.leaf x, t) ∷ rest) v k
+  from_before old mid x t rest one bounds v k (inl has) = elim (move_cases old (old x) (walk new t) mid one v k has) [
     | inl there ↦ inl there
     | inr (at, walks) ↦ inr (x, t, inl refl, at, walks)
   ]
   from_before old mid x t rest one bounds v k (inr (y, u, a, has, walks)) =
       let (w, bound) = bounds y u a in
-      inr (y, u, inr a, sym (move_elsewhere old (old x) (walked new t) mid one y (λ is. apart t y w bound is)) ∙ has, walks)
+      inr (y, u, inr a, sym (move_elsewhere old (old x) (walk new t) mid one y (λ is. apart t y w bound is)) ∙ has, walks)
 
   pub moves_from : (old : Types) (more : List (Tm × Tm)) (r : Option Types) → TypesMove new old more r → Bounds more → (final : Types) → r ≡ Some final → (v : ℕ) (k : Kind) → final v ≡ Some k → From old more v k
   moves_from old more r (TypesMove.all_moved {new = made} same) bounds final is v k has = let one : made ≡ final = cc in inl (sym (same v) ∙ subst (λ f. f v ≡ Some k) (sym one) has)
@@ -214,7 +214,7 @@ module _ (new : Pairs) (g : Grown new) where
   -- why the moves stop
   abbrev pub Stops : Types → List (Tm × Tm) → Type 0
   Stops old more = (x : ℕ) × (t : Tm) × (k : Kind) × Among (Tree.leaf x, t) more × (old x ≡ Some k)
-      × ((may_be k (walked new t) ≡ false) ⊎ ((y : ℕ) × (l : Kind) × (walked new t ≡ Tree.leaf y) × From old more y l × (same_kind k l ≡ false)))
+      × ((may_be k (walk new t) ≡ false) ⊎ ((y : ℕ) × (l : Kind) × (walk new t ≡ Tree.leaf y) × From old more y l × (same_kind k l ≡ false)))
 
   pub moves_stop : (old : Types) (more : List (Tm × Tm)) (r : Option Types) → TypesMove new old more r → Bounds more → r ≡ None → Stops old more
   moves_stop old more r (TypesMove.all_moved same) bounds is = cc
@@ -228,15 +228,15 @@ module _ (new : Pairs) (g : Grown new) where
             u,
             k,
             inr a,
-            sym (move_elsewhere old (old x) (walked new t) mid one y (λ is. apart t y w bound is)) ∙ has,
+            sym (move_elsewhere old (old x) (walk new t) mid one y (λ is. apart t y w bound is)) ∙ has,
             elim why [
               | inl atom ↦ inl atom
               | inr (z, l, walks, from, differ) ↦ inr (z, l, walks, from_before old mid x t rest one (λ y u a. bounds y u (inr a)) z l from, differ)
             ],
           )
-  moves_stop old more r (TypesMove.not_moved {x = x} {t = t} one) bounds is = by (move_stuck old (old x) (walked new t) one)
+  moves_stop old more r (TypesMove.not_moved {x = x} {t = t} one) bounds is = by (move_stuck old (old x) (walk new t) one)
     where
-      by : Stuck old (old x) (walked new t) → Stops old more
+      by : Stuck old (old x) (walk new t) → Stops old more
       by (k, has, inl atom) = (x, t, k, inl refl, has, inl atom)
       by (k, has, inr (y, l, walks, there, differ)) = (x, t, k, inl refl, has, inr (y, l, walks, inl there, differ))
 
@@ -293,22 +293,22 @@ module _ (bound new : Pairs) (added : List (Tm × Tm)) (g : Grown bound) (h : Gr
 
   -- a variable that a term was isn't bound before
   was_free : (a : Tm) (v : ℕ) → apply s a ≡ Tree.leaf v → bound_to v bound ≡ None
-  was_free a v is = by (full-variable bound (walked bound a) v (full-walked bound g a ∙ makes a ∙ is))
+  was_free a v is = by (full-variable bound (walk bound a) v (full-walk bound g a ∙ makes a ∙ is))
     where
-      by : (u : ℕ) × (walked bound a ≡ Tree.leaf u) → bound_to v bound ≡ None
+      by : (u : ℕ) × (walk bound a ≡ Tree.leaf u) → bound_to v bound ≡ None
       by (u, walks) =
-          let free = walked-end bound g a u walks in
-          let one : Tree.leaf u ≡ Tree.leaf v = sym (full-free bound u free) ∙ ap (full bound) (sym walks) ∙ full-walked bound g a ∙ makes a ∙ is in
+          let free = walk-end bound g a u walks in
+          let one : Tree.leaf u ≡ Tree.leaf v = sym (full-free bound u free) ∙ ap (full bound) (sym walks) ∙ full-walk bound g a ∙ makes a ∙ is in
           let same : u ≡ v = cc in
           subst (λ w. bound_to w bound ≡ None) same free
 
   -- what a bound variable walks to, where its full value is a variable
-  leads : (t : Tm) (v : ℕ) → full new t ≡ Tree.leaf v → walked new t ≡ Tree.leaf v
-  leads t v is = by (full-variable new (walked new t) v (full-walked new h t ∙ is))
+  leads : (t : Tm) (v : ℕ) → full new t ≡ Tree.leaf v → walk new t ≡ Tree.leaf v
+  leads t v is = by (full-variable new (walk new t) v (full-walk new h t ∙ is))
     where
-      by : (u : ℕ) × (walked new t ≡ Tree.leaf u) → walked new t ≡ Tree.leaf v
+      by : (u : ℕ) × (walk new t ≡ Tree.leaf u) → walk new t ≡ Tree.leaf v
       by (u, walks) =
-          let one : Tree.leaf u ≡ Tree.leaf v = sym (full-free new u (walked-end new h t u walks)) ∙ ap (full new) (sym walks) ∙ full-walked new h t ∙ is in
+          let one : Tree.leaf u ≡ Tree.leaf v = sym (full-free new u (walk-end new h t u walks)) ∙ ap (full new) (sym walks) ∙ full-walk new h t ∙ is in
           let same : u ≡ v = cc in
           walks ∙ ap Tree.leaf same
 
@@ -320,7 +320,7 @@ module _ (bound new : Pairs) (added : List (Tm × Tm)) (g : Grown bound) (h : Gr
   came old step v free k (inr (x, t, in_added, has, walks)) =
       let (a, among, is) = has_type-asked s ps k x ((step x (added-free bound added new put x t in_added) k).0 has) in
       has_type-from r ps k v a among (further a ∙ ap (full new) is ∙ full-bound new h x t (added-bound bound added new put x t in_added)
-      ∙ sym (full-walked new h t) ∙ ap (full new) walks ∙ full-free new v free)
+      ∙ sym (full-walk new h t) ∙ ap (full new) walks ∙ full-free new v free)
 
   pub types_step : (old final : Types) → TypesInStep bound old s ps → TypesAllowed s ps → TypesMove new old added (Some final) → TypesInStep new final r ps × TypesAllowed r ps
   types_step old final step allowed moves = (λ v free k. (λ has. came old step v free k (moves_from new h old added (Some final) moves bounds final refl v k has), asked v free k), allowed_on)
@@ -356,7 +356,7 @@ module _ (bound new : Pairs) (added : List (Tm × Tm)) (g : Grown bound) (h : Gr
           by u was (Some t) e =
               let in_added = bound-added bound added new put u t (was_free a u was) e in
               let may = (moves_put new h old added (Some final) moves final refl u t in_added k (at u k a among was)).1 in
-              subst (λ w. may_be k w ≡ true) (sym (ap (full new) was ∙ full-bound new h u t e ∙ sym (full-walked new h t))) (may_be-full k new (walked new t) (λ v walks. walked-end new h t v walks) ∙ may)
+              subst (λ w. may_be k w ≡ true) (sym (ap (full new) was ∙ full-bound new h u t e ∙ sym (full-walk new h t))) (may_be-full k new (walk new t) (λ v walks. walk-end new h t v walks) ∙ may)
 
   -- where the moves stop, the store isn't kept
   pub types_stop : (old : Types) → TypesInStep bound old s ps → TypesMove new old added None → TypesAllowed r ps → OneType r ps → ⊥
@@ -365,14 +365,14 @@ module _ (bound new : Pairs) (added : List (Tm × Tm)) (g : Grown bound) (h : Gr
       by : Stops new h old added → ⊥
       by (x, t, k, in_added, has, why) =
           let (a, among, is) = has_type-asked s ps k x ((step x (added-free bound added new put x t in_added) k).0 has) in
-          let value : apply r a ≡ full new (walked new t) = further a ∙ ap (full new) is ∙ full-bound new h x t (added-bound bound added new put x t in_added) ∙ sym (full-walked new h t) in
+          let value : apply r a ≡ full new (walk new t) = further a ∙ ap (full new) is ∙ full-bound new h x t (added-bound bound added new put x t in_added) ∙ sym (full-walk new h t) in
           elim why [
-            | inl atom ↦ (elim (variable-or (walked new t)) [
+            | inl atom ↦ (elim (variable-or (walk new t)) [
               | inl (v, walks) ↦ true≢false (sym (subst (λ w. may_be k w ≡ true) (sym walks) (leaf_may k v)) ∙ atom)
-              | inr other ↦ true≢false (sym (allowed k a among) ∙ ap (may_be k) value ∙ may_be-onward k new (walked new t) other ∙ atom)
+              | inr other ↦ true≢false (sym (allowed k a among) ∙ ap (may_be k) value ∙ may_be-onward k new (walk new t) other ∙ atom)
             ])
             | inr (y, l, walks, from, differ) ↦ (
-                let free = walked-end new h t y walks in
+                let free = walk-end new h t y walks in
                 let same : k ≡ l = one y k l (has_type-from r ps k y a among (value ∙ ap (full new) walks ∙ full-free new y free)) (came old step y free l from) in
                 true≢false (sym (same_kind-same k) ∙ ap (same_kind k) same ∙ differ))
           ]

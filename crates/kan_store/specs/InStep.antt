@@ -16,7 +16,7 @@ use Rattle.type_absence.specs.Types.{Types}
 use Rattle.type_absence.specs.Absent.{TagsOf}
 use Rattle.diseq.specs.Disequalities.{Brought}
 use Rattle.diseq.specs.Kept.{AreWatched, Disequalities}
-use Rattle.kan_store.specs.Asked.{asked}
+use Rattle.kan_store.specs.AskedDifferences.{asked_differences}
 
 -- the types of variables that aren't bound are those that the store's primitives give them
 abbrev pub TypesInStep : Pairs → Types → Replacement → List (Primitive Tm) → Type 0
@@ -43,6 +43,6 @@ pub record InStep (bound : Pairs) (types : Types) (tags : TagsOf) (lists : Diseq
   pub fulls : (t : Tm) → full bound t ≡ apply answer t
   pub typed : TypesInStep bound types answer st.prims
   pub tagged : TagsInStep bound tags answer st.prims
-  pub differ : Brought bound (asked st.prims) lists.asserted
+  pub differ : Brought bound (asked_differences st.prims) lists.asserted
   pub watched : AreWatched bound lists.asserted lists.watching
   pub allowed : list_all (allows answer) st.prims ≡ true

@@ -1,6 +1,6 @@
 pub mod PrimsCode
 pub mod Moving
-pub mod Asked
+pub mod AskedDifferences
 pub mod InStep
 pub mod Parts
 pub mod Held

@@ -2,7 +2,7 @@
 -- bound goes over to its term.
 use Rattle.std.specs.Prelude.{◌≡◌, ℕ, Bool, true, false, List, [], ◌∷◌, Option, Some, None}
 use Rattle.kan_terms.specs.Tree.{Tree, Tm}
-use Rattle.unify_core.specs.Walking.{Pairs, walked, full}
+use Rattle.unify_core.specs.Walking.{Pairs, walk, full}
 use Rattle.type_absence.specs.Types.{Types, MovesTypes}
 use Rattle.type_absence.specs.Absent.{TagsOf, GivesTags}
 
@@ -11,10 +11,10 @@ use Rattle.type_absence.specs.Absent.{TagsOf, GivesTags}
 pub data TypesMove (bound : Pairs) : Types → List (Tm × Tm) → Option Types → Type 0 where
   all_moved : {old new : Types} → ((v : ℕ) → new v ≡ old v) → TypesMove bound old [] (Some new)
   moved_one : {old mid : Types} {x : ℕ} {t : Tm} {more : List (Tm × Tm)} {r : Option Types} →
-      MovesTypes old (old x) (walked bound t) (Some mid) → TypesMove bound mid more r →
+      MovesTypes old (old x) (walk bound t) (Some mid) → TypesMove bound mid more r →
       TypesMove bound old ((Tree.leaf x, t) ∷ more) r
   not_moved : {old : Types} {x : ℕ} {t : Tm} {more : List (Tm × Tm)} →
-      MovesTypes old (old x) (walked bound t) None →
+      MovesTypes old (old x) (walk bound t) None →
       TypesMove bound old ((Tree.leaf x, t) ∷ more) None
 
 -- the same of absences

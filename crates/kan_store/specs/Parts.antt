@@ -8,7 +8,7 @@ use Rattle.kan_model.specs.declared.prims.Kind.{Kind}
 use Rattle.kan_model.specs.declared.prims.Kind.TheVariants.{Symbol, Number, Text}
 use Rattle.kan_model.specs.Programs.Goals.{Primitive}
 use Rattle.unify_core.specs.Cycles.{HasNoCycle}
-use Rattle.unify_core.specs.Walking.{Pairs, walked, full}
+use Rattle.unify_core.specs.Walking.{Pairs, walk, full}
 use Rattle.unify_core.specs.Solutions.{AddedTo, equation}
 use Rattle.unify_core.specs.Unifying.{Unifying}
 use Rattle.unify_core.specs.Laws.{added_equations}
@@ -91,8 +91,8 @@ pub data Carried (old : Parts) (added : List (Tm × Tm)) : Option Parts → Type
 
 -- the parts with a type more
 pub data Typing (old : Parts) (kind : Kind) (t : Tm) : Option Parts → Type 0 where
-  not_typed : GivesTypes old.types kind (walked old.bound t) None → Typing old kind t None
-  typed : {types : Types} → GivesTypes old.types kind (walked old.bound t) (Some types) →
+  not_typed : GivesTypes old.types kind (walk old.bound t) None → Typing old kind t None
+  typed : {types : Types} → GivesTypes old.types kind (walk old.bound t) (Some types) →
       Typing old kind t (Some (record old { types = types }))
 
 -- the parts with an absence more

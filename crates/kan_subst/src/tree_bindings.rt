@@ -24,7 +24,7 @@ impl Model for TreeBindings {
     ghost use Rattle.kan_terms.specs.Greatest.{greatest_bound};
     ghost use Rattle.kan_terms.specs.Terms.{tree};
     ghost use Rattle.kan_terms.specs.Tree.{Tm};
-    ghost use Rattle.kan_tree.specs.Found.{found};
+    ghost use Rattle.kan_tree.specs.UnderKeys.{under_key};
     ghost use Rattle.kan_subst.specs.Pairs.{pairs_code};
 
     ghost Value = { List (ℕ × Tm) };
@@ -33,7 +33,7 @@ impl Model for TreeBindings {
 
     ghost view = { λ bindings. bindings.history.pairs };
 
-    ghost invariant = { λ bindings. ((x : ℕ) → found tree bindings.terms x ≡
+    ghost invariant = { λ bindings. ((x : ℕ) → under_key tree bindings.terms x ≡
         bound_to x bindings.history.pairs)
         × (bindings.greatest ≡ greatest_bound bindings.history.pairs) };
 }

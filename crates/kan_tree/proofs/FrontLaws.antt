@@ -5,7 +5,7 @@ use Rattle.std.specs.Arc.{arc_value}
 use Rattle.std.specs.declared.sync.Arc.{Arc}
 use Rattle.std.specs.declared.alloc.Global.{Global}
 use Rattle.kan_tree.specs.Whole.{value_below}
-use Rattle.kan_tree.specs.Found.{in_link, value_in_front, within}
+use Rattle.kan_tree.specs.UnderKeys.{in_link, value_in_front, within}
 use Rattle.kan_tree.specs.declared.nodes.Node.{Node}
 use Rattle.kan_tree.specs.declared.front.Link.{Link}
 use Rattle.kan_tree.specs.declared.front.Front.{Front}

@@ -3,4 +3,4 @@ pub mod Slots
 pub mod Lending
 pub mod Nodes
 pub mod Whole
-pub mod Found
+pub mod UnderKeys

@@ -4,7 +4,7 @@ ghost use Rattle.std.specs.Prelude.{◌≡◌, ◌<◌, ℕ, IfOk};
 ghost use Rattle.std.specs.Option.{option_map};
 ghost use Rattle.std.specs.Arc.{arc_value};
 ghost use Rattle.kan_tree.specs.Whole.{value_below};
-ghost use Rattle.kan_tree.specs.Found.{within};
+ghost use Rattle.kan_tree.specs.UnderKeys.{within};
 
 use crate::again::Again;
 use crate::heights::fits;

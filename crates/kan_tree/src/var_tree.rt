@@ -4,7 +4,7 @@ ghost use Rattle.std.specs.Prelude.{◌≡◌, ◌<◌, ◌%◌, ℕ, Some, None
 ghost use Rattle.std.specs.Prelude.{OnOk, OnErr, IfOk, IsTrue};
 ghost use Rattle.std.specs.Option.{option_map};
 ghost use Rattle.kan_tree.specs.Whole.{key_limit};
-ghost use Rattle.kan_tree.specs.Found.{found, within};
+ghost use Rattle.kan_tree.specs.UnderKeys.{under_key, within};
 
 use crate::again::Again;
 use crate::front::{Front, Link, find_within};
@@ -34,7 +34,7 @@ pub struct VarTree<T: Drop> {
 
 // A tree where no value waits.
 fn settled_tree<T: Again>(alloc: Global, front: Front<T>, height: u32) -> VarTree<T>
-    ensures same { (k : ℕ) → found T.meaning result k ≡
+    ensures same { (k : ℕ) → under_key T.meaning result k ≡
         within T.meaning 0 (height % 16) front k }
     ensures settled { result.waiting ≡ 0 }
 {
@@ -53,7 +53,7 @@ fn settled<T: Again>(
     waiting: u32,
     height: u32,
 ) -> Result<VarTree<T>, Memory>
-    ensures same { IfOk result (λ made. (k : ℕ) → found T.meaning made k ≡
+    ensures same { IfOk result (λ made. (k : ℕ) → under_key T.meaning made k ≡
         within T.meaning waiting (height % 16) front.now k) }
     ensures settled { IfOk result (λ made. made.waiting ≡ 0) }
 {
@@ -77,7 +77,7 @@ fn settled<T: Again>(
 impl<T: Again> VarTree<T> {
     /// The tree without values, which takes no memory.
     pub fn empty(alloc: Global) -> VarTree<T>
-        ensures { (k : ℕ) → found T.meaning result k ≡ None }
+        ensures { (k : ℕ) → under_key T.meaning result k ≡ None }
     {
         VarTree {
             front: Front::Empty,
@@ -89,8 +89,8 @@ impl<T: Again> VarTree<T> {
 
     /// The tree once more, in the same time for every tree.
     pub fn again(&self) -> Result<VarTree<T>, Memory>
-        ensures { IfOk result (λ copy. (k : ℕ) → found T.meaning copy k ≡
-            found T.meaning self.now k) }
+        ensures { IfOk result (λ copy. (k : ℕ) → under_key T.meaning copy k ≡
+            under_key T.meaning self.now k) }
     {
         Ok(VarTree {
             front: self.front.again()?,
@@ -102,14 +102,14 @@ impl<T: Again> VarTree<T> {
 
     /// Whether no value was ever put. It takes no memory.
     pub fn is_untouched(&self) -> bool
-        ensures { IsTrue result → (k : ℕ) → found T.meaning self.now k ≡ None }
+        ensures { IsTrue result → (k : ℕ) → under_key T.meaning self.now k ≡ None }
     {
         matches!(self.front, Front::Empty)
     }
 
     /// The value at a key. It takes no memory.
     pub fn get(&self, key: u64) -> Option<&T>
-        ensures { option_map (λ value. T.meaning value.now) result ≡ found T.meaning self.now key }
+        ensures { option_map (λ value. T.meaning value.now) result ≡ under_key T.meaning self.now key }
     {
         find_within(&self.front, self.waiting, self.height % 16, key)
     }
@@ -118,7 +118,7 @@ impl<T: Again> VarTree<T> {
     fn grow(&mut self, key: u64) -> Result<(), Memory>
         requires { self.old.waiting ≡ 0 }
         ensures fits { OnOk result (key < key_limit (self.new.height % 16)) }
-        ensures same { (k : ℕ) → found T.meaning self.new k ≡ found T.meaning self.old k }
+        ensures same { (k : ℕ) → under_key T.meaning self.new k ≡ under_key T.meaning self.old k }
         ensures settled { self.new.waiting ≡ 0 }
     {
         let level = self.height % 16;
@@ -141,10 +141,10 @@ impl<T: Again> VarTree<T> {
     fn begin(&mut self, key: u64, value: T) -> Result<(), Memory>
         requires settled { self.old.waiting ≡ 0 }
         requires fits { key < key_limit (self.old.height % 16) }
-        ensures ok { OnOk result ((k : ℕ) → found T.meaning self.new k ≡
+        ensures ok { OnOk result ((k : ℕ) → under_key T.meaning self.new k ≡
             (if eqb k key then Some (T.meaning value) else None)) }
-        ensures err { OnErr result ((k : ℕ) → found T.meaning self.new k ≡
-            found T.meaning self.old k) }
+        ensures err { OnErr result ((k : ℕ) → under_key T.meaning self.new k ≡
+            under_key T.meaning self.old k) }
         ensures settled { self.new.waiting ≡ 0 }
     {
         let node = fresh(self.alloc, self.height % 16, key, value)?;
@@ -155,10 +155,10 @@ impl<T: Again> VarTree<T> {
     // Puts a value at a key into the nodes, where no value waits.
     fn put_in_nodes(&mut self, key: u64, value: T) -> Result<(), Memory>
         requires { self.old.waiting ≡ 0 }
-        ensures ok { OnOk result ((k : ℕ) → found T.meaning self.new k ≡
-            (if eqb k key then Some (T.meaning value) else found T.meaning self.old k)) }
-        ensures err { OnErr result ((k : ℕ) → found T.meaning self.new k ≡
-            found T.meaning self.old k) }
+        ensures ok { OnOk result ((k : ℕ) → under_key T.meaning self.new k ≡
+            (if eqb k key then Some (T.meaning value) else under_key T.meaning self.old k)) }
+        ensures err { OnErr result ((k : ℕ) → under_key T.meaning self.new k ≡
+            under_key T.meaning self.old k) }
         ensures settled { self.new.waiting ≡ 0 }
     {
         self.grow(key)?;
@@ -172,10 +172,10 @@ impl<T: Again> VarTree<T> {
     // Puts a value at a key in front.
     fn put_in_front(&mut self, key: u64, value: T) -> Result<(), Memory>
         requires { self.old.waiting < 100 }
-        ensures ok { OnOk result ((k : ℕ) → found T.meaning self.new k ≡
-            (if eqb k key then Some (T.meaning value) else found T.meaning self.old k)) }
-        ensures err { OnErr result ((k : ℕ) → found T.meaning self.new k ≡
-            found T.meaning self.old k) }
+        ensures ok { OnOk result ((k : ℕ) → under_key T.meaning self.new k ≡
+            (if eqb k key then Some (T.meaning value) else under_key T.meaning self.old k)) }
+        ensures err { OnErr result ((k : ℕ) → under_key T.meaning self.new k ≡
+            under_key T.meaning self.old k) }
     {
         let older = self.front.again()?;
         self.front = Front::Link(Arc::new(self.alloc, Link { key, value, older })?);
@@ -185,7 +185,7 @@ impl<T: Again> VarTree<T> {
 
     // Puts all values that wait into the nodes.
     fn settle(&mut self) -> Result<(), Memory>
-        ensures same { (k : ℕ) → found T.meaning self.new k ≡ found T.meaning self.old k }
+        ensures same { (k : ℕ) → under_key T.meaning self.new k ≡ under_key T.meaning self.old k }
         ensures settled { OnOk result (self.new.waiting ≡ 0) }
     {
         *self = settled(self.alloc, &self.front, self.waiting, self.height)?;
@@ -195,10 +195,10 @@ impl<T: Again> VarTree<T> {
     /// Puts a value at a key, over the one that is there. What nobody else holds is changed in
     /// place, the rest is copied: other trees stay.
     pub fn put(&mut self, key: u64, value: T) -> Result<(), Memory>
-        ensures ok { OnOk result ((k : ℕ) → found T.meaning self.new k ≡
-            (if eqb k key then Some (T.meaning value) else found T.meaning self.old k)) }
-        ensures err { OnErr result ((k : ℕ) → found T.meaning self.new k ≡
-            found T.meaning self.old k) }
+        ensures ok { OnOk result ((k : ℕ) → under_key T.meaning self.new k ≡
+            (if eqb k key then Some (T.meaning value) else under_key T.meaning self.old k)) }
+        ensures err { OnErr result ((k : ℕ) → under_key T.meaning self.new k ≡
+            under_key T.meaning self.old k) }
     {
         if self.waiting >= MOST_WAITING {
             self.settle()?;
@@ -212,8 +212,8 @@ impl<T: Again> VarTree<T> {
 
     /// A tree with a value at a key beside this one, which stays as it was.
     pub fn with(&self, key: u64, value: T) -> Result<VarTree<T>, Memory>
-        ensures { IfOk result (λ made. (k : ℕ) → found T.meaning made k ≡
-            (if eqb k key then Some (T.meaning value) else found T.meaning self.now k)) }
+        ensures { IfOk result (λ made. (k : ℕ) → under_key T.meaning made k ≡
+            (if eqb k key then Some (T.meaning value) else under_key T.meaning self.now k)) }
     {
         let mut made = self.again()?;
         made.put(key, value)?;

@@ -41,14 +41,14 @@ pub(crate) struct Naming {
 
 impl Model for Naming {
     ghost use Rattle.std.specs.Prelude.{◌≡◌, ℕ, List};
-    ghost use Rattle.kan_tree.specs.Found.{found};
+    ghost use Rattle.kan_tree.specs.UnderKeys.{under_key};
     ghost use Rattle.reify.specs.Naming.{name_in, number_of};
 
     ghost Value = { List ℕ };
 
     ghost view = { λ naming. naming.variables.items };
 
-    ghost invariant = { λ naming. (v : ℕ) → found number_of naming.names v
+    ghost invariant = { λ naming. (v : ℕ) → under_key number_of naming.names v
         ≡ name_in naming.variables.items v };
 }
 

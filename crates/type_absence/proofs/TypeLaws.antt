@@ -5,9 +5,9 @@ use Rattle.kan_terms.specs.Tree.{Tree, Tm, Gd, fill}
 use Rattle.kan_model.specs.Stores.Kept.{may_be}
 use Rattle.kan_model.specs.declared.prims.Kind.{Kind}
 use Rattle.kan_model.specs.declared.prims.Kind.TheVariants.{Symbol, Number, Text}
-use Rattle.unify_core.specs.Walking.{walked}
+use Rattle.unify_core.specs.Walking.{walk}
 use Rattle.unify_core.proofs.CycleLaws.{grown}
-use Rattle.unify_core.proofs.SolutionLaws.{fill-walked}
+use Rattle.unify_core.proofs.SolutionLaws.{fill-walk}
 use Rattle.type_absence.specs.Types.{Types, same_kind, no_other, may_have, with_type, GivesTypes, MovesTypes, is_of, Typed}
 use Rattle.type_absence.specs.Laws.{Makes, TypesSolve}
 
@@ -163,7 +163,7 @@ carried f old v w None (Some new) value is same = ((λ typed x k e. typed x k (s
 pub types_solve : TypesSolve
 types_solve = record {
   added = λ bound f old kind t new h solves gives.
-      subst (λ g. Makes (Typed f) (Typed f old × (is_of kind g ≡ true)) new) (fill-walked f bound (grown bound h) solves t) (made f old kind (walked bound t) new gives);
+      subst (λ g. Makes (Typed f) (Typed f old × (is_of kind g ≡ true)) new) (fill-walk f bound (grown bound h) solves t) (made f old kind (walk bound t) new gives);
   moved = λ bound f old v t new h solves value moves.
-      carried f old v (walked bound t) (old v) new (fill-walked f bound (grown bound h) solves t ∙ sym value) refl moves;
+      carried f old v (walk bound t) (old v) new (fill-walk f bound (grown bound h) solves t ∙ sym value) refl moves;
 }

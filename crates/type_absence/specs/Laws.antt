@@ -4,7 +4,7 @@ use Rattle.kan_terms.specs.Tree.{Tm, Gd, fill, has_symbol}
 use Rattle.kan_model.specs.declared.prims.Kind.{Kind}
 use Rattle.unify_core.specs.Cycles.{HasNoCycle}
 use Rattle.unify_core.specs.Solutions.{IsSolution}
-use Rattle.unify_core.specs.Walking.{Pairs, walked, full}
+use Rattle.unify_core.specs.Walking.{Pairs, walk, full}
 use Rattle.type_absence.specs.Types.{Types, GivesTypes, MovesTypes, Typed, is_of}
 use Rattle.type_absence.specs.Absent.{TagsOf, GivesTag, GivesTags, Free}
 use Rattle.type_absence.specs.Tags.{with_tags, is_once}
@@ -20,11 +20,11 @@ Makes Solved Wanted (Some new) = Solved new ↔ Wanted
 pub record TypesSolve : Type 0 where
   pub added : (bound : Pairs) (f : ℕ → Gd) (old : Types) (kind : Kind) (t : Tm)
       (new : Option Types) → HasNoCycle bound → IsSolution f bound →
-      GivesTypes old kind (walked bound t) new →
+      GivesTypes old kind (walk bound t) new →
       Makes (Typed f) (Typed f old × (is_of kind (fill f t) ≡ true)) new
   pub moved : (bound : Pairs) (f : ℕ → Gd) (old : Types) (v : ℕ) (t : Tm) (new : Option Types) →
       HasNoCycle bound → IsSolution f bound → f v ≡ fill f t →
-      MovesTypes old (old v) (walked bound t) new → Makes (Typed f) (Typed f old) new
+      MovesTypes old (old v) (walk bound t) new → Makes (Typed f) (Typed f old) new
 
 -- a tag that stands nowhere in a term under a solution of the bindings; a variable's tags go over
 -- to its term with nothing lost or added

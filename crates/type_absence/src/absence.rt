@@ -11,7 +11,7 @@ ghost use Rattle.type_absence.specs.Tags.{has_any, with_tags};
 ghost use Rattle.type_absence.specs.Waiting.{names_one, put_on, Tagged};
 ghost use Rattle.unify_core.specs.Cycles.{HasNoCycle};
 ghost use Rattle.unify_core.specs.Lent.{parts_of, waiting_trees};
-ghost use Rattle.unify_core.specs.Walking.{full, walked};
+ghost use Rattle.unify_core.specs.Walking.{full, walk};
 
 use crate::tags::{copied, lists, lists_all, put_all};
 use kan_terms::{Bindings, Memory, Tags, Term};
@@ -131,13 +131,13 @@ impl Absences {
     ) -> Result<bool, Memory>
         requires { HasNoCycle (B.pairs bindings.now) }
         ensures found { IfOk result (λ found. found ≡
-            names_one more.now (walked (B.pairs bindings.now) (tree term.now))) }
+            names_one more.now (walk (B.pairs bindings.now) (tree term.now))) }
         ensures waits { IfOk result (λ found. found ≡ false →
             waiting_trees waiting.new.items ≡
-            parts_of (walked (B.pairs bindings.now) (tree term.now)) ++
+            parts_of (walk (B.pairs bindings.now) (tree term.now)) ++
             waiting_trees waiting.old.items) }
         ensures tagged { IfOk result (λ found. found ≡ false → (v : ℕ) → tags self.new v ≡
-            put_on more.now (walked (B.pairs bindings.now) (tree term.now)) (tags self.old) v) }
+            put_on more.now (walk (B.pairs bindings.now) (tree term.now)) (tags self.old) v) }
     {
         let reached = walk(term, bindings);
         if is_one_of(more, reached) {

@@ -8,7 +8,7 @@ ghost use Rattle.type_absence.specs.Seen.{types};
 ghost use Rattle.type_absence.specs.Types.{GivesTypes, MovesTypes, made_if, may_have, no_other};
 ghost use Rattle.type_absence.specs.Types.{same_kind, with_type};
 ghost use Rattle.unify_core.specs.Cycles.{HasNoCycle};
-ghost use Rattle.unify_core.specs.Walking.{walked};
+ghost use Rattle.unify_core.specs.Walking.{walk};
 
 use kan_model::Kind;
 use kan_terms::{Bindings, Memory, Term};
@@ -132,7 +132,7 @@ impl Kinds {
     ) -> Result<bool, Memory>
         requires { HasNoCycle (B.pairs bindings.now) }
         ensures { IfOk result (λ fits. GivesTypes (types self.old) kind
-            (walked (B.pairs bindings.now) (tree term.now)) (made_if fits (types self.new))) }
+            (walk (B.pairs bindings.now) (tree term.now)) (made_if fits (types self.new))) }
     {
         let reached = walk(term, bindings);
         if !self.allow(kind, reached) {
@@ -151,7 +151,7 @@ impl Kinds {
     ) -> Result<Option<Kinds>, Memory>
         requires { HasNoCycle (B.pairs bindings.now) }
         ensures { IfOk result (λ made. GivesTypes (types self) kind
-            (walked (B.pairs bindings.now) (tree term.now)) (option_map types made)) }
+            (walk (B.pairs bindings.now) (tree term.now)) (option_map types made)) }
     {
         let mut made = self;
         if !made.put_on(kind, term, bindings)? {
@@ -169,7 +169,7 @@ impl Kinds {
     ) -> Result<Option<Kinds>, Memory>
         requires { HasNoCycle (B.pairs bindings.now) }
         ensures { IfOk result (λ made. GivesTypes (types self.now) kind
-            (walked (B.pairs bindings.now) (tree term.now)) (option_map types made)) }
+            (walk (B.pairs bindings.now) (tree term.now)) (option_map types made)) }
     {
         self.again()?.add_owned(kind, term, bindings)
     }
@@ -184,7 +184,7 @@ impl Kinds {
     ) -> Result<bool, Memory>
         requires { HasNoCycle (B.pairs bindings.now) }
         ensures { IfOk result (λ fits. MovesTypes (types self.old) (types self.old var)
-            (walked (B.pairs bindings.now) (tree term.now)) (made_if fits (types self.new))) }
+            (walk (B.pairs bindings.now) (tree term.now)) (made_if fits (types self.new))) }
     {
         match self.of(var) {
             Some(kind) => self.put_on(kind, term, bindings),
@@ -201,7 +201,7 @@ impl Kinds {
     ) -> Result<Option<Kinds>, Memory>
         requires { HasNoCycle (B.pairs bindings.now) }
         ensures { IfOk result (λ made. MovesTypes (types self) (types self var)
-            (walked (B.pairs bindings.now) (tree term.now)) (option_map types made)) }
+            (walk (B.pairs bindings.now) (tree term.now)) (option_map types made)) }
     {
         let mut made = self;
         if !made.move_over(var, term, bindings)? {
@@ -219,7 +219,7 @@ impl Kinds {
     ) -> Result<Option<Kinds>, Memory>
         requires { HasNoCycle (B.pairs bindings.now) }
         ensures { IfOk result (λ made. MovesTypes (types self.now) (types self.now var)
-            (walked (B.pairs bindings.now) (tree term.now)) (option_map types made)) }
+            (walk (B.pairs bindings.now) (tree term.now)) (option_map types made)) }
     {
         self.again()?.moved_owned(var, term, bindings)
     }

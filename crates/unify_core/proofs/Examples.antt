@@ -3,7 +3,7 @@ use Rattle.std.specs.Prelude.{◌≡◌, [], ◌∷◌, Some, refl}
 use Rattle.std.proofs.Common.{arith}
 use Rattle.kan_terms.specs.Tree.{Tree}
 use Rattle.kan_model.specs.Stores.Solve.{solve, solve_by, rounds, steps}
-use Rattle.unify_core.specs.Walking.{Pairs, walked, full}
+use Rattle.unify_core.specs.Walking.{Pairs, walk, full}
 use Rattle.unify_core.specs.Cycles.{HasNoCycle}
 use Rattle.unify_core.specs.Solutions.{bindings_solved}
 
@@ -11,10 +11,10 @@ use Rattle.unify_core.specs.Solutions.{bindings_solved}
 abbrev chain : Pairs
 chain = (2, Tree.sym 7) ∷ (1, Tree.pair (Tree.leaf 2) (Tree.leaf 3)) ∷ (0, Tree.leaf 1) ∷ []
 
-example-walked : walked chain (Tree.leaf 0) ≡ Tree.pair (Tree.leaf 2) (Tree.leaf 3)
-example-walked = refl
+example-walk : walk chain (Tree.leaf 0) ≡ Tree.pair (Tree.leaf 2) (Tree.leaf 3)
+example-walk = refl
 
-example-stays : walked chain (Tree.leaf 3) ≡ Tree.leaf 3
+example-stays : walk chain (Tree.leaf 3) ≡ Tree.leaf 3
 example-stays = refl
 
 example-full : full chain (Tree.leaf 0) ≡ Tree.pair (Tree.sym 7) (Tree.leaf 3)

@@ -7,10 +7,10 @@ use Rattle.kan_model.specs.Stores.Store.{Equation}
 use Rattle.kan_model.specs.Stores.Solve.{replace}
 use Rattle.kan_model.specs.Stores.Unifiers.{Unifies}
 use Rattle.kan_model.proofs.Solving.UnifierLaws.{given, fill-replace}
-use Rattle.unify_core.specs.Walking.{Pairs, walked, ends, full}
+use Rattle.unify_core.specs.Walking.{Pairs, walk, ends, full}
 use Rattle.unify_core.specs.Solutions.{IsSolution, bindings_solved, equation}
 use Rattle.unify_core.proofs.Grown.{Grown, full-newest, bound-newest, ends-bound}
-use Rattle.unify_core.proofs.WalkLaws.{full-walked}
+use Rattle.unify_core.proofs.WalkLaws.{full-walk}
 
 -- replacing a variable by a term that has its value changes no value
 pub fill-replace_known : {V : Type 0} (f : ℕ → Tree V) (x : ℕ) (t u : Tm) → f x ≡ fill f t → fill f (replace x t u) ≡ fill f u
@@ -27,8 +27,8 @@ fill-full f (p ∷ older) (here, s) u =
     ap (fill f) (full-newest p older u) ∙ fill-replace_known f p.0 (full older p.1) (full older u) (here ∙ sym (fill-full f older s p.1)) ∙ fill-full f older s u
 
 -- and so have a term and what it walks to
-pub fill-walked : {V : Type 0} (f : ℕ → Tree V) (bound : Pairs) → Grown bound → IsSolution f bound → (u : Tm) → fill f (walked bound u) ≡ fill f u
-fill-walked f bound g s u = sym (fill-full f bound s (walked bound u)) ∙ ap (fill f) (full-walked bound g u) ∙ fill-full f bound s u
+pub fill-walk : {V : Type 0} (f : ℕ → Tree V) (bound : Pairs) → Grown bound → IsSolution f bound → (u : Tm) → fill f (walk bound u) ≡ fill f u
+fill-walk f bound g s u = sym (fill-full f bound s (walk bound u)) ∙ ap (fill f) (full-walk bound g u) ∙ fill-full f bound s u
 
 -- what agrees with a solution is one
 pub IsSolution-same : {V : Type 0} (f h : ℕ → Tree V) → ((v : ℕ) → f v ≡ h v) → (bound : Pairs) → IsSolution f bound → IsSolution h bound

@@ -6,12 +6,12 @@ use Rattle.kan_terms.proofs.TreeLaws.{occurs-cyclic}
 use Rattle.kan_model.specs.Stores.Store.{Equation}
 use Rattle.kan_model.specs.Stores.Unifiers.{Unifies}
 use Rattle.kan_model.proofs.Solving.WorkLaws.{OneIs}
-use Rattle.unify_core.specs.Walking.{Pairs, walked, full}
+use Rattle.unify_core.specs.Walking.{Pairs, walk, full}
 use Rattle.unify_core.specs.Solutions.{IsSolution, AddedTo}
 use Rattle.unify_core.specs.Unifying.{Meeting, met, Unifying}
 use Rattle.unify_core.proofs.Grown.{Grown, ends-unbound}
-use Rattle.unify_core.proofs.WalkLaws.{walked-end, walked-twice}
-use Rattle.unify_core.proofs.SolutionLaws.{fill-full, fill-walked}
+use Rattle.unify_core.proofs.WalkLaws.{walk-end, walk-twice}
+use Rattle.unify_core.proofs.SolutionLaws.{fill-full, fill-walk}
 use Rattle.unify_core.proofs.MeetingLaws.{met_says}
 
 -- with bindings and equations the same fillings as with other ones
@@ -36,8 +36,8 @@ one_same f x t a b (inl (l, r)) = (λ e. ap (fill f) (sym l) ∙ e ∙ ap (fill 
 one_same f x t a b (inr (l, r)) = (λ e. ap (fill f) (sym r) ∙ sym e ∙ ap (fill f) l, λ e. ap (fill f) l ∙ sym e ∙ ap (fill f) (sym r))
 
 -- the full value of a term that walks to itself is no other variable
-pub full-apart : (bound : Pairs) → Grown bound → (x : ℕ) (t : Tm) → walked bound t ≡ t → t ≢ Tree.leaf x → full bound t ≢ Tree.leaf x
-full-apart bound g x (Tree.leaf y) walks other e = other (sym (ends-unbound bound y (walked-end bound g (Tree.leaf y) y walks)) ∙ e)
+pub full-apart : (bound : Pairs) → Grown bound → (x : ℕ) (t : Tm) → walk bound t ≡ t → t ≢ Tree.leaf x → full bound t ≢ Tree.leaf x
+full-apart bound g x (Tree.leaf y) walks other e = other (sym (ends-unbound bound y (walk-end bound g (Tree.leaf y) y walks)) ∙ e)
 full-apart bound g x (Tree.sym s) walks other e = cc
 full-apart bound g x (Tree.str s) walks other e = cc
 full-apart bound g x (Tree.num n) walks other e = cc
@@ -46,17 +46,17 @@ full-apart bound g x Tree.nil walks other e = cc
 full-apart bound g x (Tree.pair a b) walks other e = cc
 
 -- of the two sides of an equation that asks for a binding, the variable isn't bound, and the term walks to itself
-pub one_ends : (bound : Pairs) → Grown bound → (a b : Tm) (x : ℕ) (t : Tm) → OneIs x t (walked bound a) (walked bound b) → (bound_to x bound ≡ None) × (walked bound t ≡ t)
-one_ends bound g a b x t (inl (l, r)) = (walked-end bound g a x l, ap (walked bound) (sym r) ∙ walked-twice bound g b ∙ r)
-one_ends bound g a b x t (inr (l, r)) = (walked-end bound g b x r, ap (walked bound) (sym l) ∙ walked-twice bound g a ∙ l)
+pub one_ends : (bound : Pairs) → Grown bound → (a b : Tm) (x : ℕ) (t : Tm) → OneIs x t (walk bound a) (walk bound b) → (bound_to x bound ≡ None) × (walk bound t ≡ t)
+one_ends bound g a b x t (inl (l, r)) = (walk-end bound g a x l, ap (walk bound) (sym r) ∙ walk-twice bound g b ∙ r)
+one_ends bound g a b x t (inr (l, r)) = (walk-end bound g b x r, ap (walk bound) (sym l) ∙ walk-twice bound g a ∙ l)
 
 module _ (V : Type 0) (bound : Pairs) (g : Grown bound) (e : Equation) (es : List Equation) where
   -- the sides have the same value where what they walk to has
-  sides : (f : ℕ → Tree V) → IsSolution f bound → (fill f e.left ≡ fill f e.right → fill f (walked bound e.left) ≡ fill f (walked bound e.right))
-      × (fill f (walked bound e.left) ≡ fill f (walked bound e.right) → fill f e.left ≡ fill f e.right)
+  sides : (f : ℕ → Tree V) → IsSolution f bound → (fill f e.left ≡ fill f e.right → fill f (walk bound e.left) ≡ fill f (walk bound e.right))
+      × (fill f (walk bound e.left) ≡ fill f (walk bound e.right) → fill f e.left ≡ fill f e.right)
   sides f s = (
-    λ h. fill-walked f bound g s e.left ∙ h ∙ sym (fill-walked f bound g s e.right),
-    λ h. sym (fill-walked f bound g s e.left) ∙ h ∙ fill-walked f bound g s e.right,
+    λ h. fill-walk f bound g s e.left ∙ h ∙ sym (fill-walk f bound g s e.right),
+    λ h. sym (fill-walk f bound g s e.left) ∙ h ∙ fill-walk f bound g s e.right,
   )
 
   after_same : met bound e ≡ Meeting.nothing → (r : Option (List (Tm × Tm))) → Outcome V bound es r → Outcome V bound (e ∷ es) r
@@ -74,7 +74,7 @@ module _ (V : Type 0) (bound : Pairs) (g : Grown bound) (e : Equation) (es : Lis
       Outcome V bound (e ∷ es) (option_map (λ more. (Tree.leaf x, t) ∷ more) r)
   after_binding x t h None out = λ f s (same, u).
       let (one, other, leftmost) = met_says V bound e (Meeting.binding x t) h in
-      out f ((one_same f x t (walked bound e.left) (walked bound e.right) one).0 ((sides f s).0 same), s) u
+      out f ((one_same f x t (walk bound e.left) (walk bound e.right) one).0 ((sides f s).0 same), s) u
   after_binding x t h (Some added) (new, put, gn, exact) =
       let (one, other, leftmost) = met_says V bound e (Meeting.binding x t) h in
       let (unbound, walks) = one_ends bound g e.left e.right x t one in (
@@ -82,8 +82,8 @@ module _ (V : Type 0) (bound : Pairs) (g : Grown bound) (e : Equation) (es : Lis
         (x, refl, unbound, walks, put),
         gn,
         λ f. (
-          λ s. (let ((known, old), u) = (exact f).0 s in (old, ((sides f old).1 ((one_same f x t (walked bound e.left) (walked bound e.right) one).1 known), u))),
-          λ s (same, u). (exact f).1 ((one_same f x t (walked bound e.left) (walked bound e.right) one).0 ((sides f s).0 same), s) u,
+          λ s. (let ((known, old), u) = (exact f).0 s in (old, ((sides f old).1 ((one_same f x t (walk bound e.left) (walk bound e.right) one).1 known), u))),
+          λ s (same, u). (exact f).1 ((one_same f x t (walk bound e.left) (walk bound e.right) one).0 ((sides f s).0 same), s) u,
         ),
       )
 
@@ -92,7 +92,7 @@ module _ (V : Type 0) (bound : Pairs) (g : Grown bound) (e : Equation) (es : Lis
       let (one, other, leftmost) = met_says V bound e (Meeting.binding x t) h in
       let (unbound, walks) = one_ends bound g e.left e.right x t one in
       occurs-cyclic x f (full bound t) inside (full-apart bound g x t walks other)
-      ((one_same f x t (walked bound e.left) (walked bound e.right) one).0 ((sides f s).0 same) ∙ sym (fill-full f bound s t))
+      ((one_same f x t (walk bound e.left) (walk bound e.right) one).0 ((sides f s).0 same) ∙ sym (fill-full f bound s t))
 
   after_clash : met bound e ≡ Meeting.clash → Outcome V bound (e ∷ es) None
   after_clash h f s (same, u) = met_says V bound e Meeting.clash h f ((sides f s).0 same)

@@ -5,22 +5,22 @@ use Rattle.kan_terms.specs.Bound.{bound_to}
 use Rattle.kan_terms.specs.Terms.{tree}
 use Rattle.kan_terms.specs.declared.terms.Term.{Term}
 use Rattle.kan_terms.specs.declared.terms.Term.TheVariants.{Var, Sym, Str, Num, Truth, Nil, Pair}
-use Rattle.unify_core.specs.Walking.{Pairs, walked}
+use Rattle.unify_core.specs.Walking.{Pairs, walk}
 use Rattle.unify_core.specs.Cycles.{HasNoCycle}
 use Rattle.unify_core.proofs.CycleLaws.{grown}
-use Rattle.unify_core.proofs.WalkLaws.{way, way-bound, walked-bound, walked-unbound, walked-term}
+use Rattle.unify_core.proofs.WalkLaws.{way, way-bound, walk-bound, walk-unbound, walk-term}
 
 -- a step to a variable's term leaves a shorter way
 pub way_falls : (bound : Pairs) → HasNoCycle bound → (at next : Tm) (v : ℕ) → at ≡ Tree.leaf v → Some next ≡ bound_to v bound → way bound next < way bound at
 way_falls bound h at next v here found = omega (arith, ap (way bound) here, way-bound bound (grown bound h) v next (sym found))
 
 -- and leads to the same end
-pub walk_keeps : (bound : Pairs) → HasNoCycle bound → (at next : Tm) (v : ℕ) (whole : Tm) → at ≡ Tree.leaf v → Some next ≡ bound_to v bound → walked bound at ≡ whole → walked bound next ≡ whole
-walk_keeps bound h at next v whole here found kept = sym (walked-bound bound (grown bound h) v next (sym found)) ∙ ap (walked bound) (sym here) ∙ kept
+pub walk_keeps : (bound : Pairs) → HasNoCycle bound → (at next : Tm) (v : ℕ) (whole : Tm) → at ≡ Tree.leaf v → Some next ≡ bound_to v bound → walk bound at ≡ whole → walk bound next ≡ whole
+walk_keeps bound h at next v whole here found kept = sym (walk-bound bound (grown bound h) v next (sym found)) ∙ ap (walk bound) (sym here) ∙ kept
 
 -- a variable that isn't bound is the end
-pub walk_ends : (bound : Pairs) (at : Tm) (v : ℕ) (whole : Tm) → at ≡ Tree.leaf v → None ≡ bound_to v bound → walked bound at ≡ whole → at ≡ whole
-walk_ends bound at v whole here none kept = here ∙ sym (walked-unbound bound v (sym none)) ∙ ap (walked bound) (sym here) ∙ kept
+pub walk_ends : (bound : Pairs) (at : Tm) (v : ℕ) (whole : Tm) → at ≡ Tree.leaf v → None ≡ bound_to v bound → walk bound at ≡ whole → at ≡ whole
+walk_ends bound at v whole here none kept = here ∙ sym (walk-unbound bound v (sym none)) ∙ ap (walk bound) (sym here) ∙ kept
 
 -- a term that is no variable stands for a tree that is none
 pub no_leaf : (t : Term) → ((v : ℕ) → t ≢ Var v) → (y : ℕ) → tree t ≢ Tree.leaf y
@@ -33,5 +33,5 @@ no_leaf Nil other y e = cc
 no_leaf (Pair parts) other y e = cc
 
 -- and is the end
-pub walk_stops : (bound : Pairs) (t : Term) (whole : Tm) → ((v : ℕ) → t ≢ Var v) → walked bound (tree t) ≡ whole → tree t ≡ whole
-walk_stops bound t whole other kept = sym (walked-term bound (tree t) (no_leaf t other)) ∙ kept
+pub walk_stops : (bound : Pairs) (t : Term) (whole : Tm) → ((v : ℕ) → t ≢ Var v) → walk bound (tree t) ≡ whole → tree t ≡ whole
+walk_stops bound t whole other kept = sym (walk-term bound (tree t) (no_leaf t other)) ∙ kept

@@ -6,7 +6,7 @@ use Rattle.kan_terms.specs.Bound.{bound_to}
 use Rattle.kan_model.specs.Stores.Store.{Equation}
 use Rattle.kan_model.specs.Stores.Solve.{Replacement, apply, solve}
 use Rattle.kan_model.specs.Stores.Unifiers.{Factors, Unifies}
-use Rattle.unify_core.specs.Walking.{Pairs, walked, full}
+use Rattle.unify_core.specs.Walking.{Pairs, walk, full}
 use Rattle.unify_core.specs.Cycles.{HasNoCycle}
 use Rattle.unify_core.specs.Solutions.{IsSolution, AddedTo, bindings_solved, equation}
 use Rattle.unify_core.specs.Unifying.{Unifying}
@@ -18,9 +18,9 @@ IsEnd bound t = (x : ℕ) → t ≡ Tree.leaf x → bound_to x bound ≡ None
 -- walking goes on from a bound variable to its term, ends at every other term, and comes to an end
 pub record WalksToEnd : Type 0 where
   pub goes_on : (bound : Pairs) (x : ℕ) (t : Tm) → HasNoCycle bound → bound_to x bound ≡ Some t →
-      walked bound (Tree.leaf x) ≡ walked bound t
-  pub stays : (bound : Pairs) (t : Tm) → IsEnd bound t → walked bound t ≡ t
-  pub comes_to_end : (bound : Pairs) (t : Tm) → HasNoCycle bound → IsEnd bound (walked bound t)
+      walk bound (Tree.leaf x) ≡ walk bound t
+  pub stays : (bound : Pairs) (t : Tm) → IsEnd bound t → walk bound t ≡ t
+  pub comes_to_end : (bound : Pairs) (t : Tm) → HasNoCycle bound → IsEnd bound (walk bound t)
 
 -- a bound variable has the full value of its term, another one has itself, and no bound variable is
 -- left; what a term walks to has its full value
@@ -31,7 +31,7 @@ pub record FullValues : Type 0 where
       ≡ Tree.leaf x
   pub none_left : (bound : Pairs) (t : Tm) (y : ℕ) → HasNoCycle bound → occurs y (full bound t)
       ≡ true → bound_to y bound ≡ None
-  pub of_walked : (bound : Pairs) (t : Tm) → HasNoCycle bound → full bound (walked bound t)
+  pub of_walked : (bound : Pairs) (t : Tm) → HasNoCycle bound → full bound (walk bound t)
       ≡ full bound t
 
 -- the solver answers for bindings without a cycle with a replacement that has the same solutions

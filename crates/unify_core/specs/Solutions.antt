@@ -3,7 +3,7 @@ use Rattle.std.specs.Prelude.{◌≡◌, ℕ, List, [], ◌∷◌, ◌++◌, Non
 use Rattle.kan_terms.specs.Tree.{Tree, Tm, fill}
 use Rattle.kan_terms.specs.Bound.{bound_to}
 use Rattle.kan_model.specs.Stores.Store.{Equation}
-use Rattle.unify_core.specs.Walking.{Pairs, walked}
+use Rattle.unify_core.specs.Walking.{Pairs, walk}
 
 -- what f puts for variables solves bindings: each variable has the value of its term
 abbrev pub IsSolution : {V : Type 0} → (ℕ → Tree V) → Pairs → Type 0
@@ -25,5 +25,5 @@ bindings_solved (newest ∷ older) =
 abbrev pub AddedTo : Pairs → List (Tm × Tm) → Pairs → Type 0
 AddedTo older [] bound = bound ≡ older
 AddedTo older (added ∷ more) bound =
-    (x : ℕ) × (added.0 ≡ Tree.leaf x) × (bound_to x older ≡ None) × (walked older added.1 ≡ added.1)
+    (x : ℕ) × (added.0 ≡ Tree.leaf x) × (bound_to x older ≡ None) × (walk older added.1 ≡ added.1)
     × AddedTo ((x, added.1) ∷ older) more bound

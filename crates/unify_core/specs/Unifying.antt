@@ -3,7 +3,7 @@ use Rattle.std.specs.Prelude.{◌≡◌, ℕ, Bool, true, false, eqb, List, [], 
 use Rattle.std.specs.Prelude.{option_map, if◌then◌else◌}
 use Rattle.kan_terms.specs.Tree.{Tree, Tm, occurs, term_eq}
 use Rattle.kan_model.specs.Stores.Store.{Equation}
-use Rattle.unify_core.specs.Walking.{Pairs, walked, full}
+use Rattle.unify_core.specs.Walking.{Pairs, walk, full}
 use Rattle.unify_core.specs.Solutions.{equation}
 
 -- what two terms that walk to themselves ask for
@@ -33,7 +33,7 @@ meeting a b = taken_apart a b
 
 -- what the two sides of an equation ask for under bindings
 abbrev pub met : Pairs → Equation → Meeting
-met bound e = meeting (walked bound e.left) (walked bound e.right)
+met bound e = meeting (walk bound e.left) (walk bound e.right)
 
 -- Under bindings these equations, the first one first, add these pairs in this order, or there is
 -- no unifier.

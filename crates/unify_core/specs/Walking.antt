@@ -14,9 +14,9 @@ go_on x t reached = reached
 
 -- what a term walks to, from variable to variable: where the older pairs lead to the newest
 -- variable, the way goes on with its term
-abbrev pub walked : Pairs → Tm → Tm
-walked [] u = u
-walked (newest ∷ older) u = go_on newest.0 (walked older newest.1) (walked older u)
+abbrev pub walk : Pairs → Tm → Tm
+walk [] u = u
+walk (newest ∷ older) u = go_on newest.0 (walk older newest.1) (walk older u)
 
 -- the full value of a variable: that under the older pairs, with the newest variable replaced by
 -- the full value of its term

@@ -6,7 +6,7 @@ ghost use Rattle.kan_terms.specs.Terms.{tree};
 ghost use Rattle.kan_terms.specs.Tree as trees;
 ghost use Rattle.unify_core.specs.Cycles.{HasNoCycle};
 ghost use Rattle.unify_core.specs.Lent.{AllAbove, open_parts, waiting_trees, with_lent};
-ghost use Rattle.unify_core.specs.Walking.{full, walked};
+ghost use Rattle.unify_core.specs.Walking.{full, walk};
 
 use crate::walking::{Lent, walk_on};
 use kan_terms::{Bindings, Memory, Term};
@@ -48,10 +48,10 @@ fn look_at<'a, B: Bindings>(
 ) -> Result<bool, Memory>
     requires { HasNoCycle (with_lent lent.now (B.pairs bindings.now)) }
     ensures found { IfOk result (λ found. found ≡
-        kept.is_variable var (walked (with_lent lent.now (B.pairs bindings.now)) (tree term.now))) }
+        kept.is_variable var (walk (with_lent lent.now (B.pairs bindings.now)) (tree term.now))) }
     ensures waits { IfOk result (λ found. found ≡ false →
         waiting_trees waiting.new.items ≡
-        open_parts (walked (with_lent lent.now (B.pairs bindings.now)) (tree term.now)) ++
+        open_parts (walk (with_lent lent.now (B.pairs bindings.now)) (tree term.now)) ++
         waiting_trees waiting.old.items) }
 {
     let reached = walk_on(term, bindings, lent);

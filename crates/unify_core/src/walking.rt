@@ -6,7 +6,7 @@ ghost use Rattle.kan_terms.specs.Bound.{bound_to};
 ghost use Rattle.kan_terms.specs.Terms.{tree};
 ghost use Rattle.unify_core.specs.Cycles.{HasNoCycle};
 ghost use Rattle.unify_core.specs.Lent.{with_lent};
-ghost use Rattle.unify_core.specs.Walking.{walked};
+ghost use Rattle.unify_core.specs.Walking.{walk};
 
 use kan_terms::{Bindings, Term};
 
@@ -39,7 +39,7 @@ fn find<'a, B: Bindings>(var: u64, bindings: &'a B, lent: &[Lent<'a>]) -> Option
 /// What a term walks to under bindings with lent ones in front of them.
 pub fn walk_on<'a, B: Bindings>(term: &'a Term, bindings: &'a B, lent: &[Lent<'a>]) -> &'a Term
     requires { HasNoCycle (with_lent lent.now (B.pairs bindings.now)) }
-    ensures { tree result.now ≡ walked (with_lent lent.now (B.pairs bindings.now)) (tree term.now) }
+    ensures { tree result.now ≡ walk (with_lent lent.now (B.pairs bindings.now)) (tree term.now) }
 {
     let mut reached = term;
     while let Term::Var(var) = reached {
@@ -55,7 +55,7 @@ pub fn walk_on<'a, B: Bindings>(term: &'a Term, bindings: &'a B, lent: &[Lent<'a
 /// It takes no memory.
 pub fn walk<'a, B: Bindings>(term: &'a Term, bindings: &'a B) -> &'a Term
     requires { HasNoCycle (B.pairs bindings.now) }
-    ensures { tree result.now ≡ walked (B.pairs bindings.now) (tree term.now) }
+    ensures { tree result.now ≡ walk (B.pairs bindings.now) (tree term.now) }
 {
     walk_on(term, bindings, &[])
 }

@@ -1,5 +1,5 @@
 use Rattle.std.proofs.Common.{◌≡◌}
-use Rattle.kan_tree.specs.Found.{within}
+use Rattle.kan_tree.specs.UnderKeys.{within}
 use Rattle.kan_tree.proofs.front.find_within.Given as goal
 
 -- what is reached has with the links that are left what the whole has

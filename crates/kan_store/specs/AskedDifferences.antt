@@ -5,5 +5,5 @@ use Rattle.kan_model.specs.Programs.Goals.{Primitive}
 use Rattle.kan_model.specs.Stores.Calls.{differences}
 use Rattle.diseq.specs.Disequalities.{Disequality}
 
-abbrev pub asked : List (Primitive Tm) → List Disequality
-asked ps = map (λ e. e ∷ []) (differences ps)
+abbrev pub asked_differences : List (Primitive Tm) → List Disequality
+asked_differences ps = map (λ e. e ∷ []) (differences ps)

@@ -29,5 +29,5 @@ within {T} meaning (suc many) level front key = value_in_front meaning level
     (in_link meaning (λ older. within meaning many level older key) key) (out-Front T front) key
 
 -- the finite map that a tree is
-abbrev pub found : {T M : Type 0} → (T → M) → VarTree T → ℕ → Option M
-found meaning t key = within meaning t.waiting (t.height % 16) t.front key
+abbrev pub under_key : {T M : Type 0} → (T → M) → VarTree T → ℕ → Option M
+under_key meaning t key = within meaning t.waiting (t.height % 16) t.front key
