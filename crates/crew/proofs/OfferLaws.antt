@@ -12,7 +12,7 @@ use Rattle.susp_cells.specs.Places.{Place, label_tree}
 use Rattle.task_deques.specs.declared.holders.TaskDeque.{TaskDeque}
 use Rattle.task_deques.specs.Holders.{Holder, deque_of, pushed, taken, deque_part, stealer_parts}
 use Rattle.crew.specs.declared.tasks.Offered.{Offered}
-use Rattle.crew.specs.Offers.{IsPartOf, Offers, tail_of, tree_of, offered, offered_inside, offered_for}
+use Rattle.crew.specs.Offers.{IsPartOf, Offers, tail_of, tree_of, offered_trees, offered_inside, offered_for}
 use Rattle.crew.specs.Offers.IsPartOf.{none, with, without}
 
 part_none : {X : Type 0} (ys : List X) → IsPartOf [] ys
@@ -94,5 +94,5 @@ module _ {St : Type 0} where
 
   -- what is offered for a tail
   pub behind_offered : (before after : Holder (Offered St)) (t : model.Thunk) (o : Option model.Thunk) →
-      Some t ≡ o → Offers before after (offered t) → Offers before after (offered_for o)
+      Some t ≡ o → Offers before after (offered_trees t) → Offers before after (offered_for o)
   behind_offered before after t o is p = subst (λ o. Offers before after (offered_for o)) is p

@@ -21,13 +21,13 @@ offered_inside (model.Thunk.swap waiting inner) = inner ∷ option_to_list (tail
 offered_inside (model.Thunk.bind goal env inner) = inner ∷ []
 
 -- the suspensions that are offered for one, in order: what stands inside it, and itself
-abbrev pub offered : model.Thunk → List model.Thunk
-offered t = offered_inside t ++ t ∷ []
+abbrev pub offered_trees : model.Thunk → List model.Thunk
+offered_trees t = offered_inside t ++ t ∷ []
 
 -- those that are offered for the tail of a stream
 abbrev pub offered_for : Option model.Thunk → List model.Thunk
 offered_for None = []
-offered_for (Some t) = offered t
+offered_for (Some t) = offered_trees t
 
 -- some of a list, in its order
 pub data IsPartOf {X : Type 0} : List X → List X → Type 0 where

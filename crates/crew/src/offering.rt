@@ -5,7 +5,7 @@ ghost use Rattle.std.specs.Option.{option_to_list};
 ghost use Rattle.task_deques.specs.Holders.{IsHolderOf};
 ghost use Rattle.susp_cells.specs.Places.{label_tree, names_of};
 ghost use Rattle.susp_cells.specs.Tables.{IsIn};
-ghost use Rattle.crew.specs.Offers.{offered, offered_inside, Offers};
+ghost use Rattle.crew.specs.Offers.{offered_trees, offered_inside, Offers};
 
 use crate::tasks::Offered;
 use kan_model::Store;
@@ -90,7 +90,7 @@ pub fn offer<St: Store>(table: &Table<'_, St>, holder: &mut Holder<Offered<St>>,
     requires inside { IsIn table.now susp.now }
     requires home { IsHolderOf (names_of table.now.labels) holder.old }
     ensures home { IsHolderOf (names_of table.now.labels) holder.new }
-    ensures offers { Offers holder.old holder.new (offered (label_tree susp.now)) }
+    ensures offers { Offers holder.old holder.new (offered_trees (label_tree susp.now)) }
 {
     offer_inside(table, holder, susp);
     offer_one(table, holder, susp);

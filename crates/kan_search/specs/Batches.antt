@@ -13,8 +13,8 @@ ending_of Limit = Ending.limit
 ending_of Fuel = Ending.fuel
 
 -- some answers after some pulls, and then what is taken of what is left
-abbrev pub joined : List Store → ℕ → Taken → Taken
-joined answers pulls rest =
+abbrev pub batch_then : List Store → ℕ → Taken → Taken
+batch_then answers pulls rest =
     record { stores = answers ++ rest.stores; pulls = pulls + rest.pulls; ending = rest.ending }
 
 -- how many answers a batch has at most
@@ -39,6 +39,6 @@ pub record Advances (round : ℕ) (before : Taken) (pulls : ℕ) (answers : List
   pub made : ℕ
   pub counted : pulls_after ≡ pulls + made
   pub within : made ≤ round
-  pub joins : before ≡ joined answers made after
+  pub joins : before ≡ batch_then answers made after
   pub few : length answers ≤ greatest_batch
   pub ends : EndsSo round (length answers) made ended after

@@ -14,8 +14,8 @@ abbrev pub stream_left : Rest → model.Stream
 stream_left s = going_on s.heads s.next
 
 -- what is taken of it with the fuel and the limit that are left
-abbrev pub left : Rest → Taken
-left s = take s.program s.fuel (stream_left s) s.limit
+abbrev pub answers_left : Rest → Taken
+answers_left s = take s.program s.fuel (stream_left s) s.limit
 
 -- how many pulls were made
 abbrev pub pulls_made : Rest → ℕ
@@ -31,5 +31,5 @@ is_spent s = s.spent
 
 -- what comes where no store may be given before a pull
 abbrev pub ComesNext : Rest → Next → Type 0
-ComesNext s (Ends ended) = left s ≡ nothing_more (ending_of ended)
+ComesNext s (Ends ended) = answers_left s ≡ nothing_more (ending_of ended)
 ComesNext s Pulls = WantsPull s.limit s.heads s.next s.fuel

@@ -55,8 +55,9 @@ impl<'a, St: Store, N: Nodes<St> + Drop> Search<'a, St, N> {
     ghost use Rattle.kan_model.specs.Programs.Scope.{is_small};
     ghost use Rattle.kan_model.specs.Programs.Closed as programs;
     ghost use Rattle.kan_model.specs.Streams.Taking.{take_query, with_answer, with_pull};
-    ghost use Rattle.kan_search.specs.Batches.{Advances, GaveAll, joined, greatest_batch};
-    ghost use Rattle.kan_search.specs.Searches.{left, stream_left, pulls_made, round_of, is_spent};
+    ghost use Rattle.kan_search.specs.Batches.{Advances, GaveAll, batch_then, greatest_batch};
+    ghost use Rattle.kan_search.specs.Searches.{answers_left, stream_left, pulls_made, round_of};
+    ghost use Rattle.kan_search.specs.Searches.{is_spent};
     ghost use Rattle.kan_search.specs.Searches.{ComesNext};
     ghost use Rattle.kan_search.specs.SolutionsLeft.{KeepsSolutions, MissesNone};
     ghost use Rattle.kan_search.specs.Waiting.{GivesNone, WantsPull};
@@ -77,13 +78,13 @@ impl<'a, St: Store, N: Nodes<St> + Drop> Search<'a, St, N> {
         requires small { is_small (programs.meaning program.now) ≡ true }
         requires fuel { 1 ≤ fuel × (fuel ≤ 1000000) }
         requires round { 1 ≤ round × (round ≤ 65536) }
-        ensures left { IfOk result (λ search. left search ≡ take_query
+        ensures left { IfOk result (λ search. answers_left search ≡ take_query
             (programs.meaning program.now) fuel (programs.query_of program.now query.now)) }
         ensures pulls { IfOk result (λ search. pulls_made search ≡ 0) }
         ensures round { IfOk result (λ search. round_of search ≡ round) }
         ensures whole { IfOk result (λ search. is_spent search ≡ false) }
         ensures misses_none { IfOk result (λ search. MissesNone (programs.meaning program.now)
-            (programs.query_of program.now query.now) fuel (left search)) }
+            (programs.query_of program.now query.now) fuel (answers_left search)) }
     {
         let mut nodes = nodes;
         let pulled = start(alloc, program, query.goal, &mut nodes)?;
@@ -110,10 +111,11 @@ impl<'a, St: Store, N: Nodes<St> + Drop> Search<'a, St, N> {
 
     // The next store of the stream, where it has one before a pull and more answers are wanted.
     fn next_head(&mut self) -> Option<St>
-        ensures some { IfSome result (λ store. left self.old ≡ with_answer (St.meaning store)
-            (left self.new)) }
+        ensures some
+            { IfSome result (λ store. answers_left self.old ≡ with_answer (St.meaning store)
+            (answers_left self.new)) }
         ensures none { IfNone result (GivesNone self.new.limit self.new.heads ×
-            (left self.new ≡ left self.old)) }
+            (answers_left self.new ≡ answers_left self.old)) }
         ensures fewer { IfSome result (λ _. length self.new.heads < length self.old.heads) }
         ensures pulls { pulls_made self.new ≡ pulls_made self.old }
         ensures round { round_of self.new ≡ round_of self.old }
@@ -130,8 +132,9 @@ impl<'a, St: Store, N: Nodes<St> + Drop> Search<'a, St, N> {
     // Gives stores until a batch has its answers or only a pull gives more.
     fn give_heads(&mut self, answers: &mut Stores<St>) -> Result<(), Memory>
         requires { length answers.old ≤ greatest_batch }
-        ensures joined { OnOk result ((pulls : ℕ) → joined (map St.meaning answers.old) pulls
-            (left self.old) ≡ joined (map St.meaning answers.new) pulls (left self.new)) }
+        ensures joined { OnOk result ((pulls : ℕ) → batch_then (map St.meaning answers.old) pulls
+            (answers_left self.old)
+                ≡ batch_then (map St.meaning answers.new) pulls (answers_left self.new)) }
         ensures few { OnOk result (length answers.new ≤ greatest_batch) }
         ensures none { OnOk result (length answers.new < greatest_batch → GivesNone self.new.limit
             self.new.heads) }
@@ -166,7 +169,7 @@ impl<'a, St: Store, N: Nodes<St> + Drop> Search<'a, St, N> {
     // Makes a pull. After want of memory nothing is left of the stream.
     fn make_pull(&mut self, alloc: Global) -> Result<(), Memory>
         requires { WantsPull self.old.limit self.old.heads self.old.next self.old.fuel }
-        ensures pulled { OnOk result (left self.old ≡ with_pull (left self.new)) }
+        ensures pulled { OnOk result (answers_left self.old ≡ with_pull (answers_left self.new)) }
         ensures pulls { OnOk result (pulls_made self.new ≡ pulls_made self.old + 1) }
         ensures round { round_of self.new ≡ round_of self.old }
         ensures spent { is_spent self.new ≡ is_spent self.old }
@@ -190,8 +193,8 @@ impl<'a, St: Store, N: Nodes<St> + Drop> Search<'a, St, N> {
     // The next answers, where no memory was wanting before.
     fn next_batch(&mut self, alloc: Global) -> Result<Batch<St>, Memory>
         ensures batch { IfOk result (λ batch. Advances (round_of self.old)
-            (left self.old) (pulls_made self.old) (map St.meaning batch.answers)
-            batch.ended (left self.new) (pulls_made self.new)) }
+            (answers_left self.old) (pulls_made self.old) (map St.meaning batch.answers)
+            batch.ended (answers_left self.new) (pulls_made self.new)) }
         ensures gave_all { IfOk result (λ batch. GaveAll (length batch.answers) batch.ended
             (stream_left self.new)) }
         ensures round { round_of self.new ≡ round_of self.old }
@@ -233,12 +236,12 @@ impl<'a, St: Store, N: Nodes<St> + Drop> Search<'a, St, N> {
     /// what is left, and memory is wanted again.
     pub fn advance_alone(&mut self, alloc: Global) -> Result<Batch<St>, Memory>
         ensures batch { IfOk result (λ batch. Advances (round_of self.old)
-            (left self.old) (pulls_made self.old) (map St.meaning batch.answers)
-            batch.ended (left self.new) (pulls_made self.new)) }
+            (answers_left self.old) (pulls_made self.old) (map St.meaning batch.answers)
+            batch.ended (answers_left self.new) (pulls_made self.new)) }
         ensures gave_all { IfOk result (λ batch. GaveAll (length batch.answers) batch.ended
             (stream_left self.new)) }
-        ensures keeps { IfOk result (λ batch. KeepsSolutions (left self.old)
-            (map St.meaning batch.answers) (left self.new)) }
+        ensures keeps { IfOk result (λ batch. KeepsSolutions (answers_left self.old)
+            (map St.meaning batch.answers) (answers_left self.new)) }
         ensures round { round_of self.new ≡ round_of self.old }
         ensures whole { OnOk result ((is_spent self.new) ≡ false) }
         ensures spent { OnErr result ((is_spent self.new) ≡ true) }
@@ -260,7 +263,7 @@ impl<'a, St: Store> Search<'a, St, LinkedNodes<'a>> {
     ghost use Rattle.kan_model.specs.Programs.Scope.{is_small};
     ghost use Rattle.kan_model.specs.Programs.Closed as programs;
     ghost use Rattle.kan_model.specs.Streams.Taking.{take_query};
-    ghost use Rattle.kan_search.specs.Searches.{left, pulls_made, round_of, is_spent};
+    ghost use Rattle.kan_search.specs.Searches.{answers_left, pulls_made, round_of, is_spent};
     ghost use Rattle.kan_search.specs.SolutionsLeft.{MissesNone};
 
     /// The same over the empty table of one thread.
@@ -275,13 +278,13 @@ impl<'a, St: Store> Search<'a, St, LinkedNodes<'a>> {
         requires small { is_small (programs.meaning program.now) ≡ true }
         requires fuel { 1 ≤ fuel × (fuel ≤ 1000000) }
         requires round { 1 ≤ round × (round ≤ 65536) }
-        ensures left { IfOk result (λ search. left search ≡ take_query
+        ensures left { IfOk result (λ search. answers_left search ≡ take_query
             (programs.meaning program.now) fuel (programs.query_of program.now query.now)) }
         ensures pulls { IfOk result (λ search. pulls_made search ≡ 0) }
         ensures round { IfOk result (λ search. round_of search ≡ round) }
         ensures whole { IfOk result (λ search. is_spent search ≡ false) }
         ensures misses_none { IfOk result (λ search. MissesNone (programs.meaning program.now)
-            (programs.query_of program.now query.now) fuel (left search)) }
+            (programs.query_of program.now query.now) fuel (answers_left search)) }
     {
         let nodes = LinkedNodes::new(alloc, program);
         let search = Search::open(alloc, program, nodes, query, fuel, round)?;

@@ -23,7 +23,7 @@ use Rattle.kan_model.specs.Stores.Store.{Store}
 use Rattle.kan_terms.specs.Table.{Table}
 use Rattle.kan_model.specs.Streams.Taking.{Taken, take_query}
 use Rattle.kan_model.specs.Answers.Output.{answer_line, summary_line, taken_text, runs_output}
-use Rattle.kan_search.specs.Batches.{Advances, joined, ending_of}
+use Rattle.kan_search.specs.Batches.{Advances, batch_then, ending_of}
 use Rattle.kan_model.specs.Programs.Closed.{query_of}
 use Rattle.kan_search.specs.declared.batch.Ended.{Ended}
 use Rattle.kanren_run.specs.Writing.{Puts, Stops, Written, WritesNext, Continues, CanRun, answer_lines, end_text, rest_text}
@@ -59,8 +59,8 @@ each-at P means (x ∷ xs) zero d within (first, rest) = first
 each-at P means (x ∷ xs) (suc i) d within (first, rest) = each-at P means xs i d (omega (arith, within)) rest
 
 -- what is written of a batch and of what is left after it
-rest-joined : (table : Table) (n p : ℕ) (sts : List Store) (k : ℕ) (t : Taken) → rest_text table n p (joined sts k t) ≡ answer_lines table sts ++ rest_text table (n + length sts) (p + k) t
-rest-joined table n p sts k t =
+rest-batch_then : (table : Table) (n p : ℕ) (sts : List Store) (k : ℕ) (t : Taken) → rest_text table n p (batch_then sts k t) ≡ answer_lines table sts ++ rest_text table (n + length sts) (p + k) t
+rest-batch_then table n p sts k t =
     let counts : n + length (sts ++ t.stores) ≡ n + length sts + length t.stores = let l = length-append sts t.stores in omega (arith, l) in
     let pulled : p + (k + t.pulls) ≡ p + k + t.pulls = omega arith in
     ap₂ (λ a b. answer_lines table (sts ++ t.stores) ++ summary_line a b t.ending) counts pulled
@@ -108,7 +108,7 @@ front_stops text front rest Memory a b parts (w, still) =
 batch_parts : (table : Table) (round : ℕ) (before : Taken) (n p : ℕ) (sts : List Store) (ended : Option Ended) (after : Taken) (m q : ℕ) → Advances round before p sts ended after q → m ≡ n + length sts →
     rest_text table n p before ≡ answer_lines table sts ++ rest_text table m q after
 batch_parts table round before n p sts ended after m q adv counted =
-    ap (rest_text table n p) adv.joins ∙ rest-joined table n p sts adv.made after
+    ap (rest_text table n p) adv.joins ∙ rest-batch_then table n p sts adv.made after
     ∙ ap₂ (λ a b. answer_lines table sts ++ rest_text table a b after) (sym counted) (sym adv.counted)
 
 -- a batch that doesn't end a run takes something of what is left

@@ -6,7 +6,7 @@ ghost use Rattle.kan_model.specs.Streams.Taking.{take_query};
 ghost use Rattle.kan_model.specs.Answers.Output.{taken_text, runs_output};
 ghost use Rattle.kan_search.specs.Batches.{ending_of};
 ghost use Rattle.kan_model.specs.Programs.Closed.{query_of};
-ghost use Rattle.kan_search.specs.Searches.{left, pulls_made, round_of};
+ghost use Rattle.kan_search.specs.Searches.{answers_left, pulls_made, round_of};
 ghost use Rattle.kan_grammar.specs.Texts.Reply.{is_spent};
 ghost use Rattle.kanren_run.specs.Answers.{spends};
 ghost use Rattle.kanren_run.specs.Settings.{InRange};
@@ -125,9 +125,9 @@ fn write_next<K: Sink, St: Store, N: Nodes<St> + Drop>(
     sink: &mut K,
 ) -> Result<Option<Ended>, Stop>
     requires round { 1 ≤ round_of search.old }
-    requires named { Each (HasNames names.now) (left search.old).stores }
-    ensures next { WritesNext names.now (left search.old) answers.old
-        (pulls_made search.old) (left search.new) answers.new (pulls_made search.new)
+    requires named { Each (HasNames names.now) (answers_left search.old).stores }
+    ensures next { WritesNext names.now (answers_left search.old) answers.old
+        (pulls_made search.old) (answers_left search.new) answers.new (pulls_made search.new)
         (K.view sink.old) (K.view sink.new) result }
     ensures round { round_of search.new ≡ round_of search.old }
 {
@@ -147,10 +147,10 @@ fn write_search<K: Sink, St: Store, N: Nodes<St> + Drop>(
     sink: &mut K,
 ) -> Result<Ended, Stop>
     requires round { 1 ≤ round_of search.old }
-    requires named { Each (HasNames names.now) (left search.old).stores }
-    ensures puts { Puts (rest_text names.now 0 (pulls_made search.old) (left search.old))
+    requires named { Each (HasNames names.now) (answers_left search.old).stores }
+    ensures puts { Puts (rest_text names.now 0 (pulls_made search.old) (answers_left search.old))
         (K.view sink.old) (K.view sink.new) result }
-    ensures ended { IfOk result (λ ended. ending_of ended ≡ (left search.old).ending) }
+    ensures ended { IfOk result (λ ended. ending_of ended ≡ (answers_left search.old).ending) }
 {
     let mut answers = 0;
     loop {

@@ -7,7 +7,7 @@ use Rattle.kan_model.specs.Stores.Store as facts
 use Rattle.kan_model.specs.Streams.Stream as model
 use Rattle.kan_model.specs.Streams.Running.{run}
 use Rattle.stream_core.specs.Tasks as pending
-use Rattle.stream_core.specs.Tasks.{Becomes, Each, count, done}
+use Rattle.stream_core.specs.Tasks.{Becomes, Each, count, streams_after}
 use Rattle.stream_core.specs.Suspensions.{Stays, StreamBelongs, stream, going_on}
 use Rattle.stream_core.specs.CodeTasks.{stack}
 use Rattle.stream_core.specs.declared.streams.Stream.{Stream}
@@ -105,32 +105,32 @@ becomes-bound-top program g env ts us vs ws rest s made hs old new has grown is 
 pub first-ready : (program : Program) (ts us : List pending.Task) (t : pending.Task) (vs : List model.Stream) → ts ≡ t ∷ us → pending.AreReady program ts vs → pending.AreReady program (t ∷ us) vs
 first-ready program ts us t vs is ready = subst (λ xs. pending.AreReady program xs vs) is ready
 
-pub step-done : (program : Program) (ts us ws : List pending.Task) (t : pending.Task) (vs xs : List model.Stream) (whole : List model.Stream) → ts ≡ t ∷ us → Becomes program (t ∷ us) vs ws xs → done ts vs ≡ whole → done ws xs ≡ whole
-step-done program ts us ws t vs xs whole is step kept = step.same ∙ ap (λ ys. done ys vs) (sym is) ∙ kept
+pub step-streams_after : (program : Program) (ts us ws : List pending.Task) (t : pending.Task) (vs xs : List model.Stream) (whole : List model.Stream) → ts ≡ t ∷ us → Becomes program (t ∷ us) vs ws xs → streams_after ts vs ≡ whole → streams_after ws xs ≡ whole
+step-streams_after program ts us ws t vs xs whole is step kept = step.same ∙ ap (λ ys. streams_after ys vs) (sym is) ∙ kept
 
-pub step-fewer : (program : Program) (ts us ws : List pending.Task) (t : pending.Task) (vs xs : List model.Stream) → ts ≡ t ∷ us → Becomes program (t ∷ us) vs ws xs → pending.AreReady program ts vs → pending.left ws xs < pending.left ts vs
+pub step-fewer : (program : Program) (ts us ws : List pending.Task) (t : pending.Task) (vs xs : List model.Stream) → ts ≡ t ∷ us → Becomes program (t ∷ us) vs ws xs → pending.AreReady program ts vs → pending.tasks_to_do ws xs < pending.tasks_to_do ts vs
 step-fewer program ts us ws t vs xs is step ready = rw is (step.fewer (first-ready program ts us t vs is ready))
 
 -- the one stream when no task is left
-pub top-is : (ts : List pending.Task) (vs rest whole : List model.Stream) (s : model.Stream) → ts ≡ [] → done ts vs ≡ whole → vs ≡ s ∷ rest → length whole ≡ 1 → whole ≡ s ∷ []
-top-is ts vs rest whole s none kept top one = go rest (sym kept ∙ ap (λ xs. done xs vs) none ∙ top)
+pub top-is : (ts : List pending.Task) (vs rest whole : List model.Stream) (s : model.Stream) → ts ≡ [] → streams_after ts vs ≡ whole → vs ≡ s ∷ rest → length whole ≡ 1 → whole ≡ s ∷ []
+top-is ts vs rest whole s none kept top one = go rest (sym kept ∙ ap (λ xs. streams_after xs vs) none ∙ top)
   where
     go : (xs : List model.Stream) → whole ≡ s ∷ xs → whole ≡ s ∷ []
     go [] is = is
     go (x ∷ xs) is = let long : length whole ≡ suc (suc (length xs)) = ap length is in let bad : ⊥ = omega (arith, one, long) in absurd bad
 
-pub none-done : (ts : List pending.Task) (vs whole : List model.Stream) → ts ≡ [] → done ts vs ≡ whole → vs ≡ [] → length whole ≡ 1 → ⊥
-none-done ts vs whole none kept empty one =
-    let long : length whole ≡ 0 = ap length (sym kept ∙ ap (λ xs. done xs vs) none ∙ empty) in omega (arith, one, long)
+pub none-streams_after : (ts : List pending.Task) (vs whole : List model.Stream) → ts ≡ [] → streams_after ts vs ≡ whole → vs ≡ [] → length whole ≡ 1 → ⊥
+none-streams_after ts vs whole none kept empty one =
+    let long : length whole ≡ 0 = ap length (sym kept ∙ ap (λ xs. streams_after xs vs) none ∙ empty) in omega (arith, one, long)
 
 -- what the stacks of a run and of a binding leave
-pub run-done : (g : Goal) (env env' : List Tm) (st : facts.Store) (ts : List pending.Task) (vs : List model.Stream) → ts ≡ pending.Task.run_at g env' st ∷ [] → vs ≡ [] → env' ≡ env →
-    done ts vs ≡ run g env st ∷ []
-run-done g env env' st ts vs is none same = ap₂ done is none ∙ ap (λ e. run g e st ∷ []) same
+pub run-streams_after : (g : Goal) (env env' : List Tm) (st : facts.Store) (ts : List pending.Task) (vs : List model.Stream) → ts ≡ pending.Task.run_at g env' st ∷ [] → vs ≡ [] → env' ≡ env →
+    streams_after ts vs ≡ run g env st ∷ []
+run-streams_after g env env' st ts vs is none same = ap₂ streams_after is none ∙ ap (λ e. run g e st ∷ []) same
 
-pub bind-done : (g : Goal) (env env' : List Tm) (s : model.Stream) (ts : List pending.Task) (vs : List model.Stream) → ts ≡ pending.Task.bind_to g env' ∷ [] → vs ≡ s ∷ [] → env' ≡ env →
-    done ts vs ≡ model.bind_all (run g env) g env s ∷ []
-bind-done g env env' s ts vs is one same = ap₂ done is one ∙ ap (λ e. model.bind_all (run g e) g e s ∷ []) same
+pub bind-streams_after : (g : Goal) (env env' : List Tm) (s : model.Stream) (ts : List pending.Task) (vs : List model.Stream) → ts ≡ pending.Task.bind_to g env' ∷ [] → vs ≡ s ∷ [] → env' ≡ env →
+    streams_after ts vs ≡ model.bind_all (run g env) g env s ∷ []
+bind-streams_after g env env' s ts vs is one same = ap₂ streams_after is one ∙ ap (λ e. model.bind_all (run g e) g e s ∷ []) same
 
 -- a stream that goes on, in front of another one
 pub append-going : (hs : List facts.Store) (o : Option model.Thunk) (i whole : model.Thunk) (t : model.Stream) → o ≡ Some i → whole ≡ model.Thunk.swap t i →

@@ -13,7 +13,7 @@ use Rattle.kan_model.specs.Streams.Running.{run, variables}
 use Rattle.kan_model.specs.Programs.Scope.{width, all_below, in_scope}
 use Rattle.kan_model.specs.Streams.Bounds.{floor}
 use Rattle.stream_core.specs.CounterBounds.{Between, RestFits}
-use Rattle.stream_core.specs.Tasks.{Task, done, Each, HasRoom, IsOf, AreBelowRest, AreReady, for_each, count, left, Becomes, run_each, bound_last}
+use Rattle.stream_core.specs.Tasks.{Task, streams_after, Each, HasRoom, IsOf, AreBelowRest, AreReady, for_each, count, tasks_to_do, Becomes, run_each, bound_last}
 use Rattle.stream_core.proofs.HeadLaws.{Each-like, run-between, env-more, variables-below}
 use Rattle.stream_core.proofs.ClosedLaws.{ProgramIsClosed}
 use Rattle.stream_core.proofs.FitLaws.{run-fits, wider-slots}
@@ -92,33 +92,33 @@ module _ (program : Program) where
   becomes-appended s t ts vs = record { same = refl; ready = λ rest. rest; fewer = λ ready. omega arith }
 
   -- a goal at each store
-  done-each : (g : Goal) (env : List Tm) (hs : List Store) (last : Stream) (ts : List Task) (vs : List Stream) →
-      done (run_each g env hs ts) (last ∷ vs) ≡ done ts (append_each (run g env) hs last ∷ vs)
-  done-each g env [] last ts vs = refl
-  done-each g env (st ∷ hs) last ts vs = done-each g env hs last (Task.run_at g env st ∷ Task.append_two ∷ ts) vs
+  streams_after-each : (g : Goal) (env : List Tm) (hs : List Store) (last : Stream) (ts : List Task) (vs : List Stream) →
+      streams_after (run_each g env hs ts) (last ∷ vs) ≡ streams_after ts (append_each (run g env) hs last ∷ vs)
+  streams_after-each g env [] last ts vs = refl
+  streams_after-each g env (st ∷ hs) last ts vs = streams_after-each g env hs last (Task.run_at g env st ∷ Task.append_two ∷ ts) vs
 
   ready-each : (g : Goal) (env : List Tm) (hs : List Store) (last : Stream) (ts : List Task) (vs : List Stream) → IsOf program g env → Each (HasRoom g env) hs →
       AreReady program ts (append_each (run g env) hs last ∷ vs) → AreReady program (run_each g env hs ts) (last ∷ vs)
   ready-each g env [] last ts vs is room rest = rest
   ready-each g env (st ∷ hs) last ts vs is (here, room) rest = ready-each g env hs last (Task.run_at g env st ∷ Task.append_two ∷ ts) vs is room ((is, here), rest)
 
-  left-each : (g : Goal) (env : List Tm) (hs : List Store) (last : Stream) (ts : List Task) (vs : List Stream) →
-      left (run_each g env hs ts) (last ∷ vs) ≡ for_each (count g env) hs + left ts (append_each (run g env) hs last ∷ vs)
-  left-each g env [] last ts vs = omega arith
-  left-each g env (st ∷ hs) last ts vs =
-      let rest = left-each g env hs last (Task.run_at g env st ∷ Task.append_two ∷ ts) vs in rest ∙ omega arith
+  tasks_to_do-each : (g : Goal) (env : List Tm) (hs : List Store) (last : Stream) (ts : List Task) (vs : List Stream) →
+      tasks_to_do (run_each g env hs ts) (last ∷ vs) ≡ for_each (count g env) hs + tasks_to_do ts (append_each (run g env) hs last ∷ vs)
+  tasks_to_do-each g env [] last ts vs = omega arith
+  tasks_to_do-each g env (st ∷ hs) last ts vs =
+      let rest = tasks_to_do-each g env hs last (Task.run_at g env st ∷ Task.append_two ∷ ts) vs in rest ∙ omega arith
 
   pub becomes-bound : (g : Goal) (env : List Tm) (s : Stream) (ts : List Task) (vs : List Stream) →
       Becomes program (Task.bind_to g env ∷ ts) (s ∷ vs) (run_each g env (heads s) ts) (bound_last g env s ∷ vs)
   becomes-bound g env (Stream.ends hs) ts vs = record {
-    same = done-each g env hs empty ts vs;
+    same = streams_after-each g env hs empty ts vs;
     ready = λ ((is, room, below), rest). ready-each g env hs empty ts vs is room rest;
-    fewer = λ ready. let more = left-each g env hs empty ts vs in omega (arith, more);
+    fewer = λ ready. let more = tasks_to_do-each g env hs empty ts vs in omega (arith, more);
   }
   becomes-bound g env (Stream.goes_on hs i) ts vs = record {
-    same = done-each g env hs (Stream.goes_on [] (Thunk.bind g env i)) ts vs;
+    same = streams_after-each g env hs (Stream.goes_on [] (Thunk.bind g env i)) ts vs;
     ready = λ ((is, room, below), rest). ready-each g env hs (Stream.goes_on [] (Thunk.bind g env i)) ts vs is room rest;
-    fewer = λ ready. let more = left-each g env hs (Stream.goes_on [] (Thunk.bind g env i)) ts vs in omega (arith, more);
+    fewer = λ ready. let more = tasks_to_do-each g env hs (Stream.goes_on [] (Thunk.bind g env i)) ts vs in omega (arith, more);
   }
 
   -- a task alone, where its goal is the program's

@@ -18,13 +18,14 @@ pub data Task : Type 0 where
   bind_to : Goal → List Tm → Task
 
 -- the streams that are there when all tasks are done, the last one first
-abbrev pub done : List Task → List Stream → List Stream
-done [] vs = vs
-done (Task.run_at g env st ∷ ts) vs = done ts (run g env st ∷ vs)
-done (Task.append_two ∷ ts) (s ∷ t ∷ vs) = done ts (append s t ∷ vs)
-done (Task.append_two ∷ ts) vs = vs
-done (Task.bind_to g env ∷ ts) (s ∷ vs) = done ts (bind_all (run g env) g env s ∷ vs)
-done (Task.bind_to g env ∷ ts) [] = []
+abbrev pub streams_after : List Task → List Stream → List Stream
+streams_after [] vs = vs
+streams_after (Task.run_at g env st ∷ ts) vs = streams_after ts (run g env st ∷ vs)
+streams_after (Task.append_two ∷ ts) (s ∷ t ∷ vs) = streams_after ts (append s t ∷ vs)
+streams_after (Task.append_two ∷ ts) vs = vs
+streams_after (Task.bind_to g env ∷ ts) (s ∷ vs) =
+    streams_after ts (bind_all (run g env) g env s ∷ vs)
+streams_after (Task.bind_to g env ∷ ts) [] = []
 
 -- a fact of each element
 abbrev pub Each : {X : Type 0} → (X → Type 0) → List X → Type 0
@@ -84,22 +85,22 @@ count (Goal.later g) env st = 1
 count (Goal.call r args) env st = 1
 
 -- how many tasks it takes until all are done
-abbrev pub left : List Task → List Stream → ℕ
-left [] vs = 0
-left (Task.run_at g env st ∷ ts) vs = count g env st + left ts (run g env st ∷ vs)
-left (Task.append_two ∷ ts) (s ∷ t ∷ vs) = left ts (append s t ∷ vs) + 1
-left (Task.append_two ∷ ts) vs = 0
-left (Task.bind_to g env ∷ ts) (s ∷ vs) =
-    for_each (count g env) (heads s) + left ts (bind_all (run g env) g env s ∷ vs) + 1
-left (Task.bind_to g env ∷ ts) [] = 0
+abbrev pub tasks_to_do : List Task → List Stream → ℕ
+tasks_to_do [] vs = 0
+tasks_to_do (Task.run_at g env st ∷ ts) vs = count g env st + tasks_to_do ts (run g env st ∷ vs)
+tasks_to_do (Task.append_two ∷ ts) (s ∷ t ∷ vs) = tasks_to_do ts (append s t ∷ vs) + 1
+tasks_to_do (Task.append_two ∷ ts) vs = 0
+tasks_to_do (Task.bind_to g env ∷ ts) (s ∷ vs) =
+    for_each (count g env) (heads s) + tasks_to_do ts (bind_all (run g env) g env s ∷ vs) + 1
+tasks_to_do (Task.bind_to g env ∷ ts) [] = 0
 
 -- tasks and streams that come from others by one task: the same is there in the end, all tasks are
 -- ready, and fewer are left
 pub record Becomes (program : Program) (ts : List Task) (vs : List Stream) (us : List Task)
     (ws : List Stream) : Type 0 where
-  pub same : done us ws ≡ done ts vs
+  pub same : streams_after us ws ≡ streams_after ts vs
   pub ready : AreReady program ts vs → AreReady program us ws
-  pub fewer : AreReady program ts vs → left us ws < left ts vs
+  pub fewer : AreReady program ts vs → tasks_to_do us ws < tasks_to_do ts vs
 
 -- a goal at each store, the last one first, each followed by an appending
 abbrev pub run_each : Goal → List Tm → List Store → List Task → List Task

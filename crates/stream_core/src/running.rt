@@ -18,7 +18,7 @@ ghost use Rattle.stream_core.specs.Suspensions.{going_on};
 ghost use Rattle.stream_core.specs.Tables.{IsTableOf, OnlyAdds, HasStream, stream_in};
 ghost use Rattle.stream_core.specs.Tasks as pending;
 ghost use Rattle.stream_core.specs.Tasks.{Each, IsOf, MayRun, AreBelow, AreBelowRest, Becomes};
-ghost use Rattle.stream_core.specs.Tasks.{AreReady, bound_last, done};
+ghost use Rattle.stream_core.specs.Tasks.{AreReady, bound_last, streams_after};
 ghost use Rattle.stream_core.specs.CodeTasks.{task, tasks_of, streams_of};
 
 use crate::appending::append;
@@ -294,10 +294,10 @@ fn finish<N: Nodes<St>, St: Store>(
     requires ready { AreReady (programs.meaning program.now)
         (tasks_of program.now St.meaning tasks.items)
         (streams_of (N.table nodes.old) St.meaning values.items) }
-    requires one { length (done (tasks_of program.now St.meaning tasks.items)
+    requires one { length (streams_after (tasks_of program.now St.meaning tasks.items)
         (streams_of (N.table nodes.old) St.meaning values.items)) ≡ 1 }
     requires belong { Each (HasStream (N.table nodes.old)) values.items }
-    ensures made { IfOk result (λ made. done (tasks_of program.now St.meaning tasks.items)
+    ensures made { IfOk result (λ made. streams_after (tasks_of program.now St.meaning tasks.items)
         (streams_of (N.table nodes.old) St.meaning values.items)
         ≡ stream_in (N.table nodes.new) St.meaning made ∷ []) }
     ensures belong { IfOk result (HasStream (N.table nodes.new)) }

@@ -1,5 +1,5 @@
 use Rattle.std.proofs.Common.{◌≡◌, ◌+◌, ◌≤◌, length}
-use Rattle.kan_search.specs.Searches.{left}
+use Rattle.kan_search.specs.Searches.{answers_left}
 use Rattle.kanren_run.specs.Tags.{HasNames, Each}
 use Rattle.kanren_run.specs.Writing.{Written, rest_text}
 use Rattle.kanren_run.proofs.writing.write_search.Given as goal
@@ -7,13 +7,13 @@ use Rattle.kanren_run.proofs.writing.write_search.Given as goal
 -- the lines so far are put, and what is left of the run ends as the whole
 abbrev pub invariant-loop-ended : goal.invariant-loop-ended
 invariant-loop-ended g l = record {
-  written : Written (rest_text l.names 0 l.fn.search.pulls (left l.fn.search)) (g.K.Sink.view l.fn.sink) (g.K.Sink.view l.sink)
-      (rest_text l.names l.answers l.search.pulls (left l.search));
+  written : Written (rest_text l.names 0 l.fn.search.pulls (answers_left l.fn.search)) (g.K.Sink.view l.fn.sink) (g.K.Sink.view l.sink)
+      (rest_text l.names l.answers l.search.pulls (answers_left l.search));
   round : 1 ≤ l.search.round;
-  named : Each (HasNames l.names) (left l.search).stores;
-  ending : (left l.search).ending ≡ (left l.fn.search).ending;
+  named : Each (HasNames l.names) (answers_left l.search).stores;
+  ending : (answers_left l.search).ending ≡ (answers_left l.fn.search).ending;
 }
 
 -- what is left to be take_query
 abbrev pub decreases-loop-ended : goal.decreases-loop-ended
-decreases-loop-ended g l = length (left l.search).stores + (left l.search).pulls
+decreases-loop-ended g l = length (answers_left l.search).stores + (answers_left l.search).pulls

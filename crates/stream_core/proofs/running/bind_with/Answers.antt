@@ -5,7 +5,7 @@ use Rattle.kan_model.specs.Programs.Closed as programs
 use Rattle.stream_core.specs.Tables.{stream_in}
 use Rattle.stream_core.specs.CodeTasks.{task, stack}
 use Rattle.stream_core.proofs.ClosedLaws.{program-closed}
-use Rattle.stream_core.proofs.StreamLaws.{bind-done, heads-going, only-one}
+use Rattle.stream_core.proofs.StreamLaws.{bind-streams_after, heads-going, only-one}
 use Rattle.stream_core.proofs.StackLaws.{pushed-one}
 use Rattle.stream_core.proofs.TaskLaws.{bind-ready}
 use Rattle.stream_core.proofs.running.bind_with.Goals as goal
@@ -27,7 +27,7 @@ finish-requires-clause-one g c =
     let p = c.args.program.now in
     let f = task g.St.Store.meaning (programs.goal p) in
     let is = stream_in (g.N.Nodes.table c.args.nodes.now) g.St.Store.meaning in
-    ap length (bind-done (programs.goal p c.args.goal) (terms_of c.args.env) (terms_of c.args.env) (is c.args.stream) _ _
+    ap length (bind-streams_after (programs.goal p c.args.goal) (terms_of c.args.env) (terms_of c.args.env) (is c.args.stream) _ _
     (pushed-one f _ _ _ _ [] c.in_ok-push.ensures.items refl (ap (stack f) c.new-tasks.ensures.items))
     (pushed-one is _ _ _ _ [] c.in_ok-push-2.ensures.items refl (ap (stack is) c.new-values.ensures.items)) refl)
 
@@ -36,6 +36,6 @@ returns-clause-made g c =
     let p = c.args.program.now in
     let f = task g.St.Store.meaning (programs.goal p) in
     let is = stream_in (g.N.Nodes.table c.args.nodes.now) g.St.Store.meaning in
-    only-one (sym c.in_ok-made.ensures.made ∙ bind-done (programs.goal p c.args.goal) (terms_of c.args.env) (terms_of c.args.env) (is c.args.stream) _ _
+    only-one (sym c.in_ok-made.ensures.made ∙ bind-streams_after (programs.goal p c.args.goal) (terms_of c.args.env) (terms_of c.args.env) (is c.args.stream) _ _
     (pushed-one f _ _ _ _ [] c.in_ok-push.ensures.items refl (ap (stack f) c.new-tasks.ensures.items))
     (pushed-one is _ _ _ _ [] c.in_ok-push-2.ensures.items refl (ap (stack is) c.new-values.ensures.items)) refl)

@@ -1,6 +1,6 @@
 use Rattle.std.proofs.Common.{◌≡◌}
 use Rattle.kan_model.specs.Programs.Closed as programs
-use Rattle.stream_core.specs.Tasks.{AreReady, Each, done, left}
+use Rattle.stream_core.specs.Tasks.{AreReady, Each, streams_after, tasks_to_do}
 use Rattle.stream_core.specs.Tables.{HasStream, OnlyAdds, IsTableOf}
 use Rattle.stream_core.specs.CodeTasks.{tasks_of, streams_of}
 use Rattle.stream_core.proofs.running.finish.Given as goal
@@ -8,8 +8,8 @@ use Rattle.stream_core.proofs.running.finish.Given as goal
 -- what is there in the end, and that all tasks are ready
 abbrev pub invariant-loop-next : goal.invariant-loop-next
 invariant-loop-next g l = record {
-  same : done (tasks_of l.program g.St.Store.meaning l.tasks.items) (streams_of (g.N.Nodes.table l.nodes) g.St.Store.meaning l.values.items)
-      ≡ done (tasks_of l.program g.St.Store.meaning l.fn.tasks.items) (streams_of (g.N.Nodes.table l.fn.nodes) g.St.Store.meaning l.fn.values.items);
+  same : streams_after (tasks_of l.program g.St.Store.meaning l.tasks.items) (streams_of (g.N.Nodes.table l.nodes) g.St.Store.meaning l.values.items)
+      ≡ streams_after (tasks_of l.program g.St.Store.meaning l.fn.tasks.items) (streams_of (g.N.Nodes.table l.fn.nodes) g.St.Store.meaning l.fn.values.items);
   ready : AreReady (programs.meaning l.program) (tasks_of l.program g.St.Store.meaning l.tasks.items) (streams_of (g.N.Nodes.table l.nodes) g.St.Store.meaning l.values.items);
   belong : Each (HasStream (g.N.Nodes.table l.nodes)) l.values.items;
   adds : OnlyAdds (g.N.Nodes.table l.fn.nodes) (g.N.Nodes.table l.nodes);
@@ -17,4 +17,4 @@ invariant-loop-next g l = record {
 }
 
 abbrev pub decreases-loop-next : goal.decreases-loop-next
-decreases-loop-next g l = left (tasks_of l.program g.St.Store.meaning l.tasks.items) (streams_of (g.N.Nodes.table l.nodes) g.St.Store.meaning l.values.items)
+decreases-loop-next g l = tasks_to_do (tasks_of l.program g.St.Store.meaning l.tasks.items) (streams_of (g.N.Nodes.table l.nodes) g.St.Store.meaning l.values.items)

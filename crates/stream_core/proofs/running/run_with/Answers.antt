@@ -4,7 +4,7 @@ use Rattle.kan_model.specs.Programs.Closed as programs
 use Rattle.stream_core.specs.Tables.{stream_in}
 use Rattle.stream_core.specs.CodeTasks.{task, stack}
 use Rattle.stream_core.proofs.ClosedLaws.{program-closed}
-use Rattle.stream_core.proofs.StreamLaws.{run-done, only-one}
+use Rattle.stream_core.proofs.StreamLaws.{run-streams_after, only-one}
 use Rattle.stream_core.proofs.StackLaws.{pushed-one}
 use Rattle.stream_core.proofs.TaskLaws.{run-ready}
 use Rattle.stream_core.proofs.running.run_with.Goals as goal
@@ -22,7 +22,7 @@ finish-requires-clause-one g c =
     let p = c.args.program.now in
     let f = task g.St.Store.meaning (programs.goal p) in
     let is = stream_in (g.N.Nodes.table c.args.nodes.now) g.St.Store.meaning in
-    ap length (run-done (programs.goal p c.args.goal) (terms_of c.args.env) (terms_of c.args.env) (g.St.Store.meaning c.args.store) _ _
+    ap length (run-streams_after (programs.goal p c.args.goal) (terms_of c.args.env) (terms_of c.args.env) (g.St.Store.meaning c.args.store) _ _
     (pushed-one f _ _ _ _ [] c.in_ok-push.ensures.items refl (ap (stack f) c.new-tasks.ensures.items)) (ap (stack is) c.new-values.ensures.items) refl)
 
 pub returns-clause-made : goal.returns-clause-made
@@ -30,5 +30,5 @@ returns-clause-made g c =
     let p = c.args.program.now in
     let f = task g.St.Store.meaning (programs.goal p) in
     let is = stream_in (g.N.Nodes.table c.args.nodes.now) g.St.Store.meaning in
-    only-one (sym c.in_ok-made.ensures.made ∙ run-done (programs.goal p c.args.goal) (terms_of c.args.env) (terms_of c.args.env) (g.St.Store.meaning c.args.store) _ _
+    only-one (sym c.in_ok-made.ensures.made ∙ run-streams_after (programs.goal p c.args.goal) (terms_of c.args.env) (terms_of c.args.env) (g.St.Store.meaning c.args.store) _ _
     (pushed-one f _ _ _ _ [] c.in_ok-push.ensures.items refl (ap (stack f) c.new-tasks.ensures.items)) (ap (stack is) c.new-values.ensures.items) refl)

@@ -1,7 +1,7 @@
 use Rattle.std.proofs.Common.{◌∙◌, sym, ap, arith, map}
 use Rattle.std.proofs.Math.Logic.{inl, inr}
 use Rattle.kan_search.specs.Searches.{round_of}
-use Rattle.kan_search.proofs.JoinLaws.{advances-on, advances-end, joined-pull}
+use Rattle.kan_search.proofs.JoinLaws.{advances-on, advances-end, batch_then-pull}
 use Rattle.kan_search.proofs.searching.Search.next_batch.Goals as goal
 
 pub returns-then-len-eq-GREATEST_BATCH-clause-batch : goal.returns-then-len-eq-GREATEST_BATCH-clause-batch
@@ -34,7 +34,7 @@ loop-answers-preserved g c =
     let round = ap round_of c.self.view_is ∙ same in
     let other = c.if-made-self.false in
     record {
-      joins = inv.joins ∙ gave.joined c.loop-answers.made ∙ joined-pull (map g.St.Store.meaning c.give_heads.new.answers) c.loop-answers.made _ _ pulled.pulled;
+      joins = inv.joins ∙ gave.joined c.loop-answers.made ∙ batch_then-pull (map g.St.Store.meaning c.give_heads.new.answers) c.loop-answers.made _ _ pulled.pulled;
       counted = omega (arith, pulled.pulls, gave.pulls, inv.counted);
       few = gave.few;
       within = omega (arith, round, inv.within, other);
