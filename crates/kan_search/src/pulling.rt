@@ -12,7 +12,7 @@ ghost use Rattle.kan_search.specs.Suspensions.{LeavesRoom, pulled_stream};
 use kan_model::{Env, Program, Store};
 use kan_terms::Memory;
 use std::alloc::Global;
-use stream_core::{Nodes, Stream, force, force_once, reversed, run_goal};
+use stream_core::{Nodes, Stream, force_once, reversed, run_goal};
 
 // Stores of a stream, the next one last, and how it goes on behind them.
 #[derive(Drop)]
@@ -72,10 +72,6 @@ fn force_next<N: Nodes<St>, St: Store>(
         (stream_in (N.table nodes.new) St.meaning made)) }
     ensures grows { Grows (N.table nodes.old) (N.table nodes.new) }
 {
-    if nodes.keeps() {
-        let found = force(alloc, program, &id, nodes)?;
-        return Ok(found);
-    }
     let made = force_once(alloc, program, id, nodes)?;
     Ok(made)
 }

@@ -9,6 +9,7 @@ pub mod CounterLaws
 pub mod ForceLaws
 pub mod WayLaws
 pub mod AroundLaws
+pub mod LinkedLaws
 pub mod ClosedLaws
 pub mod FitLaws
 pub mod TaskLaws

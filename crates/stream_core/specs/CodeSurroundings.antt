@@ -1,41 +1,58 @@
--- What stands around suspensions of the code.
-use Rattle.std.specs.Prelude.{◌≡◌, List, IfSome}
+-- Suspensions of the code that were taken apart, and what those around others make of streams.
+use Rattle.std.specs.Prelude.{◌≡◌, ℕ, ◌<◌, ◌≤◌, ◌^◌, List, length, false}
+use Rattle.kan_model.specs.Streams.Bounds.{top}
 use Rattle.kan_model.specs.Programs.Environments.{terms_of}
 use Rattle.kan_model.specs.Stores.Store as facts
 use Rattle.kan_model.specs.Streams.Stream as model
-use Rattle.stream_core.specs.CodeTasks.{stack}
-use Rattle.stream_core.specs.InnerSuspensions.{MayForce}
-use Rattle.stream_core.specs.Suspensions.{goal_in, listed}
+use Rattle.kan_model.specs.declared.environment.Env.{Env}
+use Rattle.stream_core.specs.InnerSuspensions.{has_inner, MayForce}
+use Rattle.stream_core.specs.Suspensions.{goal_in}
 use Rattle.stream_core.specs.Surroundings as outer
-use Rattle.stream_core.specs.Tables.{Table, IsForce}
+use Rattle.stream_core.specs.Tables.{Table, IsForce, thunk_in}
 use Rattle.stream_core.specs.declared.streams.Stream.{Stream}
-use Rattle.stream_core.specs.declared.around.Around.{Around}
-use Rattle.stream_core.specs.declared.around.Around.TheVariants.{Swap, Bind}
+use Rattle.stream_core.specs.declared.nodes.Innermost.{Innermost}
+use Rattle.stream_core.specs.declared.nodes.Innermost.TheVariants.{Last, Shared}
+use Rattle.stream_core.specs.declared.nodes.Parted.{Parted}
+use Rattle.stream_core.specs.declared.nodes.Closed.{Closed}
+use Rattle.stream_core.specs.declared.nodes.Closed.TheVariants.{Made, Run}
 
-module _ {I St : Type 0} (t : Table I) where
-  abbrev pub around_in : (St → facts.Store) → Around I St → outer.Around
-  around_in means (Swap heads tail) = outer.Around.swap (listed t.tree means heads tail)
-  around_in means (Bind g env) = outer.Around.bind (goal_in t.program g) (terms_of env)
+module _ {I St : Type 0} (t : Table I) (means : St → facts.Store) where
+  -- the innermost suspension is this one: it has none inside, or an id of the table
+  abbrev pub StandsInnermost : model.Thunk → Innermost I St → Type 0
+  StandsInnermost tree (Last thunk) = (thunk_in t means thunk ≡ tree) × (has_inner tree ≡ false)
+  StandsInnermost tree (Shared id) = (t.tree id ≡ tree) × t.belongs id
 
-  -- its ids are the table's
-  abbrev pub HasAround : Around I St → Type 0
-  HasAround (Swap heads tail) = IfSome tail t.belongs
-  HasAround (Bind g env) = Unit {0}
+  -- the innermost suspension may be forced
+  abbrev pub MayForceInnermost : Innermost I St → Type 0
+  MayForceInnermost (Last thunk) =
+      MayForce t.program (thunk_in t means thunk) × (has_inner (thunk_in t means thunk) ≡ false)
+  MayForceInnermost (Shared id) = t.belongs id × (top (t.tree id) ≤ 2 ^ 62)
 
-  -- a suspension with all that stands around it, the innermost last
-  abbrev pub whole_in : (St → facts.Store) → List (Around I St) → model.Thunk → model.Thunk
-  whole_in means around i = outer.within_all (stack (around_in means) around) i
-
-  -- a stream is the force of a suspension, around which this may stand
-  pub record IsInside (means : St → facts.Store) (around : Around I St) (s : Stream I St) :
-      Type 0 where
+module _ {A I St : Type 0} (t : Table I) (around_in : A → List outer.Around)
+    (means : St → facts.Store) where
+  -- a suspension that was taken apart
+  pub record IsParted (whole : model.Thunk) (parted : Parted A I St) : Type 0 where
     pub tree : model.Thunk
-    pub may : MayForce t.program (outer.within (around_in means around) tree)
+    pub is : outer.within_all (around_in parted.around) tree ≡ whole
+    pub innermost : StandsInnermost t means tree parted.innermost
+
+  -- a stream is the force of a suspension that is the whole one with what stands around it
+  pub record IsForceWithin (whole : model.Thunk) (around : A) (s : Stream I St) : Type 0 where
+    pub tree : model.Thunk
+    pub is : outer.within_all (around_in around) tree ≡ whole
     pub force : IsForce t means tree s
 
-  -- it is the force of a suspension that is this whole one with all that stands around it
-  pub record IsForceWithin (means : St → facts.Store) (whole : model.Thunk)
-      (around : List (Around I St)) (s : Stream I St) : Type 0 where
+  -- a stream is the force of a suspension for whose stores a goal waits, and there are fewer around
+  -- that
+  pub record IsForceOfBound (whole : model.Thunk) (around : A) (g : ℕ) (env : Env)
+      (s : Stream I St) (shorter : A) : Type 0 where
     pub tree : model.Thunk
-    pub is : whole_in means around tree ≡ whole
+    pub is : outer.within_all (around_in shorter)
+        (model.Thunk.bind (goal_in t.program g) (terms_of env) tree) ≡ whole
     pub force : IsForce t means tree s
+    pub fewer : length (around_in shorter) < length (around_in around)
+
+  -- what is made of a stream inside suspensions
+  abbrev pub StandsClosed : model.Thunk → A → Closed A I St → Type 0
+  StandsClosed whole around (Made s) = IsForce t means whole s
+  StandsClosed whole around (Run g env s shorter) = IsForceOfBound whole around g env s shorter

@@ -33,7 +33,7 @@ pub fn reversed<St: Drop>(alloc: Global, mut stores: Stores<St>) -> Result<Vec<S
 }
 
 // The stores of two lists, one after the other.
-fn joined<St: Drop>(
+pub(crate) fn joined<St: Drop>(
     alloc: Global,
     mut left: Stores<St>,
     right: Stores<St>,

@@ -3,7 +3,6 @@
 #![tactic(auto)]
 
 mod appending;
-mod around;
 mod asserting;
 mod atomic_goals;
 mod call_goals;
@@ -11,6 +10,7 @@ mod compound_goals;
 mod copies;
 mod forcing;
 mod forcing_once;
+mod linked_ids;
 mod linked_nodes;
 mod nodes;
 mod plain_nodes;
@@ -21,8 +21,9 @@ mod tasks;
 pub use appending::{append, put_last, reversed};
 pub use forcing::force;
 pub use forcing_once::force_once;
-pub use linked_nodes::{LinkedId, LinkedNodes};
-pub use nodes::Nodes;
+pub use linked_ids::LinkedId;
+pub use linked_nodes::LinkedNodes;
+pub use nodes::{Closed, Innermost, Nodes, Parted};
 pub use plain_nodes::{PlainId, PlainNodes};
 pub use running::{bind_all, run_goal};
 pub use streams::{Stores, Stream, Thunk};

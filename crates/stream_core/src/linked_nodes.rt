@@ -1,120 +1,13 @@
 //! The table of one thread that keeps no streams: an id owns its suspension.
 
-ghost use Rattle.std.specs.Prelude.{◌≡◌, IfOk, MatchResult};
-ghost use Rattle.stream_core.specs.LinkedThunks.{thunk_of};
+ghost use Rattle.std.specs.Prelude.{◌≡◌, IfOk};
 
-use crate::nodes::Nodes;
+use crate::linked_ids::{Level, LinkedId, Step};
+use crate::nodes::{Closed, Nodes, Parted};
 use crate::streams::{Stream, Thunk};
 use kan_model::{Program, Store};
 use kan_terms::Memory;
 use std::alloc::Global;
-use std::sync::Arc;
-
-// A suspension with its weight.
-#[derive(Drop)]
-struct Weighed<T> {
-    thunk: T,
-    // How many suspensions it is made of, as far as the greatest number.
-    weight: u64,
-}
-
-/// A suspension, which may be shared with others.
-#[cycle(linked)]
-pub struct LinkedId<St: Drop> {
-    node: Arc<Weighed<Thunk<LinkedId<St>, St>>>,
-}
-
-// A loop down the heavier parts, so that a suspension however deep is dropped in little stack: a
-// recursion is into a part of at most half the suspensions.
-impl<St: Drop> Drop for LinkedId<St> {
-    fn drop(mut self) {
-        loop {
-            let LinkedId { node } = self;
-            let Some(Weighed { thunk, weight: _ }) = Arc::into_inner(node) else {
-                return;
-            };
-            match thunk {
-                Thunk::Call {
-                    rel: _,
-                    args: _args,
-                    store: _store,
-                } => return,
-                Thunk::Pause {
-                    goal: _,
-                    env: _env,
-                    store: _store,
-                } => return,
-                Thunk::Bind {
-                    goal: _,
-                    env: _env,
-                    inner,
-                } => self = inner,
-                Thunk::Swap {
-                    heads: _heads,
-                    tail,
-                    inner,
-                } => match tail {
-                    None => self = inner,
-                    Some(tail) => {
-                        if tail.node.weight > inner.node.weight {
-                            self = tail;
-                        } else {
-                            self = inner;
-                        }
-                    }
-                },
-            }
-        }
-    }
-}
-
-// How many suspensions one is made of, as far as the greatest number.
-fn weight_of<St: Drop>(thunk: &Thunk<LinkedId<St>, St>) -> u64 {
-    match thunk {
-        Thunk::Call {
-            rel: _,
-            args: _,
-            store: _,
-        } => 1,
-        Thunk::Pause {
-            goal: _,
-            env: _,
-            store: _,
-        } => 1,
-        Thunk::Bind {
-            goal: _,
-            env: _,
-            inner,
-        } => inner.node.weight.saturating_add(1),
-        Thunk::Swap {
-            heads: _,
-            tail: None,
-            inner,
-        } => inner.node.weight.saturating_add(1),
-        Thunk::Swap {
-            heads: _,
-            tail: Some(tail),
-            inner,
-        } => inner
-            .node
-            .weight
-            .saturating_add(tail.node.weight)
-            .saturating_add(1),
-    }
-}
-
-impl<St: Drop> LinkedId<St> {
-    // The suspension, where nobody else has it, and else the id itself.
-    fn into_thunk(self) -> Result<Thunk<LinkedId<St>, St>, LinkedId<St>>
-        ensures { MatchResult result (λ thunk. thunk ≡ thunk_of self) (λ same. same ≡ self) }
-    {
-        let LinkedId { node } = self;
-        match Arc::try_unwrap(node) {
-            Ok(Weighed { thunk, weight: _ }) => Ok(thunk),
-            Err(node) => Err(LinkedId { node }),
-        }
-    }
-}
 
 /// The suspensions of a program, each of which its id owns. No streams are kept.
 #[derive(Drop)]
@@ -135,18 +28,31 @@ impl<'a> LinkedNodes<'a> {
 }
 
 impl<'a, St: Store> Nodes<St> for LinkedNodes<'a> {
-    ghost use Rattle.std.specs.Prelude.{false, suc, option_map, OnOk, OnErr};
+    ghost use Rattle.std.proofs.Common.{ap};
+    ghost use Rattle.std.specs.Prelude.{false, suc, true, option_map, OnOk, OnErr};
     ghost use Rattle.kan_model.specs.Streams.Bounds.{Fits};
     ghost use Rattle.stream_core.specs.Tables.{GrowsBy, KeepsMore, OnlyAdds, StandsFor, IsKept};
     ghost use Rattle.stream_core.specs.Tables.{HasThunk, thunk_in, IsForce};
-    ghost use Rattle.stream_core.specs.LinkedTables.{linked_table};
+    ghost use Rattle.stream_core.specs.LinkedTables.{linked_table, around_in_table};
+    ghost use Rattle.kan_model.specs.Programs.Scope.{is_small};
+    ghost use Rattle.kan_model.specs.Streams.Stream.{Thunk as Suspension};
+    ghost use Rattle.stream_core.specs.CodeSurroundings.{IsForceWithin, StandsClosed};
+    ghost use Rattle.stream_core.specs.LinkedThunks.{linked_around};
+    ghost use Rattle.stream_core.specs.Suspensions.{goal_in};
 
     type Id = LinkedId<St>;
+
+    type Around = LinkedId<St>;
 
     // An id belongs where its suspension fits the program. Nothing is kept, so nothing is told.
     ghost table = { λ nodes. linked_table St.meaning nodes };
 
     ghost fits = { λ nodes id belongs. belongs };
+
+    ghost around_in = { λ nodes around. around_in_table St.meaning nodes around };
+
+    ghost around_stays = { λ was is grew around.
+        ap (λ p. linked_around St.meaning (goal_in p) around) grew.program };
 
     fn suspend(&mut self, thunk: Thunk<LinkedId<St>, St>) -> Result<LinkedId<St>, Memory>
         requires belong { HasThunk (linked_table St.meaning self.old) thunk }
@@ -162,26 +68,61 @@ impl<'a, St: Store> Nodes<St> for LinkedNodes<'a> {
         ensures refused { OnErr result ((linked_table St.meaning self.new).size ≡
             (linked_table St.meaning self.old).size) }
     {
-        let weight = weight_of(&thunk);
-        let node = Arc::new(self.alloc, Weighed { thunk, weight })?;
-        Ok(LinkedId { node })
+        LinkedId::of(self.alloc, thunk)
     }
 
     fn thunk<'b>(&'b self, id: &'b LinkedId<St>) -> &'b Thunk<LinkedId<St>, St> {
-        &id.node.thunk
+        id.lent()
     }
 
-    fn opened(&self, id: LinkedId<St>) -> Result<Thunk<LinkedId<St>, St>, LinkedId<St>> {
-        id.into_thunk()
+    fn part(&self, id: LinkedId<St>) -> Parted<LinkedId<St>, LinkedId<St>, St> {
+        let mut around = LinkedId::none();
+        let mut inside = id;
+        loop {
+            match inside.step(around) {
+                Step::Down {
+                    around: longer,
+                    inner,
+                } => {
+                    around = longer;
+                    inside = inner;
+                }
+                Step::End(parted) => return parted,
+            }
+        }
     }
 
-    fn keeps(&self) -> bool {
-        false
+    fn close(
+        &self,
+        alloc: Global,
+        mut around: LinkedId<St>,
+        mut inside: Stream<LinkedId<St>, St>,
+    ) -> Result<Closed<LinkedId<St>, LinkedId<St>, St>, Memory>
+        requires { is_small (linked_table St.meaning self.now).program ≡ true }
+        ensures { IfOk result (λ closed. (whole : Suspension) →
+            Fits (linked_table St.meaning self.now).program whole →
+            IsForceWithin (linked_table St.meaning self.now)
+            (around_in_table St.meaning self.now) St.meaning whole around inside →
+            StandsClosed (linked_table St.meaning self.now)
+            (around_in_table St.meaning self.now) St.meaning whole around closed) }
+    {
+        loop {
+            let level = around.level(alloc, inside)?;
+            match level {
+                Level::Up {
+                    around: outer,
+                    stream,
+                } => {
+                    around = outer;
+                    inside = stream;
+                }
+                Level::End(closed) => return Ok(closed),
+            }
+        }
     }
 
     fn again(&self, id: &LinkedId<St>) -> Result<LinkedId<St>, Memory> {
-        let node = Arc::try_clone(&id.node)?;
-        Ok(LinkedId { node })
+        id.again()
     }
 
     fn found(

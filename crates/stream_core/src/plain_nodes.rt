@@ -5,7 +5,7 @@ ghost use Rattle.stream_core.specs.PlainTrees.{all_grown};
 ghost use Rattle.stream_core.specs.PlainRows.{thunks};
 
 use crate::copies::stores_again;
-use crate::nodes::Nodes;
+use crate::nodes::{Closed, Innermost, Nodes, Parted};
 use crate::streams::{Stream, Thunk};
 use kan_model::{Program, Store};
 use kan_terms::Memory;
@@ -77,20 +77,31 @@ impl<'a, St: Store> PlainNodes<'a, St> {
 }
 
 impl<'a, St: Store> Nodes<St> for PlainNodes<'a, St> {
-    ghost use Rattle.std.specs.Prelude.{false, suc, option_map, OnOk, OnErr};
+    ghost use Rattle.std.proofs.Common.{refl};
+    ghost use Rattle.std.specs.Prelude.{false, suc, true, option_map, [], OnOk, OnErr};
     ghost use Rattle.kan_model.specs.Streams.Bounds.{Fits};
     ghost use Rattle.stream_core.specs.Tables.{GrowsBy, KeepsMore, OnlyAdds, StandsFor, IsKept};
     ghost use Rattle.stream_core.specs.Tables.{HasThunk, thunk_in, IsForce};
+    ghost use Rattle.kan_model.specs.Programs.Scope.{is_small};
+    ghost use Rattle.kan_model.specs.Streams.Stream.{Thunk as Suspension};
+    ghost use Rattle.stream_core.specs.CodeSurroundings.{IsForceWithin, StandsClosed};
     ghost use Rattle.stream_core.specs.PlainTables.{plain_table};
     ghost use Rattle.stream_core.specs.declared.plain_nodes.PlainId.{PlainId};
 
     type Id = PlainId;
+
+    type Around = ();
 
     // An id belongs where all that is reached from it is sound: each suspension fits, and what is
     // kept for it is its force.
     ghost table = { λ nodes. plain_table St.meaning nodes };
 
     ghost fits = { λ nodes id belongs. (belongs 0).1 };
+
+    // Nothing is taken apart, since a stream may be kept for each.
+    ghost around_in = { λ nodes around. [] };
+
+    ghost around_stays = { λ was is grew around. refl };
 
     fn suspend(&mut self, thunk: Thunk<PlainId, St>) -> Result<PlainId, Memory>
         requires belong { HasThunk (plain_table St.meaning self.old) thunk }
@@ -115,12 +126,28 @@ impl<'a, St: Store> Nodes<St> for PlainNodes<'a, St> {
         &self.rows[id.at].thunk
     }
 
-    fn opened(&self, id: PlainId) -> Result<Thunk<PlainId, St>, PlainId> {
-        Err(id)
+    fn part(&self, id: PlainId) -> Parted<(), PlainId, St> {
+        Parted {
+            around: (),
+            innermost: Innermost::Shared(id),
+        }
     }
 
-    fn keeps(&self) -> bool {
-        true
+    fn close(
+        &self,
+        _alloc: Global,
+        _around: (),
+        inside: Stream<PlainId, St>,
+    ) -> Result<Closed<(), PlainId, St>, Memory>
+        requires { is_small (plain_table St.meaning self.now).program ≡ true }
+        ensures { IfOk result (λ closed. (whole : Suspension) →
+            Fits (plain_table St.meaning self.now).program whole →
+            IsForceWithin (plain_table St.meaning self.now) (λ around. []) St.meaning whole
+            _around inside →
+            StandsClosed (plain_table St.meaning self.now) (λ around. []) St.meaning whole
+            _around closed) }
+    {
+        Ok(Closed::Made(inside))
     }
 
     fn again(&self, id: &PlainId) -> Result<PlainId, Memory> {

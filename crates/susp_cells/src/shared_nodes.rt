@@ -10,7 +10,7 @@ use kan_model::Store;
 use kan_terms::{ListOf, Memory};
 use std::alloc::Global;
 use std::sync::Wait;
-use stream_core::{Nodes, Stores, Stream, Thunk, put_last};
+use stream_core::{Closed, Innermost, Nodes, Parted, Stores, Stream, Thunk, put_last};
 
 /// The suspensions of a shared table, for the thread with a number. The thread passes the gate
 /// before each try to settle one.
@@ -79,18 +79,29 @@ fn stream_of<St: Store>(alloc: Global, forced: &Forced<St>) -> Result<Stream<Sus
 }
 
 impl<'a, St: Store, G: Gate, R: Wait> Nodes<St> for SharedNodes<'a, St, G, R> {
-    ghost use Rattle.std.specs.Prelude.{false, suc, option_map, OnOk, OnErr};
+    ghost use Rattle.std.proofs.Common.{refl};
+    ghost use Rattle.std.specs.Prelude.{false, suc, true, option_map, [], OnOk, OnErr};
     ghost use Rattle.kan_model.specs.Streams.Bounds.{Fits};
     ghost use Rattle.stream_core.specs.Tables.{GrowsBy, KeepsMore, OnlyAdds, StandsFor, IsKept};
     ghost use Rattle.stream_core.specs.Tables.{HasThunk, thunk_in, IsForce};
+    ghost use Rattle.kan_model.specs.Programs.Scope.{is_small};
+    ghost use Rattle.kan_model.specs.Streams.Stream.{Thunk as Suspension};
+    ghost use Rattle.stream_core.specs.CodeSurroundings.{IsForceWithin, StandsClosed};
     ghost use Rattle.susp_cells.specs.Tables.{table_of};
 
     type Id = Susp<St>;
+
+    type Around = ();
 
     // Others use the table at the same time, so it doesn't tell what is kept.
     ghost table = { λ nodes. table_of nodes.table.now };
 
     ghost fits = { λ nodes id belongs. belongs.fits };
+
+    // Nothing is taken apart, since a stream may be kept for each.
+    ghost around_in = { λ nodes around. [] };
+
+    ghost around_stays = { λ was is grew around. refl };
 
     fn suspend(&mut self, thunk: Thunk<Susp<St>, St>) -> Result<Susp<St>, Memory>
         requires belong { HasThunk (table_of self.old.table.now) thunk }
@@ -112,12 +123,28 @@ impl<'a, St: Store, G: Gate, R: Wait> Nodes<St> for SharedNodes<'a, St, G, R> {
         self.table.thunk(id)
     }
 
-    fn opened(&self, id: Susp<St>) -> Result<Thunk<Susp<St>, St>, Susp<St>> {
-        Err(id)
+    fn part(&self, id: Susp<St>) -> Parted<(), Susp<St>, St> {
+        Parted {
+            around: (),
+            innermost: Innermost::Shared(id),
+        }
     }
 
-    fn keeps(&self) -> bool {
-        true
+    fn close(
+        &self,
+        _alloc: Global,
+        _around: (),
+        inside: Stream<Susp<St>, St>,
+    ) -> Result<Closed<(), Susp<St>, St>, Memory>
+        requires { is_small (table_of self.now.table.now).program ≡ true }
+        ensures { IfOk result (λ closed. (whole : Suspension) →
+            Fits (table_of self.now.table.now).program whole →
+            IsForceWithin (table_of self.now.table.now) (λ around. []) St.meaning whole
+            _around inside →
+            StandsClosed (table_of self.now.table.now) (λ around. []) St.meaning whole
+            _around closed) }
+    {
+        Ok(Closed::Made(inside))
     }
 
     fn again(&self, id: &Susp<St>) -> Result<Susp<St>, Memory> {
