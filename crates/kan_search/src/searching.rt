@@ -111,8 +111,7 @@ impl<'a, St: Store, N: Nodes<St> + Drop> Search<'a, St, N> {
 
     // The next store of the stream, where it has one before a pull and more answers are wanted.
     fn next_head(&mut self) -> Option<St>
-        ensures some
-            { IfSome result (λ store. answers_left self.old ≡ with_answer (St.meaning store)
+        ensures some { IfSome result (λ store. answers_left self.old ≡ with_answer (St.meaning store)
             (answers_left self.new)) }
         ensures none { IfNone result (GivesNone self.new.limit self.new.heads ×
             (answers_left self.new ≡ answers_left self.old)) }
@@ -134,7 +133,7 @@ impl<'a, St: Store, N: Nodes<St> + Drop> Search<'a, St, N> {
         requires { length answers.old ≤ greatest_batch }
         ensures joined { OnOk result ((pulls : ℕ) → batch_then (map St.meaning answers.old) pulls
             (answers_left self.old)
-                ≡ batch_then (map St.meaning answers.new) pulls (answers_left self.new)) }
+            ≡ batch_then (map St.meaning answers.new) pulls (answers_left self.new)) }
         ensures few { OnOk result (length answers.new ≤ greatest_batch) }
         ensures none { OnOk result (length answers.new < greatest_batch → GivesNone self.new.limit
             self.new.heads) }

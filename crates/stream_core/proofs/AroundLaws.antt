@@ -81,7 +81,7 @@ module _ {A I St : Type 0} (t : Table I) (around_in : A → List outer.Around) (
     force = (
       belong,
       is ∙ ap (λ q. model.bind_all (run (goal_in q g) (terms_of env)) (goal_in q g) (terms_of env) (stream_in t means s)) (sym table.program)
-      ∙ ap (model.bind_all (run (goal_in t.program g) (terms_of env)) (goal_in t.program g) (terms_of env)) inside.force.1
-      ∙ ap (λ q. force q (model.Thunk.bind (goal_in t.program g) (terms_of env) inside.tree)) (sym adds.program),
+          ∙ ap (model.bind_all (run (goal_in t.program g) (terms_of env)) (goal_in t.program g) (terms_of env)) inside.force.1
+          ∙ ap (λ q. force q (model.Thunk.bind (goal_in t.program g) (terms_of env) inside.tree)) (sym adds.program),
     );
   }

@@ -119,9 +119,7 @@ fn weight_of<St: Drop>(thunk: &Thunk<LinkedId<St>, St>) -> u64 {
             heads: _,
             tail: Some(tail),
             inner,
-        } => weight(inner)
-            .saturating_add(weight(tail))
-            .saturating_add(1),
+        } => weight(inner).saturating_add(weight(tail)).saturating_add(1),
     }
 }
 
@@ -171,10 +169,7 @@ enum Entered<St: Drop> {
 }
 
 // Lets a stream without stores into the place of the one inside a goal that waits.
-fn enter_bind<St: Drop>(
-    inner: &mut LinkedId<St>,
-    inside: Stream<LinkedId<St>, St>,
-) -> Entered<St>
+fn enter_bind<St: Drop>(inner: &mut LinkedId<St>, inside: Stream<LinkedId<St>, St>) -> Entered<St>
     ensures { IsInsideBind inner.old inside inner.new result }
 {
     if !inside.heads.is_empty() {
@@ -462,10 +457,7 @@ fn exchange_in_node<St: Store>(
 
 impl<St: Store> LinkedId<St> {
     /// The id of a suspension.
-    pub(crate) fn of(
-        alloc: Global,
-        thunk: Thunk<LinkedId<St>, St>,
-    ) -> Result<LinkedId<St>, Memory>
+    pub(crate) fn of(alloc: Global, thunk: Thunk<LinkedId<St>, St>) -> Result<LinkedId<St>, Memory>
         ensures { IfOk result (λ id. suspension_of id ≡ Some thunk) }
     {
         let weight = weight_of(&thunk);

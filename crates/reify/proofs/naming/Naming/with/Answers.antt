@@ -7,4 +7,4 @@ use Rattle.reify.proofs.naming.Naming.with.Goals as goal
 pub invariant_of-result : goal.invariant_of-result
 invariant_of-result c =
     name_added c.self.inside.variables.items c.push.new.self.items c.args.var c.len-number.result (under_key number_of c.self.inside.names) (under_key number_of c.put.new.self)
-        (search rules) (search rules) (search rules) c.self.invariant c.in_ok-put.ensures.ok
+    (search rules) (search rules) (search rules) c.self.invariant c.in_ok-put.ensures.ok

@@ -17,7 +17,7 @@ returns-in_ok-thunk-in-Outside g c =
     let means = g.St.Store.meaning in
     IfOk-weaker c.level_of.result _ (λ level. (at : ℕ → Goal) → IsLevel means at (linked_around means at c.args.self) c.args.inside level)
     (λ level is at.
-      let kept = c.in-Outside.ensures at in
-      let same = ap (λ r. r.around) (read-id means at c.args.self c.in-Some.node c.in-Some.is) ∙ ap (linked_layers means at) (sym kept.0) ∙ sym (c.in_ok-thunk-in-Outside.ensures at) in
-      subst (λ around. IsLevel means at around c.args.inside level) (sym same) (subst (λ s. IsLevel means at (linked_layers means at c.in_ok-thunk-in-Outside.thunk) s level) kept.1 (is at)))
+    let kept = c.in-Outside.ensures at in
+    let same = ap (λ r. r.around) (read-id means at c.args.self c.in-Some.node c.in-Some.is) ∙ ap (linked_layers means at) (sym kept.0) ∙ sym (c.in_ok-thunk-in-Outside.ensures at) in
+    subst (λ around. IsLevel means at around c.args.inside level) (sym same) (subst (λ s. IsLevel means at (linked_layers means at c.in_ok-thunk-in-Outside.thunk) s level) kept.1 (is at)))
     c.level_of.ensures
