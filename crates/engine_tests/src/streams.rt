@@ -5,6 +5,7 @@ ghost use Rattle.std.specs.Prelude.{◌≡◌, ◌<◌, [], IfOk, IfSome};
 ghost use Rattle.kan_model.specs.Programs.Closed as programs;
 ghost use Rattle.kan_model.specs.Programs.Environments.{terms_of};
 ghost use Rattle.stream_core.specs.Tables.{IsTableOf, OnlyAdds};
+ghost use Rattle.stream_core.specs.LinkedTables.{linked_table};
 ghost use Rattle.stream_core.specs.PlainTables.{plain_table};
 ghost use Rattle.susp_cells.specs.Tables.{table_of};
 ghost use Rattle.engine_tests.specs.Small.{endless_tables};
@@ -17,7 +18,7 @@ use kan_terms::Memory;
 use std::alloc::Global;
 use std::process::Abort;
 use std::test::Fail;
-use stream_core::{Nodes, PlainNodes, Stream, append, bind_all, force, run_goal};
+use stream_core::{LinkedNodes, Nodes, PlainNodes, Stream, append, bind_all, force, run_goal};
 use susp_cells::{OpenGate, SharedNodes, Table};
 
 // How many stores a stream has, and whether it goes on behind them.
@@ -281,6 +282,14 @@ fn plain_nodes<'a, St: Store>(alloc: Global, program: &'a Program) -> PlainNodes
     PlainNodes::new(alloc, program)
 }
 
+// The table whose ids own their suspensions.
+fn linked_nodes<'a, St: Store>(alloc: Global, program: &'a Program) -> LinkedNodes<'a>
+    requires { programs.tables program.now ≡ endless_tables }
+    ensures { IsTableOf program.now (linked_table St.meaning result) }
+{
+    LinkedNodes::new(alloc, program)
+}
+
 // The empty shared table for it.
 fn shared_table<'a, St: Store>(alloc: Global, program: &'a Program) -> Result<Table<'a, St>, Memory>
     requires { programs.tables program.now ≡ endless_tables }
@@ -294,6 +303,13 @@ fn streams_over_the_table_of_one_thread(rt: HostRuntime) -> Result<(), Fail> {
     let program = endless_program(rt.alloc())?;
     let mut nodes: PlainNodes<PlainStore> = plain_nodes(rt.alloc(), &program);
     expect_shapes(&rt, &program, &mut nodes)
+}
+
+#[test]
+fn streams_over_suspensions_that_ids_own(rt: HostRuntime) -> Result<(), Fail> {
+    let program = endless_program(rt.alloc())?;
+    let mut nodes = linked_nodes::<PlainStore>(rt.alloc(), &program);
+    expect_shapes::<LinkedNodes<'_>, PlainStore>(&rt, &program, &mut nodes)
 }
 
 #[test]

@@ -4,6 +4,7 @@ ghost use Rattle.std.specs.Prelude.{◌≡◌, ◌≤◌, ◌^◌, IfOk};
 ghost use Rattle.kan_model.specs.Streams.Bounds.{top};
 ghost use Rattle.kan_model.specs.Programs.Closed as programs;
 ghost use Rattle.stream_core.specs.Tables.{Grows, IsTableOf};
+ghost use Rattle.stream_core.specs.LinkedTables.{linked_table};
 ghost use Rattle.stream_core.specs.PlainTables.{plain_table};
 ghost use Rattle.susp_cells.specs.Tables.{table_of};
 ghost use Rattle.engine_tests.specs.Small.{small_tables};
@@ -16,7 +17,7 @@ use std::alloc::Global;
 use std::process::Abort;
 use std::sync::atomic::{AtomicU64, Ordering};
 use std::test::Fail;
-use stream_core::{Nodes, PlainNodes, Stream, Thunk, force};
+use stream_core::{LinkedNodes, Nodes, PlainNodes, Stream, Thunk, force, force_once};
 use susp_cells::{Gate, OpenGate, SharedNodes, Table};
 
 // The empty table for the small program.
@@ -33,6 +34,14 @@ fn shared_table<'a, St: Store>(alloc: Global, program: &'a Program) -> Result<Ta
     ensures { IfOk result (λ made. IsTableOf program.now (table_of made)) }
 {
     Table::new(alloc, program)
+}
+
+// The table for the small program whose ids own their suspensions.
+fn linked_table<'a, St: Store>(alloc: Global, program: &'a Program) -> LinkedNodes<'a>
+    requires { programs.tables program.now ≡ small_tables }
+    ensures { IsTableOf program.now (linked_table St.meaning result) }
+{
+    LinkedNodes::new(alloc, program)
 }
 
 // A gate that counts the threads that pass it.
@@ -161,6 +170,71 @@ fn a_deep_suspension_is_forced(rt: HostRuntime) -> Result<(), Fail> {
     let inner = suspended_call(alloc, &program, &mut nodes)?;
     let id = nested(alloc, inner, 100_000, &mut nodes)?;
     expect_kept(&rt, &program, &id, &mut nodes)
+}
+
+// Demands what a suspension gives that is given up.
+fn expect_once<N: Nodes<St>, St: Store>(
+    rt: &(impl Abort + Alloc<A = Global>),
+    program: &Program,
+    id: N::Id,
+    nodes: &mut N,
+) -> Result<(), Fail>
+    requires table { IsTableOf program.now (N.table nodes.old) }
+    requires belongs { (N.table nodes.old).belongs id }
+    requires room { top ((N.table nodes.old).tree id) ≤ 2 ^ 62 }
+{
+    let stream = force_once(rt.alloc(), program, id, nodes)?;
+    expect_one(rt, &stream);
+    Ok(())
+}
+
+#[test]
+fn a_deep_suspension_is_given_up(rt: HostRuntime) -> Result<(), Fail> {
+    let alloc = rt.alloc();
+    let program = small_program(alloc)?;
+    let mut nodes = linked_table::<PlainStore>(alloc, &program);
+    let inner = suspended_call::<LinkedNodes<'_>, PlainStore>(alloc, &program, &mut nodes)?;
+    let id = nested::<LinkedNodes<'_>, PlainStore>(alloc, inner, 1_000_000, &mut nodes)?;
+    expect_once::<LinkedNodes<'_>, PlainStore>(&rt, &program, id, &mut nodes)
+}
+
+// Demands that a suspension gives the same whether another id has it or not.
+fn expect_twice<N: Nodes<St>, St: Store>(
+    rt: &(impl Abort + Alloc<A = Global>),
+    program: &Program,
+    id: N::Id,
+    nodes: &mut N,
+) -> Result<(), Fail>
+    requires table { IsTableOf program.now (N.table nodes.old) }
+    requires belongs { (N.table nodes.old).belongs id }
+    requires room { top ((N.table nodes.old).tree id) ≤ 2 ^ 62 }
+{
+    let copy = nodes.again(&id)?;
+    let stream = force(rt.alloc(), program, &copy, nodes)?;
+    expect_one(rt, &stream);
+    expect_once(rt, program, id, nodes)
+}
+
+#[test]
+fn a_shared_suspension_is_copied(rt: HostRuntime) -> Result<(), Fail> {
+    let alloc = rt.alloc();
+    let program = small_program(alloc)?;
+    let mut nodes = linked_table::<PlainStore>(alloc, &program);
+    let inner = suspended_call::<LinkedNodes<'_>, PlainStore>(alloc, &program, &mut nodes)?;
+    let id = nested::<LinkedNodes<'_>, PlainStore>(alloc, inner, 1_000, &mut nodes)?;
+    expect_twice::<LinkedNodes<'_>, PlainStore>(&rt, &program, id, &mut nodes)
+}
+
+#[test]
+fn a_deep_suspension_is_dropped(rt: HostRuntime) -> Result<(), Fail> {
+    let alloc = rt.alloc();
+    let program = small_program(alloc)?;
+    let mut nodes = linked_table::<PlainStore>(alloc, &program);
+    let inner = suspended_call::<LinkedNodes<'_>, PlainStore>(alloc, &program, &mut nodes)?;
+    let id = nested::<LinkedNodes<'_>, PlainStore>(alloc, inner, 1_000_000, &mut nodes)?;
+    let copy = Nodes::<PlainStore>::again(&nodes, &id)?;
+    drop(id);
+    expect_once::<LinkedNodes<'_>, PlainStore>(&rt, &program, copy, &mut nodes)
 }
 
 #[test]
