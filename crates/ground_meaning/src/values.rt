@@ -88,7 +88,8 @@ fn put_mark(mark: Mark, marks: &mut Vec<Mark>) -> Result<(), Memory>
 
 // Puts the marks of a slot's value behind others.
 fn put_slot(values: &Grounds, slot: u32, marks: &mut Vec<Mark>) -> Result<(), Memory>
-    ensures { OnOk result (marks.new.items ≡ marks.old.items ++ spelling (value_at values.now slot)) }
+    ensures { OnOk result
+        (marks.new.items ≡ marks.old.items ++ spelling (value_at values.now slot)) }
 {
     match values.get(slot as usize) {
         Some(term) => {

@@ -19,11 +19,14 @@ pub struct Draft {
     pub(crate) arguments: Vec<u32>,
     pub(crate) goals: Vec<GoalRow>,
     pub(crate) relations: Vec<Relation>,
-    ghost grown: { IsTrue (is_grown (tables_from terms.items arguments.items goals.items relations.items)) },
+    ghost grown: { IsTrue (is_grown
+        (tables_from terms.items arguments.items goals.items relations.items)) },
     ghost heights: { HeightsNoted terms.items (templates_of (term_entries terms.items)) },
     ghost slots: { SlotsNoted terms.items (templates_of (term_entries terms.items)) },
-    ghost widths: { WidthsNoted goals.items (goals_of (tables_from terms.items arguments.items goals.items relations.items)) },
-    ghost goal_slots: { GoalSlotsNoted goals.items (goals_of (tables_from terms.items arguments.items goals.items relations.items)) },
+    ghost widths: { WidthsNoted goals.items
+        (goals_of (tables_from terms.items arguments.items goals.items relations.items)) },
+    ghost goal_slots: { GoalSlotsNoted goals.items
+        (goals_of (tables_from terms.items arguments.items goals.items relations.items)) },
 }
 
 impl Draft {
@@ -194,7 +197,8 @@ impl Draft {
     pub fn term(&mut self, node: TermNode) -> Result<u32, Memory>
         requires there { is_term_grown (length (tables self.old).terms) (term_entry node) ≡ true }
         requires room { length (tables self.old).terms < 2 ^ 32 - 1 }
-        ensures added { OnOk result (tables self.new ≡ with_term (tables self.old) (term_entry node)) }
+        ensures added { OnOk result
+            (tables self.new ≡ with_term (tables self.old) (term_entry node)) }
         ensures place { IfOk result (λ at. at ≡ length (tables self.old).terms) }
         ensures unchanged { OnErr result (tables self.new ≡ tables self.old) }
     {
@@ -228,7 +232,8 @@ impl Draft {
         requires there { is_goal_grown (tables self.old) (length (tables self.old).goals)
             (goal_entry node) ≡ true }
         requires room { length (tables self.old).goals < 2 ^ 32 - 1 }
-        ensures added { OnOk result (tables self.new ≡ with_goal (tables self.old) (goal_entry node)) }
+        ensures added { OnOk result
+            (tables self.new ≡ with_goal (tables self.old) (goal_entry node)) }
         ensures place { IfOk result (λ at. at ≡ length (tables self.old).goals) }
         ensures unchanged { OnErr result (tables self.new ≡ tables self.old) }
     {

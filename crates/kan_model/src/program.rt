@@ -12,7 +12,8 @@ use crate::draft::Draft;
 #[derive(Drop)]
 pub struct Program {
     pub(crate) draft: Draft,
-    ghost closed: { IsTrue (are_closed (tables_from draft.terms.items draft.arguments.items draft.goals.items draft.relations.items) []) },
+    ghost closed: { IsTrue (are_closed (tables_from draft.terms.items draft.arguments.items
+        draft.goals.items draft.relations.items) []) },
 }
 
 /// Why a draft is no program. The draft comes back as it was.

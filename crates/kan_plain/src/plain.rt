@@ -23,10 +23,13 @@ pub struct PlainStore {
     prims: Vec<Asserted>,
     counter: u64,
     answer: Vec<Replaced>,
-    ghost kept: { IsTrue (is_kept (record { prims = map primitive prims.items; counter = counter })) },
-    ghost counted: { IsTrue (is_counted (record { prims = map primitive prims.items; counter = counter })) },
+    ghost kept: { IsTrue
+        (is_kept (record { prims = map primitive prims.items; counter = counter })) },
+    ghost counted: { IsTrue
+        (is_counted (record { prims = map primitive prims.items; counter = counter })) },
     ghost bounded: { counter ≤ 2 ^ 63 },
-    ghost answered: { IsTrue (is_answer (map replaced_by answer.items) (spec.solve (equations (map primitive prims.items)))) },
+    ghost answered: { IsTrue (is_answer (map replaced_by answer.items)
+        (spec.solve (equations (map primitive prims.items)))) },
 }
 
 // Adds the equation of a primitive, where it is one.
@@ -56,7 +59,8 @@ fn list_equations(alloc: Global, prims: &[Asserted]) -> Result<Vec<TermPair>, Me
 
 // The equations of primitives, the first on top of the stack.
 fn stack_equations(alloc: Global, prims: &[Asserted]) -> Result<Vec<TermPair>, Memory>
-    ensures { IfOk result (λ pending. on_stack pending.items ≡ equations (map primitive prims.now)) }
+    ensures { IfOk result (λ pending. on_stack pending.items
+        ≡ equations (map primitive prims.now)) }
 {
     let mut pending = list_equations(alloc, prims)?;
     pending.reverse();
@@ -75,7 +79,8 @@ fn answer_of(alloc: Global, prims: &[Asserted]) -> Result<Option<Vec<Replaced>>,
 impl PlainStore {
     // The store of these primitives, where they are kept.
     fn of(alloc: Global, prims: Vec<Asserted>, counter: u64) -> Result<Option<PlainStore>, Memory>
-        requires counted { is_counted (record { prims = map primitive prims.items; counter = counter }) ≡ true }
+        requires counted { is_counted
+            (record { prims = map primitive prims.items; counter = counter }) ≡ true }
         requires bounded { counter ≤ 2 ^ 63 }
         ensures { IfOk result
             (λ made. Gives (record { prims = map primitive prims.items; counter = counter })
@@ -100,7 +105,10 @@ impl PlainStore {
 }
 
 impl Store for PlainStore {
-    ghost meaning = { λ store. record { prims = map primitive store.prims.items; counter = store.counter } };
+    ghost meaning = { λ store. record {
+      prims = map primitive store.prims.items;
+      counter = store.counter;
+    } };
 
     ghost kept = { λ store. store.kept };
 

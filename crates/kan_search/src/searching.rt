@@ -111,8 +111,8 @@ impl<'a, St: Store, N: Nodes<St> + Drop> Search<'a, St, N> {
 
     // The next store of the stream, where it has one before a pull and more answers are wanted.
     fn next_head(&mut self) -> Option<St>
-        ensures some { IfSome result (λ store. answers_left self.old ≡ with_answer (St.meaning store)
-            (answers_left self.new)) }
+        ensures some { IfSome result (λ store. answers_left self.old
+            ≡ with_answer (St.meaning store) (answers_left self.new)) }
         ensures none { IfNone result (GivesNone self.new.limit self.new.heads ×
             (answers_left self.new ≡ answers_left self.old)) }
         ensures fewer { IfSome result (λ _. length self.new.heads < length self.old.heads) }

@@ -183,7 +183,8 @@ fn parts(left: &PairParts, right: &PairParts) -> Result<Work, Memory>
 // What is to be done with two different sides.
 fn work_apart<O: Order>(alloc: Global, left: &Term, right: &Term, order: &O) -> Result<Work, Memory>
     ensures { IfOk result
-        (λ made. work_of made ≡ spec.work_apart (O.left order.now) (tree left.now) (tree right.now)) }
+        (λ made. work_of made
+        ≡ spec.work_apart (O.left order.now) (tree left.now) (tree right.now)) }
 {
     match left {
         Term::Var(var) => match right {
@@ -204,7 +205,8 @@ fn work_apart<O: Order>(alloc: Global, left: &Term, right: &Term, order: &O) -> 
 
 // What is to be done with an equation.
 fn work_on<O: Order>(alloc: Global, given: &TermPair, order: &O) -> Result<Work, Memory>
-    ensures { IfOk result (λ made. work_of made ≡ spec.work (O.left order.now) (equation given.now)) }
+    ensures { IfOk result (λ made. work_of made
+        ≡ spec.work (O.left order.now) (equation given.now)) }
 {
     if same_terms(alloc, &given.first, &given.rest)? {
         return Ok(Work::Identical);
@@ -285,7 +287,8 @@ fn step<O: Order>(
 ) -> Result<bool, Memory>
     ensures { IfOk result
         (λ goes_on. StepTo (on_stack pending.old.items) (map replaced_by made.old.items)
-        goes_on (on_stack pending.new.items) (map replaced_by made.new.items) (spec.work (O.left order.now) (equation given))) }
+        goes_on (on_stack pending.new.items) (map replaced_by made.new.items)
+        (spec.work (O.left order.now) (equation given))) }
 {
     match work_on(alloc, &given, order)? {
         Work::Identical => Ok(true),
@@ -310,7 +313,8 @@ pub fn solve<O: Order>(
     order: &O,
 ) -> Result<Option<Vec<Replaced>>, Memory>
     ensures { IfOk result (λ answer.
-        option_map (λ made. map replaced_by made.items) answer ≡ spec.solve_by (O.left order.now) (on_stack pending.items)) }
+        option_map (λ made. map replaced_by made.items) answer
+        ≡ spec.solve_by (O.left order.now) (on_stack pending.items)) }
 {
     let mut made = Vec::new(alloc);
     while let Some(given) = pending.pop() {

@@ -39,7 +39,8 @@ pub struct SolvedStore<B: Bindings> {
     ghost kept: { IsTrue (is_kept (store_of (arc_value held))) },
     ghost counted: { IsTrue (is_counted (store_of (arc_value held))) },
     ghost bounded: { (arc_value held).counter ≤ 2 ^ 63 },
-    ghost in_step: { ∥ AreInStep (parts_of B.pairs (arc_value held).solved) (store_of (arc_value held)) ∥₁ },
+    ghost in_step: { ∥ AreInStep (parts_of B.pairs (arc_value held).solved)
+        (store_of (arc_value held)) ∥₁ },
 }
 
 // The primitives of a store with a primitive more.
