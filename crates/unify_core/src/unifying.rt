@@ -12,7 +12,8 @@ ghost use Rattle.unify_core.specs.Lent.{waiting_equations, with_lent};
 ghost use Rattle.unify_core.specs.Solutions.{AddedTo, IsSolution, bindings_solved, equation};
 ghost use Rattle.unify_core.specs.Unifying.{Adds, AddsBinding, Unifying, meeting, met};
 ghost use Rattle.unify_core.specs.Unifying.{same_atoms, taken_apart};
-ghost use Rattle.unify_core.specs.Walking.{Pairs};
+ghost use Rattle.unify_core.specs.Walking as walking;
+ghost use Rattle.unify_core.specs.Walking.{IsOtherEnd, Pairs};
 
 use crate::occurring::{is_inside, is_variable};
 use crate::walking::{Lent, walk, walk_on};
@@ -87,7 +88,9 @@ fn bind_unless_inside<'a, B: Bindings>(
     bindings: &'a B,
     lent: &mut Vec<Lent<'a>>,
 ) -> Result<bool, Memory>
-    requires { HasNoCycle (with_lent lent.old.items (B.pairs bindings.now)) }
+    requires no_cycle { HasNoCycle (with_lent lent.old.items (B.pairs bindings.now)) }
+    requires other { IsOtherEnd (with_lent lent.old.items (B.pairs bindings.now)) var
+        (tree term.now) }
     ensures { IfOk result
         (λ fits.
         Binds (B.pairs bindings.now) lent.old.items fits lent.new.items var (tree term.now)) }
@@ -212,7 +215,8 @@ fn added_binding<B: Bindings>(
     term: &Term,
     bindings: &B,
 ) -> Result<Option<TermPairs>, Memory>
-    requires { HasNoCycle (B.pairs bindings.now) }
+    requires no_cycle { HasNoCycle (B.pairs bindings.now) }
+    requires other { IsOtherEnd (B.pairs bindings.now) var (tree term.now) }
     ensures { IfOk result
         (λ found. AddsBinding (B.pairs bindings.now) var (tree term.now)
         (option_map (λ made. map sides made) found)) }
@@ -260,7 +264,9 @@ fn added_by_ends<B: Bindings>(
     right: &Term,
     bindings: &B,
 ) -> Result<Option<TermPairs>, Memory>
-    requires { HasNoCycle (B.pairs bindings.now) }
+    requires no_cycle { HasNoCycle (B.pairs bindings.now) }
+    requires left_walked { walking.walk (B.pairs bindings.now) (tree left.now) ≡ tree left.now }
+    requires right_walked { walking.walk (B.pairs bindings.now) (tree right.now) ≡ tree right.now }
     ensures { IfOk result
         (λ found. Adds (B.pairs bindings.now) (meeting (tree left.now) (tree right.now))
         (option_map (λ made. map sides made) found)) }
