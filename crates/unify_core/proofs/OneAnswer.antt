@@ -28,7 +28,7 @@ from bound e es r (Unifying.bound_one {x = x} {t = t} {added = q} h out d) = sub
 from bound e es r (Unifying.inside {x = x} {t = t} h inside) = subst (From bound es r) (sym h) (subst (FromBinding bound es r x t) (sym inside) refl)
 from bound e es r (Unifying.apart h) = subst (From bound es r) (sym h) refl
 
-nothing_added : (bound : Pairs) (r : Option (List (Tm × Tm))) → Unifying bound [] r → Some [] ≡ r
+pub nothing_added : (bound : Pairs) (r : Option (List (Tm × Tm))) → Unifying bound [] r → Some [] ≡ r
 nothing_added bound r Unifying.no_equation = refl
 
 is_one : (bound : Pairs) (es : List Equation) (r q : Option (List (Tm × Tm))) → Unifying bound es r → Unifying bound es q → r ≡ q

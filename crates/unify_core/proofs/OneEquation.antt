@@ -1,12 +1,12 @@
 -- One equation alone, decided by what its sides ask for.
-use Rattle.std.proofs.Common.{◌≡◌, ℕ, Bool, true, false, List, [], ◌∷◌, Option, Some, None, sym, ap, subst, refl, ◌∙◌, true≢false}
+use Rattle.std.proofs.Common.{◌≡◌, ℕ, true, List, [], ◌∷◌, Option, Some, None, option_map, sym, ap₂, subst, refl}
 use Rattle.kan_terms.specs.Tree.{Tree, Tm}
 use Rattle.kan_model.specs.Stores.Store.{Equation}
 use Rattle.kan_model.specs.Stores.Kept.{is_variable}
-use Rattle.unify_core.specs.declared.unifying.Sides.{Sides}
-use Rattle.unify_core.specs.Walking.{Pairs}
-use Rattle.unify_core.specs.Lent.{waiting_equations, Parts}
-use Rattle.unify_core.specs.Unifying.{Meeting, met, meeting, Unifying, Adds}
+use Rattle.unify_core.specs.Walking.{Pairs, walk}
+use Rattle.unify_core.specs.Solutions.{equation}
+use Rattle.unify_core.specs.Unifying.{Meeting, met, meeting, Unifying, Adds, AddsBinding}
+use Rattle.unify_core.proofs.OneAnswer.{nothing_added}
 
 -- what is added by what the sides ask for is what unification adds
 pub adds_alone : (bound : Pairs) (e : Equation) (added : Option (List (Tm × Tm))) → Adds bound (met bound e) added → Unifying bound (e ∷ []) added
@@ -20,21 +20,19 @@ adds_alone bound e added adds = by (met bound e) refl added adds
         subst (λ r. Unifying bound (e ∷ []) (Some r)) (sym one) (Unifying.bound_one asks out Unifying.no_equation)
     by Meeting.clash asks r none = subst (Unifying bound (e ∷ [])) (sym none) (Unifying.apart asks)
 
--- where two terms were taken apart onto an empty stack, what waits adds what they add
-pub apart_adds : (bound : Pairs) (m : Meeting) (old new : List Sides) (goes_on : Bool) → old ≡ [] → Parts (waiting_equations old) goes_on (waiting_equations new) m → goes_on ≡ true →
-    (added : Option (List (Tm × Tm))) → Unifying bound (waiting_equations new) added → Adds bound m added
-apart_adds bound Meeting.nothing old new goes_on none (on, left) go added d = subst (λ es. Unifying bound es added) (left ∙ ap waiting_equations none) d
-apart_adds bound (Meeting.parts first rest) old new goes_on none (on, left) go added d =
-    subst (λ es. Unifying bound es added) (left ∙ ap (λ ss. first ∷ rest ∷ waiting_equations ss) none) d
-apart_adds bound (Meeting.binding x t) old new goes_on none never go added d = absurd never
-apart_adds bound Meeting.clash old new goes_on none stopped go added d = absurd (true≢false (sym go ∙ stopped))
+-- and what unification adds is what the sides ask for
+alone_adds : (bound : Pairs) (e : Equation) (added : Option (List (Tm × Tm))) → Unifying bound (e ∷ []) added → Adds bound (met bound e) added
+alone_adds bound e added (Unifying.same asks d) = subst (λ m. Adds bound m added) (sym asks) d
+alone_adds bound e added (Unifying.parted asks d) = subst (λ m. Adds bound m added) (sym asks) d
+alone_adds bound e added (Unifying.bound_one {x = x} {t = t} {added = more} asks out d) =
+    subst (λ m. Adds bound m (option_map (λ more. (Tree.leaf x, t) ∷ more) more)) (sym asks)
+    (subst (λ r. AddsBinding bound x t (option_map (λ more. (Tree.leaf x, t) ∷ more) r)) (nothing_added ((x, t) ∷ bound) more d) (out, refl))
+alone_adds bound e added (Unifying.inside asks inside) = subst (λ m. Adds bound m None) (sym asks) inside
+alone_adds bound e added (Unifying.apart asks) = subst (λ m. Adds bound m None) (sym asks) refl
 
--- and where they can't be, they add nothing
-pub apart_none : (bound : Pairs) (m : Meeting) (old new : List Sides) (goes_on : Bool) → Parts (waiting_equations old) goes_on (waiting_equations new) m → goes_on ≡ false → Adds bound m None
-apart_none bound Meeting.nothing old new goes_on (on, left) stop = absurd (true≢false (sym on ∙ stop))
-apart_none bound (Meeting.parts first rest) old new goes_on (on, left) stop = absurd (true≢false (sym on ∙ stop))
-apart_none bound (Meeting.binding x t) old new goes_on never stop = absurd never
-apart_none bound Meeting.clash old new goes_on stopped stop = refl
+-- two terms that walk to themselves
+pub ends_add : (bound : Pairs) (a b : Tm) → walk bound a ≡ a → walk bound b ≡ b → (added : Option (List (Tm × Tm))) → Unifying bound (equation a b ∷ []) added → Adds bound (meeting a b) added
+ends_add bound a b left right added d = subst (λ m. Adds bound m added) (ap₂ meeting left right) (alone_adds bound (equation a b) added d)
 
 -- a variable and itself add nothing
 pub same_adds : (bound : Pairs) (x : ℕ) (s t : Tm) (made : List (Tm × Tm)) → s ≡ Tree.leaf x → is_variable x t ≡ true → made ≡ [] → Adds bound (meeting s t) (Some made)

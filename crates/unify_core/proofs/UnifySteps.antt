@@ -1,5 +1,6 @@
 -- The steps of unification over lent bindings.
-use Rattle.std.proofs.Common.{◌≡◌, ℕ, ◌<◌, Bool, true, false, List, [], ◌∷◌, ◌++◌, Option, Some, None, option_map, append_assoc, append-nil, sym, ap, subst, refl, ◌∙◌, true≢false, suc, ◌-◌, ◌≤◌, map, length, get_or, drop, drop-cons, arith}
+use Rattle.std.proofs.Common.{◌≡◌, ℕ, ◌<◌, List, [], ◌∷◌, ◌++◌, Option, Some, None, option_map, append_assoc, append-nil, sym, ap, subst, refl, ◌∙◌, suc, ◌-◌, ◌≤◌, map, length, get_or, drop, drop-cons, arith}
+use Rattle.std.specs.Option.{option_to_list}
 use Rattle.std.proofs.lemmas.List.{map_push}
 use Rattle.kan_terms.specs.Tree.{Tree, Tm}
 use Rattle.kan_terms.specs.Terms.{tree}
@@ -8,10 +9,11 @@ use Rattle.kan_model.specs.Stores.Prims.{equation as pair_equation}
 use Rattle.kan_model.specs.Stores.Store.{Equation}
 use Rattle.unify_core.specs.declared.walking.Lent.{Lent}
 use Rattle.unify_core.specs.declared.unifying.Sides.{Sides}
+use Rattle.unify_core.specs.declared.unifying.Met.{Met}
 use Rattle.unify_core.specs.Walking.{Pairs}
 use Rattle.unify_core.specs.Cycles.{HasNoCycle}
-use Rattle.unify_core.specs.Lent.{lent_pair, with_lent, lent_sides, equation_of, waiting_equations, Binds, Parts, StepTo}
-use Rattle.unify_core.specs.Unifying.{Meeting, met, taken_apart, Unifying}
+use Rattle.unify_core.specs.Lent.{lent_pair, with_lent, lent_sides, equation_of, waiting_equations, with_top, with_next, MeetsTo, StepTo}
+use Rattle.unify_core.specs.Unifying.{Meeting, met, Unifying}
 use Rattle.unify_core.proofs.CycleLaws.{grown, no_cycle}
 use Rattle.unify_core.proofs.LentLaws.{with_lent-push}
 use Rattle.unify_core.proofs.LoadLaws.{left_over, falls_same, falls_parts, falls_binding}
@@ -22,12 +24,42 @@ pub equations-push : (old : List Sides) (s : Sides) → waiting_equations (old +
 equations-push [] s = refl
 equations-push (t ∷ old) s = ap (λ es. es ++ equation_of t ∷ []) (equations-push old s)
 
--- the equations of the parts of two pairs, put on the stack
-pub parts_left : (old middle new : List Sides) (first rest : Sides) (t u : Tm) → middle ≡ old ++ rest ∷ [] → new ≡ middle ++ first ∷ [] →
-    t ≡ Tree.pair (tree first.left.now) (tree rest.left.now) → u ≡ Tree.pair (tree first.right.now) (tree rest.right.now) →
-    Parts (waiting_equations old) true (waiting_equations new) (taken_apart t u)
-parts_left old middle new first rest t u one two l r =
-    rw (l, r) (refl, ap waiting_equations two ∙ equations-push middle first ∙ ap (λ es. equation_of first ∷ es) (ap waiting_equations one ∙ equations-push old rest))
+-- sides put on a stack whose top is held apart: where there is no top, and where there is one
+pub put_first : (top : Option Sides) (below : List Sides) (s : Sides) → top ≡ None → equation_of s ∷ waiting_equations below ≡ equation_of s ∷ with_top top (waiting_equations below)
+put_first top below s none = ap (λ t. equation_of s ∷ with_top t (waiting_equations below)) (sym none)
+
+pub put_over : (top : Option Sides) (below new : List Sides) (s covered : Sides) → top ≡ Some covered → new ≡ below ++ covered ∷ [] →
+    equation_of s ∷ waiting_equations new ≡ equation_of s ∷ with_top top (waiting_equations below)
+put_over top below new s covered some put =
+    ap (λ es. equation_of s ∷ es) (ap waiting_equations put ∙ equations-push below covered) ∙ ap (λ t. equation_of s ∷ with_top t (waiting_equations below)) (sym some)
+
+-- and taken off
+pub popped : (old new : List Sides) (p : Option Sides) → old ≡ new ++ option_to_list p → (p ≡ None → old ≡ []) → with_next p (waiting_equations new) ≡ waiting_equations old
+popped old new None split none = ap waiting_equations (sym (none refl))
+popped old new (Some s) split none = sym (ap waiting_equations split ∙ equations-push new s)
+
+-- a step by what two terms leave that were met
+pub step_same : (bound : Pairs) (lent lent' : List Lent) (behind left : List Equation) (m : Meeting) → MeetsTo bound lent Met.Same lent' m → left ≡ behind → StepTo bound lent behind (Some left) lent' m
+step_same bound lent lent' behind left Meeting.nothing (same, asks) e = (same, ap Some e)
+step_same bound lent lent' behind left (Meeting.parts first rest) (same, asks) e = cc
+step_same bound lent lent' behind left (Meeting.binding x t) binds e = (binds, e)
+step_same bound lent lent' behind left Meeting.clash (same, asks) e = cc
+
+pub step_parts : (bound : Pairs) (lent lent' : List Lent) (behind left : List Equation) (one other : Sides) (m : Meeting) → MeetsTo bound lent (Met.Parts one other) lent' m →
+    left ≡ equation_of one ∷ equation_of other ∷ behind → StepTo bound lent behind (Some left) lent' m
+step_parts bound lent lent' behind left one other Meeting.nothing (same, asks) e = cc
+step_parts bound lent lent' behind left one other (Meeting.parts first rest) (same, asks) e =
+    let front : equation_of one ≡ first = cc in
+    let back : equation_of other ≡ rest = cc in
+    (same, ap Some (e ∙ ap (λ d. d ∷ equation_of other ∷ behind) front ∙ ap (λ d. first ∷ d ∷ behind) back))
+step_parts bound lent lent' behind left one other (Meeting.binding x t) never e = absurd never
+step_parts bound lent lent' behind left one other Meeting.clash (same, asks) e = cc
+
+pub step_clash : (bound : Pairs) (lent lent' : List Lent) (behind : List Equation) (m : Meeting) → MeetsTo bound lent Met.Clash lent' m → StepTo bound lent behind None lent' m
+step_clash bound lent lent' behind Meeting.nothing (same, asks) = cc
+step_clash bound lent lent' behind (Meeting.parts first rest) (same, asks) = cc
+step_clash bound lent lent' behind (Meeting.binding x t) inside = inside
+step_clash bound lent lent' behind Meeting.clash (same, asks) = refl
 
 -- whatever the equations that are left add stands behind what was lent so far, and all together is what the whole equations add
 abbrev pub Leads : Pairs → List Equation → List Lent → List Equation → Type 0
@@ -53,21 +85,22 @@ lent_more : (bound : Pairs) (lent lent' : List Lent) (one : Lent) (x : ℕ) (t :
 lent_more bound lent lent' one x t is put =
     ap (λ p. p ∷ with_lent lent bound) (sym is) ∙ sym (with_lent-push lent one bound) ∙ ap (λ ls. with_lent ls bound) (sym put)
 
-module _ (bound : Pairs) (whole : List Equation) (e : Equation) (es es' : List Equation) (lent lent' : List Lent) (goes_on : Bool) where
+module _ (bound : Pairs) (whole : List Equation) (e : Equation) (es : List Equation) (lent lent' : List Lent) where
   -- what holds after a step that goes on
-  abbrev pub AfterStep : Type 0
-  AfterStep = Leads bound whole lent' es' × HasNoCycle (with_lent lent' bound) × (left_over (with_lent lent' bound) es' < left_over (with_lent lent bound) (e ∷ es))
+  abbrev pub AfterStep : List Equation → Type 0
+  AfterStep es' = Leads bound whole lent' es' × HasNoCycle (with_lent lent' bound) × (left_over (with_lent lent' bound) es' < left_over (with_lent lent bound) (e ∷ es))
 
-  pub step_on : Leads bound whole lent (e ∷ es) → HasNoCycle (with_lent lent bound) → StepTo bound lent es goes_on lent' es' (met (with_lent lent bound) e) → goes_on ≡ true → AfterStep
-  step_on leads h moved on = by (met (with_lent lent bound) e) refl moved
+  pub step_on : (es' : List Equation) → Leads bound whole lent (e ∷ es) → HasNoCycle (with_lent lent bound) → StepTo bound lent es (Some es') lent' (met (with_lent lent bound) e) → AfterStep es'
+  step_on es' leads h moved = by (met (with_lent lent bound) e) refl moved
     where
-      by : (m : Meeting) → met (with_lent lent bound) e ≡ m → StepTo bound lent es goes_on lent' es' m → AfterStep
-      by Meeting.nothing asks (same, (_, left)) =
+      by : (m : Meeting) → met (with_lent lent bound) e ≡ m → StepTo bound lent es (Some es') lent' m → AfterStep es'
+      by Meeting.nothing asks (same, some) =
+          let left : es' ≡ es = cc in
           rw (same, left) (λ r d. leads r (Unifying.same asks d), h, falls_same (with_lent lent bound) (grown (with_lent lent bound) h) e es asks)
-      by (Meeting.parts one rest) asks (same, (_, left)) =
+      by (Meeting.parts one rest) asks (same, some) =
+          let left : es' ≡ one ∷ rest ∷ es = cc in
           rw (same, left) (λ r d. leads r (Unifying.parted asks d), h, falls_parts (with_lent lent bound) (grown (with_lent lent bound) h) e es one rest asks)
-      by (Meeting.binding x t) asks (binds, left) =
-          let (out, (one, is, put)) = subst (λ c. Binds bound lent c lent' x t) on binds in
+      by (Meeting.binding x t) asks ((out, (one, is, put)), left) =
           let more : (x, t) ∷ with_lent lent bound ≡ with_lent lent' bound = lent_more bound lent lent' one x t is put in
           rw left (
             λ r d. subst (Unifying bound whole) (one_more lent lent' one x t is put r)
@@ -75,52 +108,47 @@ module _ (bound : Pairs) (whole : List Equation) (e : Equation) (es es' : List E
             subst HasNoCycle more (no_cycle ((x, t) ∷ with_lent lent bound) (binding_grows ⊥ (with_lent lent bound) (grown (with_lent lent bound) h) e x t asks out)),
             subst (λ b. left_over b es < left_over (with_lent lent bound) (e ∷ es)) more (falls_binding (with_lent lent bound) (grown (with_lent lent bound) h) e es x t asks out),
           )
-      by Meeting.clash asks (same, stopped) = absurd (true≢false (sym on ∙ stopped))
+      by Meeting.clash asks stopped = cc
 
   -- a step that doesn't finds that there is no unifier
-  pub step_off : Leads bound whole lent (e ∷ es) → StepTo bound lent es goes_on lent' es' (met (with_lent lent bound) e) → goes_on ≡ false → Unifying bound whole None
-  step_off leads moved off = by (met (with_lent lent bound) e) refl moved
+  pub step_off : Leads bound whole lent (e ∷ es) → StepTo bound lent es None lent' (met (with_lent lent bound) e) → Unifying bound whole None
+  step_off leads moved = by (met (with_lent lent bound) e) refl moved
     where
-      by : (m : Meeting) → met (with_lent lent bound) e ≡ m → StepTo bound lent es goes_on lent' es' m → Unifying bound whole None
-      by Meeting.nothing asks (same, (on, left)) = absurd (true≢false (sym on ∙ off))
-      by (Meeting.parts one rest) asks (same, (on, left)) = absurd (true≢false (sym on ∙ off))
-      by (Meeting.binding x t) asks (binds, left) =
-          leads None (Unifying.inside asks (subst (λ c. Binds bound lent c lent' x t) off binds))
-      by Meeting.clash asks (same, stopped) = leads None (Unifying.apart asks)
+      by : (m : Meeting) → met (with_lent lent bound) e ≡ m → StepTo bound lent es None lent' m → Unifying bound whole None
+      by Meeting.nothing asks (same, some) = cc
+      by (Meeting.parts one rest) asks (same, some) = cc
+      by (Meeting.binding x t) asks inside = leads None (Unifying.inside asks inside)
+      by Meeting.clash asks stopped = leads None (Unifying.apart asks)
 
--- the top of the stack is the first equation
-popped : (old rest : List Sides) (s : Sides) → old ≡ rest ++ s ∷ [] → waiting_equations old ≡ equation_of s ∷ waiting_equations rest
-popped old rest s split = ap waiting_equations split ∙ equations-push rest s
+-- one turn of the loop: what was next, and what a step left
+pub turn_on : (bound : Pairs) (whole : List Equation) (behind : List Equation) (next : Option Sides) (s : Sides) (lent lent' : List Lent) (left : Option (List Equation)) (es' : List Equation) →
+    next ≡ Some s → Leads bound whole lent (with_next next behind) → HasNoCycle (with_lent lent bound) →
+    StepTo bound lent behind left lent' (met (with_lent lent bound) (equation_of s)) → left ≡ Some es' →
+    Leads bound whole lent' es' × HasNoCycle (with_lent lent' bound)
+    × (left_over (with_lent lent' bound) es' < left_over (with_lent lent bound) (with_next next behind))
+turn_on bound whole behind next s lent lent' left es' is leads h moved goes_on =
+    let (leads', h', less) = step_on bound whole (equation_of s) behind lent lent' es' (subst (λ n. Leads bound whole lent (with_next n behind)) is leads) h
+    (subst (λ l. StepTo bound lent behind l lent' (met (with_lent lent bound) (equation_of s))) goes_on moved) in
+    (leads', h', subst (λ n. left_over (with_lent lent' bound) es' < left_over (with_lent lent bound) (with_next n behind)) (sym is) less)
 
--- one turn of the loop
-pub turn_on : (bound : Pairs) (whole : List Equation) (old rest new : List Sides) (s : Sides) (lent lent' : List Lent) (goes_on : Bool) →
-    old ≡ rest ++ s ∷ [] → Leads bound whole lent (waiting_equations old) → HasNoCycle (with_lent lent bound) →
-    StepTo bound lent (waiting_equations rest) goes_on lent' (waiting_equations new) (met (with_lent lent bound) (equation_of s)) → goes_on ≡ true →
-    Leads bound whole lent' (waiting_equations new) × HasNoCycle (with_lent lent' bound)
-    × (left_over (with_lent lent' bound) (waiting_equations new) < left_over (with_lent lent bound) (waiting_equations old))
-turn_on bound whole old rest new s lent lent' goes_on split leads h moved on =
-    let (leads', h', less) = step_on bound whole (equation_of s) (waiting_equations rest) (waiting_equations new) lent lent' goes_on
-    (subst (Leads bound whole lent) (popped old rest s split) leads) h moved on in
-    (leads', h', subst (λ es. left_over (with_lent lent' bound) (waiting_equations new) < left_over (with_lent lent bound) es) (sym (popped old rest s split)) less)
-
-pub turn_off : (bound : Pairs) (whole : List Equation) (old rest new : List Sides) (s : Sides) (lent lent' : List Lent) (goes_on : Bool) →
-    old ≡ rest ++ s ∷ [] → Leads bound whole lent (waiting_equations old) →
-    StepTo bound lent (waiting_equations rest) goes_on lent' (waiting_equations new) (met (with_lent lent bound) (equation_of s)) → goes_on ≡ false →
-    Unifying bound whole None
-turn_off bound whole old rest new s lent lent' goes_on split leads moved off =
-    step_off bound whole (equation_of s) (waiting_equations rest) (waiting_equations new) lent lent' goes_on (subst (Leads bound whole lent) (popped old rest s split) leads) moved off
+pub turn_off : (bound : Pairs) (whole : List Equation) (behind : List Equation) (next : Option Sides) (s : Sides) (lent lent' : List Lent) (left : Option (List Equation)) →
+    next ≡ Some s → Leads bound whole lent (with_next next behind) →
+    StepTo bound lent behind left lent' (met (with_lent lent bound) (equation_of s)) → left ≡ None → Unifying bound whole None
+turn_off bound whole behind next s lent lent' left is leads moved stops =
+    step_off bound whole (equation_of s) behind lent lent' (subst (λ n. Leads bound whole lent (with_next n behind)) is leads)
+    (subst (λ l. StepTo bound lent behind l lent' (met (with_lent lent bound) (equation_of s))) stops moved)
 
 -- before the first turn nothing is lent
 pub starts : (bound : Pairs) (whole : List Equation) (lent : List Lent) → lent ≡ [] → HasNoCycle bound → Leads bound whole lent whole × HasNoCycle (with_lent lent bound)
 starts bound whole lent nothing h =
     (subst (λ ls. Leads bound whole ls whole) (sym nothing) (leads_whole bound whole), subst (λ ls. HasNoCycle (with_lent ls bound)) (sym nothing) h)
 
--- the loop ends where nothing waits
-pub turns_end : (bound : Pairs) (whole : List Equation) (waiting : List Sides) (lent : List Lent) → waiting ≡ [] → Leads bound whole lent (waiting_equations waiting) →
+-- the loop ends where nothing is next
+pub turns_end : (bound : Pairs) (whole behind : List Equation) (next : Option Sides) (lent : List Lent) → next ≡ None → Leads bound whole lent (with_next next behind) →
     Unifying bound whole (Some (lent_sides lent))
-turns_end bound whole waiting lent none leads =
+turns_end bound whole behind next lent none leads =
     subst (λ xs. Unifying bound whole (Some xs)) (append-nil (lent_sides lent))
-    (leads (Some []) (subst (λ es. Unifying (with_lent lent bound) es (Some [])) (ap waiting_equations (sym none)) Unifying.no_equation))
+    (leads (Some []) (subst (λ n. Unifying (with_lent lent bound) (with_next n behind) (Some [])) (sym none) Unifying.no_equation))
 
 -- one more pair waits, in front of those behind it
 pub pair_waits : (pairs : List TermPair) (left : ℕ) (pair : TermPair) (waiting new : List Sides) (s : Sides) → 0 < left → left ≤ length pairs → pair ≡ get_or pairs (left - 1) pair →

@@ -1,6 +1,6 @@
 -- What the lent parts of a running unification stand for.
-use Rattle.std.specs.Prelude.{◌≡◌, ℕ, Bool, true, false, List, [], ◌∷◌, ◌++◌, ◌<◌, map, None}
-use Rattle.std.specs.Prelude.{is_some, if◌then◌else◌}
+use Rattle.std.specs.Prelude.{◌≡◌, ℕ, true, false, List, [], ◌∷◌, ◌++◌, ◌<◌, map}
+use Rattle.std.specs.Prelude.{Option, Some, None, is_some, if◌then◌else◌}
 use Rattle.std.specs.Borrow.{Bor}
 use Rattle.kan_terms.specs.Tree.{Tree, Tm, occurs}
 use Rattle.kan_terms.specs.Bound.{bound_to}
@@ -13,6 +13,8 @@ use Rattle.unify_core.specs.Solutions.{equation}
 use Rattle.unify_core.specs.Unifying.{Meeting}
 use Rattle.unify_core.specs.declared.walking.Lent.{Lent}
 use Rattle.unify_core.specs.declared.unifying.Sides.{Sides}
+use Rattle.unify_core.specs.declared.unifying.Met.{Met}
+use Rattle.unify_core.specs.declared.unifying.Ahead.{Ahead}
 
 -- a lent binding is the pair of its variable and its term
 abbrev pub lent_pair : Lent → ℕ × Tm
@@ -55,26 +57,55 @@ abbrev pub waiting_equations : List Sides → List Equation
 waiting_equations [] = []
 waiting_equations (sides ∷ above) = waiting_equations above ++ equation_of sides ∷ []
 
+-- what two terms leave that were met and ask for no binding
+abbrev pub left_by : Met → Meeting
+left_by Met.Same = Meeting.nothing
+left_by (Met.Parts first rest) = Meeting.parts (equation_of first) (equation_of rest)
+left_by Met.Clash = Meeting.clash
+
 -- a binding is lent, or its variable stands in its term
-abbrev pub Binds : Pairs → List Lent → Bool → List Lent → ℕ → Tm → Type 0
-Binds bound old true new x t =
+abbrev pub Binds : Pairs → List Lent → Met → List Lent → ℕ → Tm → Type 0
+Binds bound old Met.Same new x t =
     (occurs x (full (with_lent old bound) t) ≡ false)
     × ((one : Lent) × (lent_pair one ≡ (x, t)) × (new ≡ old ++ one ∷ []))
-Binds bound old false new x t = occurs x (full (with_lent old bound) t) ≡ true
+Binds bound old (Met.Parts first rest) new x t = ⊥
+Binds bound old Met.Clash new x t = occurs x (full (with_lent old bound) t) ≡ true
 
--- what two terms that were met leave of the equations, where they ask for no binding
-abbrev pub Parts : List Equation → Bool → List Equation → Meeting → Type 0
-Parts old goes_on new Meeting.nothing = (goes_on ≡ true) × (new ≡ old)
-Parts old goes_on new (Meeting.parts first rest) = (goes_on ≡ true) × (new ≡ first ∷ rest ∷ old)
-Parts old goes_on new (Meeting.binding x t) = ⊥
-Parts old goes_on new Meeting.clash = goes_on ≡ false
+-- what two terms that were met leave, and the lent bindings then
+abbrev pub MeetsTo : Pairs → List Lent → Met → List Lent → Meeting → Type 0
+MeetsTo bound old left new (Meeting.binding x t) = Binds bound old left new x t
+MeetsTo bound old left new asks = (new ≡ old) × (left_by left ≡ asks)
 
--- and what they leave of the lent bindings and the equations
-abbrev pub StepTo : Pairs → List Lent → List Equation → Bool → List Lent → List Equation → Meeting →
-    Type 0
-StepTo bound lent old goes_on lent' new (Meeting.binding x t) =
-    Binds bound lent goes_on lent' x t × (new ≡ old)
-StepTo bound lent old goes_on lent' new met = (lent' ≡ lent) × Parts old goes_on new met
+-- an equation that may be there, in front of others
+abbrev pub with_top : Option Sides → List Equation → List Equation
+with_top None es = es
+with_top (Some top) es = equation_of top ∷ es
+
+-- the equations on a stack whose top is held apart
+abbrev pub equations_ahead : Ahead → List Equation
+equations_ahead ahead = with_top ahead.top (waiting_equations ahead.below.items)
+
+-- the next equation in front of those behind it; where none is next, there are none
+abbrev pub with_next : Option Sides → List Equation → List Equation
+with_next None behind = []
+with_next (Some next) behind = equation_of next ∷ behind
+
+-- what a step that asks for a binding makes of the lent bindings and of the equations
+abbrev pub BindsTo : Pairs → List Lent → List Equation → Option (List Equation) → List Lent → ℕ →
+    Tm → Type 0
+BindsTo bound lent behind None lent' x t = Binds bound lent Met.Clash lent' x t
+BindsTo bound lent behind (Some left) lent' x t =
+    Binds bound lent Met.Same lent' x t × (left ≡ behind)
+
+-- what a step makes of the lent bindings and of the equations, of which there are none left where
+-- nothing makes the two terms the same
+abbrev pub StepTo : Pairs → List Lent → List Equation → Option (List Equation) → List Lent →
+    Meeting → Type 0
+StepTo bound lent behind left lent' Meeting.nothing = (lent' ≡ lent) × (left ≡ Some behind)
+StepTo bound lent behind left lent' (Meeting.parts first rest) =
+    (lent' ≡ lent) × (left ≡ Some (first ∷ rest ∷ behind))
+StepTo bound lent behind left lent' (Meeting.binding x t) = BindsTo bound lent behind left lent' x t
+StepTo bound lent behind left lent' Meeting.clash = left ≡ None
 
 -- each lent binding is of a variable that isn't bound by then
 abbrev pub Fresh : Pairs → List Lent → Type 0

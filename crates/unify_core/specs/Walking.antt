@@ -1,6 +1,7 @@
 -- Where terms lead under bindings, which are pairs of a variable and its term, the newest first.
-use Rattle.std.specs.Prelude.{ℕ, List, [], ◌∷◌, eqb, if◌then◌else◌}
+use Rattle.std.specs.Prelude.{◌≡◌, ℕ, false, List, [], ◌∷◌, eqb, if◌then◌else◌}
 use Rattle.kan_terms.specs.Tree.{Tree, Tm, fill}
+use Rattle.kan_model.specs.Stores.Kept.{is_variable}
 use Rattle.kan_model.specs.Stores.Solve.{replace}
 
 -- bindings, as the trait's member gives them
@@ -17,6 +18,10 @@ go_on x t reached = reached
 abbrev pub walk : Pairs → Tm → Tm
 walk [] u = u
 walk (newest ∷ older) u = go_on newest.0 (walk older newest.1) (walk older u)
+
+-- a term walks to itself, and isn't the variable
+abbrev pub IsOtherEnd : Pairs → ℕ → Tm → Type 0
+IsOtherEnd bound x t = (walk bound t ≡ t) × (is_variable x t ≡ false)
 
 -- the full value of a variable: that under the older pairs, with the newest variable replaced by
 -- the full value of its term

@@ -6,7 +6,7 @@ ghost use Rattle.kan_terms.specs.Terms.{tree};
 ghost use Rattle.kan_terms.specs.Tree as trees;
 ghost use Rattle.unify_core.specs.Cycles.{HasNoCycle};
 ghost use Rattle.unify_core.specs.Lent.{AllAbove, open_parts, waiting_trees, with_lent};
-ghost use Rattle.unify_core.specs.Walking.{full, walk};
+ghost use Rattle.unify_core.specs.Walking.{IsOtherEnd, full, walk};
 
 use crate::walking::{Lent, walk_on};
 use kan_terms::{Bindings, Memory, Term};
@@ -120,8 +120,9 @@ fn is_apart<'a, B: Bindings>(var: u64, term: &Term, bindings: &B, lent: &[Lent<'
     }
 }
 
-/// Whether a variable stands in a term under bindings with lent ones in front of them, with no look
-/// at the term where the answer is known.
+/// Whether a variable stands in another term that was walked to, under bindings with lent ones in
+/// front of them, with no look at the term where the answer is known: a variable that was walked to
+/// isn't bound.
 pub fn is_inside<'a, B: Bindings>(
     alloc: Global,
     var: u64,
@@ -129,11 +130,15 @@ pub fn is_inside<'a, B: Bindings>(
     bindings: &'a B,
     lent: &[Lent<'a>],
 ) -> Result<bool, Memory>
-    requires { HasNoCycle (with_lent lent.now (B.pairs bindings.now)) }
+    requires no_cycle { HasNoCycle (with_lent lent.now (B.pairs bindings.now)) }
+    requires other { IsOtherEnd (with_lent lent.now (B.pairs bindings.now)) var (tree term.now) }
     ensures { IfOk result
         (λ found. found ≡
         trees.occurs var (full (with_lent lent.now (B.pairs bindings.now)) (tree term.now))) }
 {
+    if let Term::Var(_) = term {
+        return Ok(false);
+    }
     if is_apart(var, term, bindings, lent) {
         return Ok(false);
     }

@@ -1,18 +1,20 @@
 //! Unification: the bindings under which two terms are the same.
 
-ghost use Rattle.std.specs.Prelude.{◌≡◌, ◌↔◌, ◌++◌, [], ◌∷◌, ℕ, map, IfOk, IfSome, None};
+ghost use Rattle.std.specs.Prelude.{◌≡◌, ◌↔◌, ◌++◌, [], ◌∷◌, ℕ, map, IfOk, IfSome, None, OnOk};
 ghost use Rattle.std.specs.Option.{option_map};
 ghost use Rattle.kan_model.specs.Stores.Prims.{equation as pair_equation};
 ghost use Rattle.kan_model.specs.Stores.Solve as solver;
 ghost use Rattle.kan_terms.specs.Terms.{sides, tree};
 ghost use Rattle.kan_terms.specs.Tree.{Gd, fill};
 ghost use Rattle.unify_core.specs.Cycles.{HasNoCycle};
-ghost use Rattle.unify_core.specs.Lent.{Binds, Parts, StepTo, equation_of, lent_sides};
-ghost use Rattle.unify_core.specs.Lent.{waiting_equations, with_lent};
+ghost use Rattle.unify_core.specs.Lent.{Binds, MeetsTo, StepTo, equation_of, equations_ahead};
+ghost use Rattle.unify_core.specs.Lent.{left_by, lent_sides, waiting_equations, with_lent};
+ghost use Rattle.unify_core.specs.Lent.{with_next};
 ghost use Rattle.unify_core.specs.Solutions.{AddedTo, IsSolution, bindings_solved, equation};
 ghost use Rattle.unify_core.specs.Unifying.{Adds, AddsBinding, Unifying, meeting, met};
 ghost use Rattle.unify_core.specs.Unifying.{same_atoms, taken_apart};
-ghost use Rattle.unify_core.specs.Walking.{Pairs};
+ghost use Rattle.unify_core.specs.Walking as walking;
+ghost use Rattle.unify_core.specs.Walking.{IsOtherEnd, Pairs};
 
 use crate::occurring::{is_inside, is_variable};
 use crate::walking::{Lent, walk, walk_on};
@@ -50,33 +52,40 @@ fn same_atom(left: &Term, right: &Term) -> bool
     }
 }
 
-// Puts the parts of two pairs on the stack, the first parts on top, and tells whether all else is
-// the same.
-fn take_apart<'a>(
-    left: &'a Term,
-    right: &'a Term,
-    waiting: &mut Vec<Sides<'a>>,
-) -> Result<bool, Memory>
-    ensures { IfOk result
-        (λ goes_on.
-        Parts (waiting_equations waiting.old.items) goes_on (waiting_equations waiting.new.items)
-        (taken_apart (tree left.now) (tree right.now))) }
+// What two terms that were met leave to be done.
+enum Met<'a> {
+    // Nothing: they are the same, or a binding was lent that makes them so.
+    Same,
+    // They are pairs, whose first parts and rests are to be made the same.
+    Parts(Sides<'a>, Sides<'a>),
+    // Nothing makes them the same.
+    Clash,
+}
+
+// Two pairs are taken apart, and all else must be the same.
+fn take_apart<'a>(left: &'a Term, right: &'a Term) -> Met<'a>
+    ensures { left_by result ≡ taken_apart (tree left.now) (tree right.now) }
 {
     let Term::Pair(left_parts) = left else {
-        return Ok(same_atom(left, right));
+        return if same_atom(left, right) {
+            Met::Same
+        } else {
+            Met::Clash
+        };
     };
     let Term::Pair(right_parts) = right else {
-        return Ok(false);
+        return Met::Clash;
     };
-    waiting.push(Sides {
-        left: &left_parts.rest,
-        right: &right_parts.rest,
-    })?;
-    waiting.push(Sides {
-        left: &left_parts.first,
-        right: &right_parts.first,
-    })?;
-    Ok(true)
+    Met::Parts(
+        Sides {
+            left: &left_parts.first,
+            right: &right_parts.first,
+        },
+        Sides {
+            left: &left_parts.rest,
+            right: &right_parts.rest,
+        },
+    )
 }
 
 // Binds a variable to a lent term, unless it stands in the term.
@@ -86,66 +95,130 @@ fn bind_unless_inside<'a, B: Bindings>(
     term: &'a Term,
     bindings: &'a B,
     lent: &mut Vec<Lent<'a>>,
-) -> Result<bool, Memory>
-    requires { HasNoCycle (with_lent lent.old.items (B.pairs bindings.now)) }
+) -> Result<Met<'a>, Memory>
+    requires no_cycle { HasNoCycle (with_lent lent.old.items (B.pairs bindings.now)) }
+    requires other { IsOtherEnd (with_lent lent.old.items (B.pairs bindings.now)) var
+        (tree term.now) }
     ensures { IfOk result
-        (λ fits.
-        Binds (B.pairs bindings.now) lent.old.items fits lent.new.items var (tree term.now)) }
+        (λ left.
+        Binds (B.pairs bindings.now) lent.old.items left lent.new.items var (tree term.now)) }
 {
     if is_inside(alloc, var, term, bindings, lent)? {
-        return Ok(false);
+        return Ok(Met::Clash);
     }
     lent.push(Lent { var, term })?;
-    Ok(true)
+    Ok(Met::Same)
 }
 
-// One step: the left variable is bound, else the right one, else pairs are taken apart. It tells
-// whether there may be a unifier.
-fn step<'a, B: Bindings>(
+// Two terms are met where they end: the left variable is bound, else the right one, else pairs are
+// taken apart.
+fn meet<'a, B: Bindings>(
     alloc: Global,
     next: Sides<'a>,
     bindings: &'a B,
     lent: &mut Vec<Lent<'a>>,
-    waiting: &mut Vec<Sides<'a>>,
-) -> Result<bool, Memory>
+) -> Result<Met<'a>, Memory>
     requires { HasNoCycle (with_lent lent.old.items (B.pairs bindings.now)) }
     ensures { IfOk result
-        (λ goes_on.
-        StepTo (B.pairs bindings.now) lent.old.items (waiting_equations waiting.old.items)
-        goes_on lent.new.items (waiting_equations waiting.new.items)
+        (λ left. MeetsTo (B.pairs bindings.now) lent.old.items left lent.new.items
         (met (with_lent lent.old.items (B.pairs bindings.now)) (equation_of next.entry))) }
 {
     let left = walk_on(next.left, bindings, lent);
     let right = walk_on(next.right, bindings, lent);
     if let Term::Var(var) = left {
         if is_variable(right, *var) {
-            return Ok(true);
+            return Ok(Met::Same);
         }
         return bind_unless_inside(alloc, *var, right, bindings, lent);
     }
     if let Term::Var(var) = right {
         return bind_unless_inside(alloc, *var, left, bindings, lent);
     }
-    take_apart(left, right, waiting)
+    Ok(take_apart(left, right))
 }
 
-// The bindings that make the sides of all waiting equations the same, in the order in which they
-// are made.
+// A stack of what waits behind the next sides. Its top is held apart, so that a stack of one takes
+// no memory.
+#[derive(Drop)]
+struct Ahead<'a> {
+    top: Option<Sides<'a>>,
+    below: Vec<Sides<'a>>,
+}
+
+// Puts sides on the stack.
+fn put_ahead<'a>(ahead: &mut Ahead<'a>, sides: Sides<'a>) -> Result<(), Memory>
+    ensures { OnOk result
+        (equations_ahead ahead.new ≡ equation_of sides.entry ∷ equations_ahead ahead.old) }
+{
+    if let Some(covered) = ahead.top {
+        ahead.below.push(covered)?;
+    }
+    ahead.top = Some(sides);
+    Ok(())
+}
+
+// Takes the sides on top of the stack, unless it is empty.
+fn take_ahead<'a>(ahead: &mut Ahead<'a>) -> Option<Sides<'a>>
+    ensures { with_next result (equations_ahead ahead.new) ≡ equations_ahead ahead.old }
+{
+    match ahead.top {
+        Some(sides) => {
+            ahead.top = None;
+            Some(sides)
+        }
+        None => ahead.below.pop(),
+    }
+}
+
+// One step, and what is next after it; None where there is no unifier.
+fn step<'a, B: Bindings>(
+    alloc: Global,
+    next: Sides<'a>,
+    bindings: &'a B,
+    lent: &mut Vec<Lent<'a>>,
+    ahead: &mut Ahead<'a>,
+) -> Result<Option<Option<Sides<'a>>>, Memory>
+    requires { HasNoCycle (with_lent lent.old.items (B.pairs bindings.now)) }
+    ensures { IfOk result
+        (λ after.
+        StepTo (B.pairs bindings.now) lent.old.items (equations_ahead ahead.old)
+        (option_map (λ next. with_next next (equations_ahead ahead.new)) after) lent.new.items
+        (met (with_lent lent.old.items (B.pairs bindings.now)) (equation_of next.entry))) }
+{
+    match meet(alloc, next, bindings, lent)? {
+        Met::Same => Ok(Some(take_ahead(ahead))),
+        Met::Parts(first, rest) => {
+            put_ahead(ahead, rest)?;
+            Ok(Some(Some(first)))
+        }
+        Met::Clash => Ok(None),
+    }
+}
+
+// The bindings that make the sides of all equations the same, the first one and then those that
+// wait, in the order in which they are made.
 fn lend_bindings<'a, B: Bindings>(
     alloc: Global,
-    waiting: &mut Vec<Sides<'a>>,
+    first: Option<Sides<'a>>,
+    waiting: Vec<Sides<'a>>,
     bindings: &'a B,
 ) -> Result<Option<Vec<Lent<'a>>>, Memory>
     requires { HasNoCycle (B.pairs bindings.now) }
     ensures { IfOk result
-        (λ found. Unifying (B.pairs bindings.now) (waiting_equations waiting.old.items)
+        (λ found. Unifying (B.pairs bindings.now)
+        (with_next first.entry (waiting_equations waiting.entry.items))
         (option_map (λ lent. lent_sides lent.items) found)) }
 {
     let mut lent = Vec::new(alloc);
-    while let Some(next) = waiting.pop() {
-        let goes_on = step(alloc, next, bindings, &mut lent, waiting)?;
-        if !goes_on {
-            return Ok(None);
+    let mut ahead = Ahead {
+        top: None,
+        below: waiting,
+    };
+    let mut next = first;
+    while let Some(sides) = next {
+        match step(alloc, sides, bindings, &mut lent, &mut ahead)? {
+            None => return Ok(None),
+            Some(after) => next = after,
         }
     }
     Ok(Some(lent))
@@ -186,6 +259,25 @@ fn wait_for_pairs<'a>(alloc: Global, pairs: &'a [TermPair]) -> Result<Vec<Sides<
     Ok(waiting)
 }
 
+// What the equations add, the first one and then those that wait.
+fn added_in_order<'a, B: Bindings>(
+    alloc: Global,
+    first: Option<Sides<'a>>,
+    waiting: Vec<Sides<'a>>,
+    bindings: &'a B,
+) -> Result<Option<TermPairs>, Memory>
+    requires { HasNoCycle (B.pairs bindings.now) }
+    ensures { IfOk result
+        (λ found. Unifying (B.pairs bindings.now)
+        (with_next first.entry (waiting_equations waiting.entry.items))
+        (option_map (λ made. map sides made) found)) }
+{
+    match lend_bindings(alloc, first, waiting, bindings)? {
+        None => Ok(None),
+        Some(lent) => Ok(Some(owned(alloc, &lent)?)),
+    }
+}
+
 /// What unification of the sides of all pairs, the first pair first, would add to bindings; None
 /// where there is no unifier. It makes no bindings.
 pub fn would_add<B: Bindings>(
@@ -199,10 +291,8 @@ pub fn would_add<B: Bindings>(
         (option_map (λ made. map sides made) found)) }
 {
     let mut waiting = wait_for_pairs(alloc, pairs)?;
-    match lend_bindings(alloc, &mut waiting, bindings)? {
-        None => Ok(None),
-        Some(lent) => Ok(Some(owned(alloc, &lent)?)),
-    }
+    let first = waiting.pop();
+    added_in_order(alloc, first, waiting, bindings)
 }
 
 // What a binding adds, unless its variable stands in the term.
@@ -212,7 +302,8 @@ fn added_binding<B: Bindings>(
     term: &Term,
     bindings: &B,
 ) -> Result<Option<TermPairs>, Memory>
-    requires { HasNoCycle (B.pairs bindings.now) }
+    requires no_cycle { HasNoCycle (B.pairs bindings.now) }
+    requires other { IsOtherEnd (B.pairs bindings.now) var (tree term.now) }
     ensures { IfOk result
         (λ found. AddsBinding (B.pairs bindings.now) var (tree term.now)
         (option_map (λ made. map sides made) found)) }
@@ -231,36 +322,16 @@ fn added_binding<B: Bindings>(
     }
 }
 
-// What two terms add that were walked to and are no variables.
-fn added_apart<B: Bindings>(
-    alloc: Global,
-    left: &Term,
-    right: &Term,
-    bindings: &B,
-) -> Result<Option<TermPairs>, Memory>
-    requires { HasNoCycle (B.pairs bindings.now) }
-    ensures { IfOk result
-        (λ found. Adds (B.pairs bindings.now) (taken_apart (tree left.now) (tree right.now))
-        (option_map (λ made. map sides made) found)) }
-{
-    let mut waiting = Vec::new(alloc);
-    if !take_apart(left, right, &mut waiting)? {
-        return Ok(None);
-    }
-    match lend_bindings(alloc, &mut waiting, bindings)? {
-        None => Ok(None),
-        Some(lent) => Ok(Some(owned(alloc, &lent)?)),
-    }
-}
-
-// What two terms add that were walked to. Only pairs need a stack.
+// What two terms add that were walked to. A variable is bound with nothing lent.
 fn added_by_ends<B: Bindings>(
     alloc: Global,
     left: &Term,
     right: &Term,
     bindings: &B,
 ) -> Result<Option<TermPairs>, Memory>
-    requires { HasNoCycle (B.pairs bindings.now) }
+    requires no_cycle { HasNoCycle (B.pairs bindings.now) }
+    requires left_walked { walking.walk (B.pairs bindings.now) (tree left.now) ≡ tree left.now }
+    requires right_walked { walking.walk (B.pairs bindings.now) (tree right.now) ≡ tree right.now }
     ensures { IfOk result
         (λ found. Adds (B.pairs bindings.now) (meeting (tree left.now) (tree right.now))
         (option_map (λ made. map sides made) found)) }
@@ -274,7 +345,12 @@ fn added_by_ends<B: Bindings>(
     if let Term::Var(var) = right {
         return added_binding(alloc, *var, left, bindings);
     }
-    added_apart(alloc, left, right, bindings)
+    added_in_order(
+        alloc,
+        Some(Sides { left, right }),
+        Vec::new(alloc),
+        bindings,
+    )
 }
 
 // What unification of two terms would add to bindings.
