@@ -74,12 +74,14 @@ impl<E: Drop> Slots<E> {
             return Ok(());
         }
         self.entries.push(entry)?;
-        self.order.bring(place, last);
+        if index != last {
+            self.order.bring(place, last);
+        }
         Ok(())
     }
 }
 
-// Entries once more, with room for some more of them.
+// Entries once more, with room for so many.
 fn copied<E: Again>(alloc: Global, from: &[E], room: usize) -> Result<Vec<E>, Memory>
     ensures { IfOk result (λ made. map E.meaning made.items ≡ map E.meaning from.now) }
 {
@@ -91,14 +93,14 @@ fn copied<E: Again>(alloc: Global, from: &[E], room: usize) -> Result<Vec<E>, Me
 }
 
 impl<E: Again> Slots<E> {
-    /// The places once more, with room for some more entries.
+    /// The places once more, with room for an entry at each, since a copy is made to be written to.
     pub fn again(&self, alloc: Global) -> Result<Slots<E>, Memory>
         ensures { IfOk result (λ made. (d : ℕ) → option_map E.meaning (at made d) ≡
             option_map E.meaning (at self.now d)) }
     {
         Ok(Slots {
             order: self.order,
-            entries: copied(alloc, &self.entries, self.entries.len().saturating_add(4))?,
+            entries: copied(alloc, &self.entries, 16)?,
         })
     }
 }
