@@ -31,6 +31,16 @@ impl<E> Slots<E> {
         }
     }
 
+    /// No place is filled, and there is room for an entry at each.
+    pub fn roomy(alloc: Global) -> Result<Slots<E>, Memory>
+        ensures { IfOk result (λ made. (d : ℕ) → at made d ≡ None) }
+    {
+        Ok(Slots {
+            order: Order::rising(),
+            entries: Vec::with_capacity(alloc, 16)?,
+        })
+    }
+
     /// The index of a place, at which its entry is, if it has one.
     pub fn index_of(&self, place: usize) -> usize
         requires { place < 16 }
@@ -81,13 +91,13 @@ impl<E: Drop> Slots<E> {
     }
 }
 
-// Entries once more, with room for so many.
+// Entries once more, with room for so many, or for all of them.
 fn copied<E: Again>(alloc: Global, from: &[E], room: usize) -> Result<Vec<E>, Memory>
     ensures { IfOk result (λ made. map E.meaning made.items ≡ map E.meaning from.now) }
 {
-    let mut made = Vec::with_capacity(alloc, room)?;
+    let mut made = Vec::with_capacity(alloc, room.max(from.len()))?;
     for entry in from {
-        made.push(entry.again()?)?;
+        made.push_reserved(entry.again()?);
     }
     Ok(made)
 }
