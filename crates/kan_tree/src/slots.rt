@@ -31,13 +31,13 @@ impl<E> Slots<E> {
         }
     }
 
-    /// No place is filled, and there is room for an entry at each.
+    /// No place is filled, and there is room for eight entries, since more are likely to come.
     pub fn roomy(alloc: Global) -> Result<Slots<E>, Memory>
         ensures { IfOk result (λ made. (d : ℕ) → at made d ≡ None) }
     {
         Ok(Slots {
             order: Order::rising(),
-            entries: Vec::with_capacity(alloc, 16)?,
+            entries: Vec::with_capacity(alloc, 8)?,
         })
     }
 
