@@ -67,7 +67,7 @@ pub fn fresh<T: Again>(alloc: Global, level: u32, key: u64, value: T) -> Result<
         (if agree level k key then Some (T.meaning value) else None)) }
 {
     if level == 0 {
-        let mut slots = Slots::empty(alloc);
+        let mut slots = Slots::roomy(alloc)?;
         slots.put(digit(key, 0), value)?;
         return Ok(Node::Leaf(slots));
     }

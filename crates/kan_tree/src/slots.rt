@@ -31,6 +31,16 @@ impl<E> Slots<E> {
         }
     }
 
+    /// No place is filled, and there is room for eight entries, since more are likely to come.
+    pub fn roomy(alloc: Global) -> Result<Slots<E>, Memory>
+        ensures { IfOk result (λ made. (d : ℕ) → at made d ≡ None) }
+    {
+        Ok(Slots {
+            order: Order::rising(),
+            entries: Vec::with_capacity(alloc, 8)?,
+        })
+    }
+
     /// The index of a place, at which its entry is, if it has one.
     pub fn index_of(&self, place: usize) -> usize
         requires { place < 16 }
@@ -74,31 +84,33 @@ impl<E: Drop> Slots<E> {
             return Ok(());
         }
         self.entries.push(entry)?;
-        self.order.bring(place, last);
+        if index != last {
+            self.order.bring(place, last);
+        }
         Ok(())
     }
 }
 
-// Entries once more, with room for some more of them.
+// Entries once more, with room for so many, or for all of them.
 fn copied<E: Again>(alloc: Global, from: &[E], room: usize) -> Result<Vec<E>, Memory>
     ensures { IfOk result (λ made. map E.meaning made.items ≡ map E.meaning from.now) }
 {
-    let mut made = Vec::with_capacity(alloc, room)?;
+    let mut made = Vec::with_capacity(alloc, room.max(from.len()))?;
     for entry in from {
-        made.push(entry.again()?)?;
+        made.push_reserved(entry.again()?);
     }
     Ok(made)
 }
 
 impl<E: Again> Slots<E> {
-    /// The places once more, with room for some more entries.
+    /// The places once more, with room for an entry at each, since a copy is made to be written to.
     pub fn again(&self, alloc: Global) -> Result<Slots<E>, Memory>
         ensures { IfOk result (λ made. (d : ℕ) → option_map E.meaning (at made d) ≡
             option_map E.meaning (at self.now d)) }
     {
         Ok(Slots {
             order: self.order,
-            entries: copied(alloc, &self.entries, self.entries.len().saturating_add(4))?,
+            entries: copied(alloc, &self.entries, 16)?,
         })
     }
 }

@@ -16,7 +16,7 @@ use std::sync::Arc;
 
 // So many values wait in front of the nodes, at most. Looking through them costs time, and so does
 // putting each branch's few values into its own copy of the nodes.
-const MOST_WAITING: u32 = 12;
+const MOST_WAITING: u32 = 8;
 
 /// A tree from variables to values. Trees share what they have in common, and contracts see each as
 /// a finite map.
