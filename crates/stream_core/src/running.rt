@@ -312,6 +312,15 @@ fn finish<N: Nodes<St>, St: Store>(
     }
 }
 
+// A stack with nothing on it yet, and room for what most goals put there, so that it seldom moves
+// while it grows.
+fn empty_stack<T: Drop>(alloc: Global) -> Result<Vec<T>, Memory>
+    ensures { IfOk result (λ stack. stack.items ≡ []) }
+{
+    let stack = Vec::with_capacity(alloc, 8)?;
+    Ok(stack)
+}
+
 // The stream of a goal at a store, with an environment of its own.
 pub(crate) fn run_with<N: Nodes<St>, St: Store>(
     alloc: Global,
@@ -331,9 +340,9 @@ pub(crate) fn run_with<N: Nodes<St>, St: Store>(
     ensures belong { IfOk result (HasStream (N.table nodes.new)) }
     ensures adds { OnlyAdds (N.table nodes.old) (N.table nodes.new) }
 {
-    let mut tasks = Vec::new(alloc);
+    let mut tasks = empty_stack(alloc)?;
     tasks.push(Task::Run { goal, env, store })?;
-    let values = Vec::new(alloc);
+    let values = empty_stack(alloc)?;
     let made = finish(alloc, program, nodes, tasks, values)?;
     Ok(made)
 }
@@ -396,9 +405,9 @@ pub(crate) fn bind_with<N: Nodes<St>, St: Store>(
     ensures belong { IfOk result (HasStream (N.table nodes.new)) }
     ensures adds { OnlyAdds (N.table nodes.old) (N.table nodes.new) }
 {
-    let mut tasks = Vec::new(alloc);
+    let mut tasks = empty_stack(alloc)?;
     tasks.push(Task::Bind { goal, env })?;
-    let mut values = Vec::new(alloc);
+    let mut values = empty_stack(alloc)?;
     values.push(stream)?;
     let made = finish(alloc, program, nodes, tasks, values)?;
     Ok(made)
