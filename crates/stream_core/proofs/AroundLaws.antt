@@ -15,11 +15,10 @@ use Rattle.stream_core.specs.Suspensions.{goal_in}
 use Rattle.stream_core.specs.Surroundings as outer
 use Rattle.stream_core.specs.Surroundings.{within, within_all, made_within}
 use Rattle.stream_core.specs.CodeSurroundings.{StandsInnermost, MayForceInnermost, IsForceWithin, IsForceOfBound}
-use Rattle.stream_core.specs.Tables.{Table, OnlyAdds, IsTableOf, HasStream, IsForce, stream_in, thunk_in}
+use Rattle.stream_core.specs.Tables.{Table, OnlyAdds, IsTableOf, HasStream, stream_in}
 use Rattle.stream_core.specs.declared.nodes.Innermost.{Innermost}
 use Rattle.stream_core.specs.declared.nodes.Innermost.TheVariants.{Last, Shared}
 use Rattle.stream_core.specs.declared.streams.Stream.{Stream}
-use Rattle.stream_core.specs.declared.streams.Thunk.{Thunk}
 use Rattle.stream_core.proofs.ForceLaws.{swap-inner, bind-inner, climb-binds, MayBindForce}
 use Rattle.stream_core.proofs.ClosedLaws.{program-closed}
 use Rattle.stream_core.proofs.StreamLaws.{heads-going}
