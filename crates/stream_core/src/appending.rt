@@ -95,7 +95,7 @@ pub fn append<N: Nodes<St>, St: Store>(
     }
 }
 
-// The stream with the empty one behind it: what it goes on with is a suspension more.
+// The stream with the empty one behind it. Where it goes on, that one waits as any other would.
 pub(crate) fn append_empty<N: Nodes<St>, St: Store>(
     alloc: Global,
     left: Stream<N::Id, St>,

@@ -45,7 +45,7 @@ fn node_at(program: &Program, goal: u32) -> GoalNode
 }
 
 // Runs two goals. Where the first one has its stores at once, there is one at most, and the second
-// goal is run at it: no stream is made for the first one, nor the empty one behind it.
+// goal is run at it: no stream is made for the first one, and none to stand behind the second's.
 fn run_both<N: Nodes<St>, St: Store>(
     alloc: Global,
     program: &Program,
