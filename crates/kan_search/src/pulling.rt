@@ -1,12 +1,11 @@
 //! The streams of a run: the one that it begins with, and the one that a pull gives.
 
 ghost use Rattle.std.specs.Prelude.{◌≡◌, ◌+◌, ◌≤◌, ◌^◌, [], ◌∷◌, reverse, true, IfOk, IfSome};
-ghost use Rattle.kan_model.specs.Streams.Bounds.{top, floor};
+ghost use Rattle.kan_model.specs.Streams.Bounds.{top};
 ghost use Rattle.kan_model.specs.Streams.Running as running;
 ghost use Rattle.kan_model.specs.Programs.Tables.{are_closed};
 ghost use Rattle.kan_model.specs.Programs.Closed as programs;
-ghost use Rattle.stream_core.specs.CounterBounds.{TailFits};
-ghost use Rattle.stream_core.specs.Tables.{IsTableOf, Grows, IsForce, stream_in};
+ghost use Rattle.stream_core.specs.Tables.{IsTableOf, Grows};
 ghost use Rattle.kan_search.specs.Suspensions.{LeavesRoom, pulled_stream};
 
 use kan_model::{Env, Program, Store};
@@ -55,27 +54,6 @@ pub(crate) fn start<N: Nodes<St>, St: Store>(
     Ok(pulled)
 }
 
-// The force of a suspension. Where streams are kept it is looked for, and it is kept.
-fn force_next<N: Nodes<St>, St: Store>(
-    alloc: Global,
-    program: &Program,
-    id: N::Id,
-    nodes: &mut N,
-) -> Result<Stream<N::Id, St>, Memory>
-    requires table { IsTableOf program.now (N.table nodes.old) }
-    requires belongs { (N.table nodes.old).belongs id }
-    requires room { top ((N.table nodes.old).tree id) ≤ 2 ^ 62 }
-    ensures force { IfOk result (IsForce (N.table nodes.new) St.meaning
-        ((N.table nodes.old).tree id)) }
-    ensures fits { IfOk result (λ made. TailFits (programs.meaning program.now)
-        (floor ((N.table nodes.old).tree id)) (top ((N.table nodes.old).tree id))
-        (stream_in (N.table nodes.new) St.meaning made)) }
-    ensures grows { Grows (N.table nodes.old) (N.table nodes.new) }
-{
-    let made = force_once(alloc, program, id, nodes)?;
-    Ok(made)
-}
-
 // The stream that a pull gives.
 pub(crate) fn pull<N: Nodes<St>, St: Store>(
     alloc: Global,
@@ -95,7 +73,7 @@ pub(crate) fn pull<N: Nodes<St>, St: Store>(
         ≤ top ((N.table nodes.old).tree id) + 2 ^ 21)) }
     ensures grows { Grows (N.table nodes.old) (N.table nodes.new) }
 {
-    let stream = force_next(alloc, program, id, nodes)?;
+    let stream = force_once(alloc, program, id, nodes)?;
     let pulled = turned(alloc, stream)?;
     Ok(pulled)
 }

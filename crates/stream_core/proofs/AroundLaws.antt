@@ -15,11 +15,10 @@ use Rattle.stream_core.specs.Suspensions.{goal_in}
 use Rattle.stream_core.specs.Surroundings as outer
 use Rattle.stream_core.specs.Surroundings.{within, within_all, made_within}
 use Rattle.stream_core.specs.CodeSurroundings.{StandsInnermost, MayForceInnermost, IsForceWithin, IsForceOfBound}
-use Rattle.stream_core.specs.Tables.{Table, OnlyAdds, IsTableOf, HasStream, IsForce, stream_in, thunk_in}
+use Rattle.stream_core.specs.Tables.{Table, OnlyAdds, IsTableOf, HasStream, stream_in}
 use Rattle.stream_core.specs.declared.nodes.Innermost.{Innermost}
 use Rattle.stream_core.specs.declared.nodes.Innermost.TheVariants.{Last, Shared}
 use Rattle.stream_core.specs.declared.streams.Stream.{Stream}
-use Rattle.stream_core.specs.declared.streams.Thunk.{Thunk}
 use Rattle.stream_core.proofs.ForceLaws.{swap-inner, bind-inner, climb-binds, MayBindForce}
 use Rattle.stream_core.proofs.ClosedLaws.{program-closed}
 use Rattle.stream_core.proofs.StreamLaws.{heads-going}
@@ -55,10 +54,6 @@ module _ {I St : Type 0} (t : Table I) (means : St → facts.Store) where
 
   pub parted-may : (around : List outer.Around) (tree whole : model.Thunk) (last : Innermost I St) → within_all around tree ≡ whole → MayForce t.program whole → StandsInnermost t means tree last → MayForceInnermost t means last
   parted-may around tree whole last is may stands = innermost-may tree last (all-may t.program around tree (subst (MayForce t.program) (sym is) may)) stands
-
-  -- its force is that of what it stands for
-  pub last-forced : (u : Table I) (tree : model.Thunk) (thunk : Thunk I St) (made : Stream I St) → OnlyAdds t u → StandsInnermost t means tree (Last thunk) → HasStream u made → stream_in u means made ≡ force t.program (thunk_in t means thunk) → IsForce u means tree made
-  last-forced u tree thunk made adds (is, alone) belong forced = (belong, forced ∙ ap (force t.program) is ∙ ap (λ q. force q tree) (sym adds.program))
 
 module _ {A I St : Type 0} (t : Table I) (around_in : A → List outer.Around) (means : St → facts.Store) (whole : model.Thunk) (around : A) (g : ℕ) (env : Env) (s : Stream I St) (shorter : A) where
   -- a goal that waits may be bound to the force of what it waits for

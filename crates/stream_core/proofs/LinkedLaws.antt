@@ -1,5 +1,5 @@
 -- What ids that own their suspensions stand for.
-use Rattle.std.proofs.Common.{Global, ◌≡◌, ◌∷◌, ◌++◌, ◌<◌, ◌≤◌, ℕ, suc, length, arith, List, [], map, refl, sym, ◌∙◌, ap, ap₂, subst}
+use Rattle.std.proofs.Common.{Global, ◌≡◌, ◌∷◌, ◌<◌, ◌≤◌, ℕ, suc, length, arith, List, map, refl, sym, ◌∙◌, ap, ap₂, subst}
 use Rattle.std.specs.Prelude.{Option, Some, None, option_map, unwrap_or, IfSome}
 use Rattle.std.specs.Arc.{arc_value}
 use Rattle.std.specs.declared.sync.Arc.{Arc}
@@ -25,7 +25,7 @@ use Rattle.stream_core.proofs.AroundLaws.{within-fits, all-fits, made-force}
 use Rattle.stream_core.proofs.ClosedLaws.{ProgramIsClosed}
 use Rattle.stream_core.proofs.FitLaws.{force-fits}
 use Rattle.stream_core.specs.Surroundings as outer
-use Rattle.stream_core.specs.Suspensions.{goal_in, inner_id, going_on, listed, stream}
+use Rattle.stream_core.specs.Suspensions.{goal_in, inner_id, going_on, listed}
 use Rattle.stream_core.specs.LinkedThunks.{held, suspension_of, nothing_read, Reading, reading, IsInnermost, IsLevel, with_inner, IsDown, IsUp, IsInside, linked_tree, linked_around, linked_stream, linked_thunk, linked_layers}
 use Rattle.stream_core.specs.LinkedThunks.{IsInsideBind, HasEnteredSwap, IsEntered}
 use Rattle.stream_core.specs.declared.streams.Stream.{Stream}

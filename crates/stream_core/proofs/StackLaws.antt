@@ -25,7 +25,7 @@ none-left (Some x) new old n m B whole front cases other = absurd (other x refl)
 
 -- what could be taken from a stack with enough on it
 pub one-pop : {T : Type 0} (o : Option T) (new old : List T) (n m : ℕ) (B : T → Type 0) → old ≡ new ++ option_to_list o → new ≡ take (n - 1) old →
-    MatchOption o ((n ≡ 0) × (m ≡ 0)) B → ((x : T) → o ≡ Some x → ⊥) → 1 < length old → ⊥
+    MatchOption o ((n ≡ 0) × (m ≡ 0)) B → ((x : T) → o ≡ Some x → ⊥) → 0 < length old → ⊥
 one-pop o new old n m B whole front cases other low =
     let none : length old ≡ 0 = ap length (none-left o new old n m B whole front cases other) in omega (arith, none, low)
 

@@ -1,5 +1,5 @@
 -- Stacks of streams while the table of suspensions grows, and steps of the tasks in the words of the code.
-use Rattle.std.proofs.Common.{◌≡◌, suc, ◌<◌, ◌≤◌, List, [], ◌∷◌, ◌++◌, length, refl, sym, ◌∙◌, ap, ap₂, subst, arith, map}
+use Rattle.std.proofs.Common.{◌≡◌, suc, ◌<◌, ◌≤◌, List, [], ◌∷◌, ◌++◌, length, refl, sym, ◌∙◌, ap, ap₂, subst, arith, map, append-nil}
 use Rattle.std.specs.Prelude.{Option, Some, None, option_map, IfSome, Result, Ok, Err, OnOk}
 use Rattle.kan_terms.specs.Tree.{Tm}
 use Rattle.kan_model.specs.Programs.Goals.{Goal, Program}
@@ -12,7 +12,7 @@ use Rattle.stream_core.specs.Suspensions.{Stays, StreamBelongs, stream, going_on
 use Rattle.stream_core.specs.CodeTasks.{stack}
 use Rattle.stream_core.specs.declared.streams.Stream.{Stream}
 use Rattle.stream_core.proofs.StackLaws.{stack-length}
-use Rattle.stream_core.proofs.TaskLaws.{becomes-stream, becomes-appended, becomes-bound}
+use Rattle.stream_core.proofs.TaskLaws.{becomes-stream, becomes-appended, becomes-closed, becomes-bound}
 
 tail-stays : {I : Type 0} (belonged belongs : I → Type 0) (was is : I → model.Thunk) → Stays belonged was belongs is → (o : Option I) → IfSome o belonged → option_map is o ≡ option_map was o
 tail-stays belonged belongs was is grows None h = refl
@@ -90,6 +90,11 @@ pub becomes-top : (program : Program) (ts : List pending.Task) (vs ws : List mod
     vs ≡ s ∷ t ∷ rest → ws ≡ made ∷ rest → made ≡ model.append s t → Becomes program (pending.Task.append_two ∷ ts) vs ts ws
 becomes-top program ts vs ws s t made rest old new is = rw (old, new, is) (becomes-appended program s t ts rest)
 
+-- the empty stream appended to the one on top
+pub becomes-top-closed : (program : Program) (ts : List pending.Task) (vs ws : List model.Stream) (s made : model.Stream) (rest : List model.Stream) →
+    vs ≡ s ∷ rest → ws ≡ made ∷ rest → made ≡ model.append s model.empty → Becomes program (pending.Task.append_empty ∷ ts) vs ts ws
+becomes-top-closed program ts vs ws s made rest old new is = rw (old, new, is) (becomes-closed program s ts rest)
+
 pub heads-going : (hs : List facts.Store) (o : Option model.Thunk) → model.heads (going_on hs o) ≡ hs
 heads-going hs None = refl
 heads-going hs (Some t) = refl
@@ -137,6 +142,9 @@ pub append-going : (hs : List facts.Store) (o : Option model.Thunk) (i whole : m
     model.Stream.goes_on hs whole ≡ model.append (going_on hs o) t
 append-going hs o i whole t is made = rw (is, made) refl
 
+pub append-ended : (hs : List facts.Store) (o : Option model.Thunk) → o ≡ None → model.Stream.ends hs ≡ model.append (going_on hs o) model.empty
+append-ended hs o is = rw is (ap model.Stream.ends (sym (append-nil hs)))
+
 -- what variables lie below doesn't hang on the stores that come first
 pub below-going : (env : List Tm) (hs : List facts.Store) (o : Option model.Thunk) → pending.AreBelowRest env (going_on hs o) → pending.AreBelowRest env (going_on [] o)
 below-going env hs None h = h
@@ -156,6 +164,13 @@ two-to-append f program ts vs ready = subst (λ n. 2 ≤ n) (stack-length f vs) 
     go [] h = absurd h
     go (x ∷ []) h = absurd h
     go (x ∷ y ∷ xs) h = omega arith
+
+pub one-to-append : {X : Type 0} (f : X → model.Stream) (program : Program) (ts : List pending.Task) (vs : List X) → pending.AreReady program (pending.Task.append_empty ∷ ts) (stack f vs) → 0 < length vs
+one-to-append f program ts vs ready = subst (λ n. 0 < n) (stack-length f vs) (go (stack f vs) ready)
+  where
+    go : (xs : List model.Stream) → pending.AreReady program (pending.Task.append_empty ∷ ts) xs → 0 < length xs
+    go [] h = absurd h
+    go (x ∷ xs) h = omega arith
 
 -- the goal of the first task may be bound to the stream on top
 pub top-may-bind : (program : Program) (g : Goal) (env : List Tm) (ts : List pending.Task) (vs rest : List model.Stream) (s : model.Stream) → vs ≡ s ∷ rest →

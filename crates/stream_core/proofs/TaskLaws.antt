@@ -1,14 +1,13 @@
 -- One task after the other gives what the definition gives.
 use Rattle.std.proofs.Common.{◌≡◌, ℕ, ◌+◌, ◌≤◌, ◌<◌, ◌^◌, true, List, [], ◌∷◌, ◌++◌, length, map, refl, sym, subst, ◌∙◌, ap, arith}
-use Rattle.std.specs.Prelude.{Contains, Option}
-use Rattle.std.specs.Option.{option_to_list}
+use Rattle.std.specs.Prelude.{Contains}
 use Rattle.std.specs.List.{list_all}
 use Rattle.std.proofs.lemmas.Bool.{and_from, and_parts}
 use Rattle.std.proofs.lemmas.List.Folds.{list_all-append}
 use Rattle.kan_terms.specs.Tree.{Tm}
 use Rattle.kan_model.specs.Programs.Goals.{Goal, Program}
 use Rattle.kan_model.specs.Stores.Store.{Store, with_fresh}
-use Rattle.kan_model.specs.Streams.Stream.{Stream, Thunk, heads, append, append_each, empty}
+use Rattle.kan_model.specs.Streams.Stream.{Stream, Thunk, heads, append, append_each, empty, one}
 use Rattle.kan_model.specs.Streams.Running.{run, variables}
 use Rattle.kan_model.specs.Programs.Scope.{width, all_below, in_scope}
 use Rattle.kan_model.specs.Streams.Bounds.{floor}
@@ -91,6 +90,9 @@ module _ (program : Program) where
   pub becomes-appended : (s t : Stream) (ts : List Task) (vs : List Stream) → Becomes program (Task.append_two ∷ ts) (s ∷ t ∷ vs) ts (append s t ∷ vs)
   becomes-appended s t ts vs = record { same = refl; ready = λ rest. rest; fewer = λ ready. omega arith }
 
+  pub becomes-closed : (s : Stream) (ts : List Task) (vs : List Stream) → Becomes program (Task.append_empty ∷ ts) (s ∷ vs) ts (append s empty ∷ vs)
+  becomes-closed s ts vs = record { same = refl; ready = λ rest. rest; fewer = λ ready. omega arith }
+
   -- a goal at each store
   streams_after-each : (g : Goal) (env : List Tm) (hs : List Store) (last : Stream) (ts : List Task) (vs : List Stream) →
       streams_after (run_each g env hs ts) (last ∷ vs) ≡ streams_after ts (append_each (run g env) hs last ∷ vs)
@@ -145,13 +147,26 @@ module _ (program : Program) where
     fewer = λ ready. let less = first.fewer ready in let least = second.fewer (first.ready ready) in omega (arith, less, least);
   }
 
-  -- both goals, where the first one's stream ends with a store at most: the second is run at it
-  pub becomes-both-once : ProgramIsClosed program → (g h : Goal) (env : List Tm) (st : Store) (o : Option Store) (ts : List Task) (vs : List Stream) →
-      0 < count g env st → Stream.ends (option_to_list o) ≡ run g env st →
-      Becomes program (Task.run_at (Goal.both g h) env st ∷ ts) vs (run_each h env (option_to_list o) ts) (empty ∷ vs)
-  becomes-both-once closed g h env st o ts vs some is =
+  -- both goals, where the first one's stream ends: the second is run at its stores
+  becomes-both-ended : ProgramIsClosed program → (g h : Goal) (env : List Tm) (st : Store) (hs : List Store) (ts : List Task) (vs : List Stream) →
+      0 < count g env st → Stream.ends hs ≡ run g env st →
+      Becomes program (Task.run_at (Goal.both g h) env st ∷ ts) vs (run_each h env hs ts) (empty ∷ vs)
+  becomes-both-ended closed g h env st hs ts vs some is =
       let split = becomes-both closed g h env st ts vs in
       let ran = becomes-stream g env st (Task.bind_to h env ∷ ts) vs some in
       let bound = becomes-bound h env (run g env st) ts vs in
       let all = becomes-after _ _ _ _ _ _ split (becomes-after _ _ _ _ _ _ ran bound) in
       subst (λ s. Becomes program (Task.run_at (Goal.both g h) env st ∷ ts) vs (run_each h env (heads s) ts) (bound_last h env s ∷ vs)) (sym is) all
+
+  -- where it has none, the stream of both is empty
+  pub becomes-both-none : ProgramIsClosed program → (g h : Goal) (env : List Tm) (st : Store) (ts : List Task) (vs : List Stream) →
+      0 < count g env st → empty ≡ run g env st → Becomes program (Task.run_at (Goal.both g h) env st ∷ ts) vs ts (empty ∷ vs)
+  becomes-both-none closed g h env st ts vs some is = becomes-both-ended closed g h env st [] ts vs some is
+
+  -- where it has one, nothing else comes behind the stream of the second
+  pub becomes-both-one : ProgramIsClosed program → (g h : Goal) (env : List Tm) (st next : Store) (ts : List Task) (vs : List Stream) →
+      0 < count g env st → one next ≡ run g env st →
+      Becomes program (Task.run_at (Goal.both g h) env st ∷ ts) vs (Task.run_at h env next ∷ Task.append_empty ∷ ts) vs
+  becomes-both-one closed g h env st next ts vs some is =
+      let all = becomes-both-ended closed g h env st (next ∷ []) ts vs some is in
+      record { same = all.same; ready = all.ready; fewer = all.fewer }

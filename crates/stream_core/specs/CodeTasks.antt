@@ -10,11 +10,12 @@ use Rattle.stream_core.specs.Tables.{Table, stream_in}
 use Rattle.stream_core.specs.declared.streams.Stream.{Stream}
 use Rattle.stream_core.specs.Tasks as pending
 use Rattle.stream_core.specs.declared.tasks.Task.{Task}
-use Rattle.stream_core.specs.declared.tasks.Task.TheVariants.{Run, Append, Bind}
+use Rattle.stream_core.specs.declared.tasks.Task.TheVariants.{Run, Append, AppendEmpty, Bind}
 
 abbrev pub task : {St : Type 0} → (St → facts.Store) → (ℕ → Goal) → Task St → pending.Task
 task means goal (Run g env st) = pending.Task.run_at (goal g) (terms_of env) (means st)
 task means goal Append = pending.Task.append_two
+task means goal AppendEmpty = pending.Task.append_empty
 task means goal (Bind g env) = pending.Task.bind_to (goal g) (terms_of env)
 
 -- what the items of a stack stand for, the last one first

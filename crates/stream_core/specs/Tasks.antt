@@ -11,10 +11,12 @@ use Rattle.kan_model.specs.Streams.Running.{run, variables}
 use Rattle.kan_model.specs.Programs.Scope.{width, all_below, in_scope}
 use Rattle.kan_model.specs.Streams.Bounds.{floor}
 
--- to run a goal at a store, to append the two streams on top, or to bind a goal to the one on top
+-- to run a goal at a store, to append the two streams on top, to append the empty stream to the one
+-- on top, or to bind a goal to the one on top
 pub data Task : Type 0 where
   run_at : Goal → List Tm → Store → Task
   append_two : Task
+  append_empty : Task
   bind_to : Goal → List Tm → Task
 
 -- the streams that are there when all tasks are done, the last one first
@@ -23,6 +25,8 @@ streams_after [] vs = vs
 streams_after (Task.run_at g env st ∷ ts) vs = streams_after ts (run g env st ∷ vs)
 streams_after (Task.append_two ∷ ts) (s ∷ t ∷ vs) = streams_after ts (append s t ∷ vs)
 streams_after (Task.append_two ∷ ts) vs = vs
+streams_after (Task.append_empty ∷ ts) (s ∷ vs) = streams_after ts (append s empty ∷ vs)
+streams_after (Task.append_empty ∷ ts) [] = []
 streams_after (Task.bind_to g env ∷ ts) (s ∷ vs) =
     streams_after ts (bind_all (run g env) g env s ∷ vs)
 streams_after (Task.bind_to g env ∷ ts) [] = []
@@ -63,6 +67,8 @@ AreReady program (Task.run_at g env st ∷ ts) vs =
     MayRun program g env st × AreReady program ts (run g env st ∷ vs)
 AreReady program (Task.append_two ∷ ts) (s ∷ t ∷ vs) = AreReady program ts (append s t ∷ vs)
 AreReady program (Task.append_two ∷ ts) vs = ⊥
+AreReady program (Task.append_empty ∷ ts) (s ∷ vs) = AreReady program ts (append s empty ∷ vs)
+AreReady program (Task.append_empty ∷ ts) [] = ⊥
 AreReady program (Task.bind_to g env ∷ ts) (s ∷ vs) =
     MayBind program g env s × AreReady program ts (bind_all (run g env) g env s ∷ vs)
 AreReady program (Task.bind_to g env ∷ ts) [] = ⊥
@@ -90,6 +96,8 @@ tasks_to_do [] vs = 0
 tasks_to_do (Task.run_at g env st ∷ ts) vs = count g env st + tasks_to_do ts (run g env st ∷ vs)
 tasks_to_do (Task.append_two ∷ ts) (s ∷ t ∷ vs) = tasks_to_do ts (append s t ∷ vs) + 1
 tasks_to_do (Task.append_two ∷ ts) vs = 0
+tasks_to_do (Task.append_empty ∷ ts) (s ∷ vs) = tasks_to_do ts (append s empty ∷ vs) + 1
+tasks_to_do (Task.append_empty ∷ ts) [] = 0
 tasks_to_do (Task.bind_to g env ∷ ts) (s ∷ vs) =
     for_each (count g env) (heads s) + tasks_to_do ts (bind_all (run g env) g env s ∷ vs) + 1
 tasks_to_do (Task.bind_to g env ∷ ts) [] = 0

@@ -94,3 +94,32 @@ pub fn append<N: Nodes<St>, St: Store>(
         }
     }
 }
+
+// The stream with the empty one behind it. Where it goes on, that one waits as any other would.
+pub(crate) fn append_empty<N: Nodes<St>, St: Store>(
+    alloc: Global,
+    left: Stream<N::Id, St>,
+    nodes: &mut N,
+) -> Result<Stream<N::Id, St>, Memory>
+    requires { HasStream (N.table nodes.old) left }
+    ensures made { IfOk result (λ made. stream_in (N.table nodes.new) St.meaning made
+        ≡ model.append (stream_in (N.table nodes.old) St.meaning left) model.empty) }
+    ensures belong { IfOk result (HasStream (N.table nodes.new)) }
+    ensures adds { OnlyAdds (N.table nodes.old) (N.table nodes.new) }
+{
+    let Stream { heads, tail } = left;
+    match tail {
+        None => Ok(Stream { heads, tail: None }),
+        Some(later) => {
+            let tail = nodes.suspend(Thunk::Swap {
+                heads: ListOf::new(alloc),
+                tail: None,
+                inner: later,
+            })?;
+            Ok(Stream {
+                heads,
+                tail: Some(tail),
+            })
+        }
+    }
+}

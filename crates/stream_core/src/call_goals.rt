@@ -55,6 +55,10 @@ fn name_one<St: Store>(alloc: Global, term: Term, store: St) -> Result<(Term, St
     }
 }
 
+// How many slots more an environment has room for that arguments begin, so that it seldom moves
+// when the relation's body binds its variables.
+const ROOM: usize = 4;
+
 // Arguments with the pairs named, and the store in which they have names.
 fn name_all<St: Store>(
     alloc: Global,
@@ -69,7 +73,7 @@ fn name_all<St: Store>(
         (instances (terms_of env.now) (map (programs.template program.now) arguments.now))
         (map tree made.0.items) (St.meaning made.1)) }
 {
-    let mut values = Vec::new(alloc);
+    let mut values = Vec::with_capacity(alloc, arguments.len() + ROOM)?;
     let mut after = store;
     for term in arguments {
         let value = env.value(alloc, program, *term)?;

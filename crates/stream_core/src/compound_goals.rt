@@ -1,7 +1,6 @@
 //! Goals that are run by running others.
 
-ghost use Rattle.std.specs.Prelude.{◌≡◌, ◌+◌, ◌≤◌, ◌^◌, ℕ, ◌∷◌, ◌++◌, map, option_map, OnOk};
-ghost use Rattle.std.specs.Option.{option_to_list};
+ghost use Rattle.std.specs.Prelude.{◌≡◌, ◌+◌, ◌≤◌, ◌^◌, ℕ, ◌∷◌, ◌++◌, map, OnOk};
 ghost use Rattle.kan_model.specs.Programs.Goals.{Goal};
 ghost use Rattle.kan_model.specs.Stores.Store.{with_fresh};
 ghost use Rattle.kan_model.specs.Streams.Running.{variables};
@@ -113,22 +112,20 @@ fn push_run<St: Store>(
     Ok(())
 }
 
-// The second of two goals, at the one store that the first one has, where it has one.
-pub(crate) fn run_second<St: Store>(
+// A goal at a store, whose stream has the empty one appended.
+pub(crate) fn run_alone<St: Store>(
     goal: u32,
     env: Env,
-    store: Option<St>,
+    store: St,
     tasks: &mut Vec<Task<St>>,
 ) -> Result<(), Memory>
     ensures { OnOk result ((at : ℕ → Goal) → stack (task St.meaning at) tasks.new.items
-        ≡ pending.run_each (at goal) (terms_of env)
-        (option_to_list (option_map St.meaning store)) (stack (task St.meaning at)
-        tasks.old.items)) }
+        ≡ pending.Task.run_at (at goal) (terms_of env) (St.meaning store) ∷
+        pending.Task.append_empty ∷ stack (task St.meaning at) tasks.old.items) }
 {
-    match store {
-        Some(store) => push_run(goal, env, store, tasks),
-        None => Ok(()),
-    }
+    tasks.push(Task::AppendEmpty)?;
+    tasks.push(Task::Run { goal, env, store })?;
+    Ok(())
 }
 
 // A goal at each store, with copies of the environment.

@@ -21,10 +21,10 @@ ghost use Rattle.stream_core.specs.Tasks.{Each, IsOf, MayRun, AreBelow, AreBelow
 ghost use Rattle.stream_core.specs.Tasks.{AreReady, bound_last, streams_after};
 ghost use Rattle.stream_core.specs.CodeTasks.{task, tasks_of, streams_of};
 
-use crate::appending::append;
+use crate::appending::{append, append_empty};
 use crate::asserting::{ends_at_once, store_at_once};
 use crate::atomic_goals::atomic_stream;
-use crate::compound_goals::{run_at_each, run_second, split_both, split_either, split_fresh};
+use crate::compound_goals::{run_alone, run_at_each, split_both, split_either, split_fresh};
 use crate::nodes::Nodes;
 use crate::streams::{Stream, Thunk};
 use crate::tasks::Task;
@@ -45,7 +45,7 @@ fn node_at(program: &Program, goal: u32) -> GoalNode
 }
 
 // Runs two goals. Where the first one has its stores at once, there is one at most, and the second
-// goal is run at it: no stream is made for the first one.
+// goal is run at it: no stream is made for the first one, and none to stand behind the second's.
 fn run_both<N: Nodes<St>, St: Store>(
     alloc: Global,
     program: &Program,
@@ -74,11 +74,16 @@ fn run_both<N: Nodes<St>, St: Store>(
     let node = node_at(program, first);
     if ends_at_once(node) {
         let longer = store_at_once(alloc, program, node, &env, store)?;
-        values.push(Stream {
-            heads: ListOf::new(alloc),
-            tail: None,
-        })?;
-        run_second(second, env, longer, tasks)
+        match longer {
+            Some(store) => run_alone(second, env, store, tasks),
+            None => {
+                values.push(Stream {
+                    heads: ListOf::new(alloc),
+                    tail: None,
+                })?;
+                Ok(())
+            }
+        }
     } else {
         split_both(alloc, first, second, env, store, tasks)
     }
@@ -148,6 +153,29 @@ fn append_top<N: Nodes<St>, St: Store>(
         unreachable!()
     };
     let stream = append(alloc, left, right, nodes)?;
+    values.push(stream)?;
+    Ok(())
+}
+
+// Appends the empty stream to the one on top.
+fn append_empty_to_top<N: Nodes<St>, St: Store>(
+    alloc: Global,
+    nodes: &mut N,
+    values: &mut Vec<Stream<N::Id, St>>,
+) -> Result<(), Memory>
+    requires one { 0 < length values.old.items }
+    requires belong { Each (HasStream (N.table nodes.old)) values.old.items }
+    ensures becomes { OnOk result ((p : goals.Program) (ts : List pending.Task) → Becomes p
+        (pending.Task.append_empty ∷ ts)
+        (streams_of (N.table nodes.old) St.meaning values.old.items) ts
+        (streams_of (N.table nodes.new) St.meaning values.new.items)) }
+    ensures belong { OnOk result (Each (HasStream (N.table nodes.new)) values.new.items) }
+    ensures adds { OnlyAdds (N.table nodes.old) (N.table nodes.new) }
+{
+    let Some(left) = values.pop() else {
+        unreachable!()
+    };
+    let stream = append_empty(alloc, left, nodes)?;
     values.push(stream)?;
     Ok(())
 }
@@ -278,6 +306,7 @@ fn take_task<N: Nodes<St>, St: Store>(
             run_node(alloc, program, goal, env, store, nodes, tasks, values)
         }
         Task::Append => append_top(alloc, nodes, values),
+        Task::AppendEmpty => append_empty_to_top(alloc, nodes, values),
         Task::Bind { goal, env } => bind_top(alloc, program, goal, env, nodes, tasks, values),
     }
 }
@@ -312,6 +341,15 @@ fn finish<N: Nodes<St>, St: Store>(
     }
 }
 
+// A stack with nothing on it yet, and room for what most goals put there, so that it seldom moves
+// while it grows.
+fn empty_stack<T: Drop>(alloc: Global) -> Result<Vec<T>, Memory>
+    ensures { IfOk result (λ stack. stack.items ≡ []) }
+{
+    let stack = Vec::with_capacity(alloc, 8)?;
+    Ok(stack)
+}
+
 // The stream of a goal at a store, with an environment of its own.
 pub(crate) fn run_with<N: Nodes<St>, St: Store>(
     alloc: Global,
@@ -331,9 +369,9 @@ pub(crate) fn run_with<N: Nodes<St>, St: Store>(
     ensures belong { IfOk result (HasStream (N.table nodes.new)) }
     ensures adds { OnlyAdds (N.table nodes.old) (N.table nodes.new) }
 {
-    let mut tasks = Vec::new(alloc);
+    let mut tasks = empty_stack(alloc)?;
     tasks.push(Task::Run { goal, env, store })?;
-    let values = Vec::new(alloc);
+    let values = empty_stack(alloc)?;
     let made = finish(alloc, program, nodes, tasks, values)?;
     Ok(made)
 }
@@ -396,9 +434,9 @@ pub(crate) fn bind_with<N: Nodes<St>, St: Store>(
     ensures belong { IfOk result (HasStream (N.table nodes.new)) }
     ensures adds { OnlyAdds (N.table nodes.old) (N.table nodes.new) }
 {
-    let mut tasks = Vec::new(alloc);
+    let mut tasks = empty_stack(alloc)?;
     tasks.push(Task::Bind { goal, env })?;
-    let mut values = Vec::new(alloc);
+    let mut values = empty_stack(alloc)?;
     values.push(stream)?;
     let made = finish(alloc, program, nodes, tasks, values)?;
     Ok(made)

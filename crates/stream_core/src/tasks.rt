@@ -10,6 +10,8 @@ pub(crate) enum Task<St> {
     Run { goal: u32, env: Env, store: St },
     /// Append the two streams on top.
     Append,
+    /// Append the empty stream to the one on top.
+    AppendEmpty,
     /// Bind a goal to the stream on top.
     Bind { goal: u32, env: Env },
 }

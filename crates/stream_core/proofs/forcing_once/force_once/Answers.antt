@@ -1,4 +1,4 @@
-use Rattle.std.proofs.Common.{◌≡◌, ◌<◌, length, arith, refl, sym, subst, ap, ◌∙◌}
+use Rattle.std.proofs.Common.{◌≡◌, length, arith, refl, sym, subst, ap, ◌∙◌}
 use Rattle.kan_model.specs.Programs.Closed as programs
 use Rattle.kan_model.specs.Programs.Scope.{is_small}
 use Rattle.kan_model.specs.Streams.Bounds.{Fits}

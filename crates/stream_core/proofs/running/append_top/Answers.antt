@@ -1,11 +1,12 @@
-use Rattle.std.proofs.Common.{ap, ◌∙◌, ◌∷◌}
+use Rattle.std.proofs.Common.{ap, ◌∙◌, ◌∷◌, arith}
 use Rattle.stream_core.specs.Tables.{HasStream, stream_in}
 use Rattle.stream_core.proofs.StreamLaws.{becomes-top, stack-stays, all-belong, Each-last, Each-front}
 use Rattle.stream_core.proofs.StackLaws.{stack-pop, two-pops, one-pop}
 use Rattle.stream_core.proofs.running.append_top.Goals as goal
 
 pub unreachable-requires : goal.unreachable-requires
-unreachable-requires g c = one-pop _ _ _ _ _ _ c.pop.ensures.items c.pop.ensures.rest c.pop.ensures.cases c.in_default.not-Some c.requires.two
+unreachable-requires g c =
+    let two = c.requires.two in one-pop _ _ _ _ _ _ c.pop.ensures.items c.pop.ensures.rest c.pop.ensures.cases c.in_default.not-Some (omega (arith, two))
 
 pub unreachable-requires-in_default-pop : goal.unreachable-requires-in_default-pop
 unreachable-requires-in_default-pop g c = two-pops _ _ _ _ _ _ _ _ c.in-Some.ensures.items c.pop-2.ensures.items c.pop-2.ensures.rest c.pop-2.ensures.cases c.in_default-pop.not-Some c.requires.two

@@ -2,6 +2,7 @@ use Rattle.std.proofs.Common.{ap, ◌∙◌, ◌∷◌, map}
 use Rattle.std.specs.Prelude.{option_map}
 use Rattle.kan_model.specs.Programs.Closed as programs
 use Rattle.kan_model.specs.Programs.Environments.{terms_of}
+use Rattle.stream_core.specs.CodeTasks.{tasks_of}
 use Rattle.stream_core.specs.Tables.{HasStream, stream_in}
 use Rattle.stream_core.proofs.StreamLaws.{becomes-bound-top, bound-going, below-going, top-may-bind, none-to-bind, heads-going, stack-stays, all-belong, Each-last, Each-front}
 use Rattle.stream_core.proofs.StackLaws.{stack-pop, none-pop}
@@ -9,20 +10,20 @@ use Rattle.stream_core.proofs.running.bind_top.Goals as goal
 
 pub unreachable-requires : goal.unreachable-requires
 unreachable-requires g c =
-    none-to-bind (programs.meaning c.args.program.now) _ _ _ _
+    none-to-bind (programs.meaning c.args.program.now) _ _ (tasks_of c.args.program.now g.St.Store.meaning c.args.tasks.now.items) _
     (none-pop (stream_in (g.N.Nodes.table c.args.nodes.now) g.St.Store.meaning) _ _ _ _ _ _ c.pop.ensures.items c.pop.ensures.rest c.pop.ensures.cases c.in_default.not-Some) c.requires.ready
 
 pub bound_tail-requires-clause-is : goal.bound_tail-requires-clause-is
 bound_tail-requires-clause-is g c =
     let p = c.args.program.now in
-    (top-may-bind (programs.meaning p) (programs.goal p c.args.goal) (terms_of c.args.env) _ _ _ _ (stack-pop (stream_in (g.N.Nodes.table c.args.nodes.now) g.St.Store.meaning) _ _ _ c.in-Some.ensures.items) c.requires.ready).0
+    (top-may-bind (programs.meaning p) (programs.goal p c.args.goal) (terms_of c.args.env) (tasks_of p g.St.Store.meaning c.args.tasks.now.items) _ _ _ (stack-pop (stream_in (g.N.Nodes.table c.args.nodes.now) g.St.Store.meaning) _ _ _ c.in-Some.ensures.items) c.requires.ready).0
 
 pub bound_tail-requires-clause-below : goal.bound_tail-requires-clause-below
 bound_tail-requires-clause-below g c =
     let p = c.args.program.now in
     let means = g.St.Store.meaning in
     let t = g.N.Nodes.table c.args.nodes.now in
-    let may = top-may-bind (programs.meaning p) (programs.goal p c.args.goal) (terms_of c.args.env) _ _ _ _ (stack-pop (stream_in t means) _ _ _ c.in-Some.ensures.items) c.requires.ready in
+    let may = top-may-bind (programs.meaning p) (programs.goal p c.args.goal) (terms_of c.args.env) (tasks_of p means c.args.tasks.now.items) _ _ _ (stack-pop (stream_in t means) _ _ _ c.in-Some.ensures.items) c.requires.ready in
     below-going (terms_of c.args.env) (map means c.in-Some.stream.heads) (option_map t.tree c.in-Some.stream.tail) may.2
 
 pub bound_tail-requires-clause-belong : goal.bound_tail-requires-clause-belong

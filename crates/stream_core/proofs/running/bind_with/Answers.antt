@@ -19,8 +19,8 @@ finish-requires-clause-ready g c =
     let is = stream_in t means in
     bind-ready (programs.meaning p) (program-closed p c.requires.table.small) (programs.goal p c.args.goal) (terms_of c.args.env) (terms_of c.args.env) (is c.args.stream) (map means c.args.stream.heads) _ _ c.requires.is
     (heads-going (map means c.args.stream.heads) (option_map t.tree c.args.stream.tail)) c.requires.room c.requires.below
-    (pushed-one f _ _ _ _ [] c.in_ok-push.ensures.items refl (ap (stack f) c.new-tasks.ensures.items))
-    (pushed-one is _ _ _ _ [] c.in_ok-push-2.ensures.items refl (ap (stack is) c.new-values.ensures.items)) refl
+    (pushed-one f _ _ _ _ [] c.in_ok-push.ensures.items refl (ap (stack f) c.in_ok-tasks.ensures))
+    (pushed-one is _ _ _ _ [] c.in_ok-push-2.ensures.items refl (ap (stack is) c.in_ok-values.ensures)) refl
 
 pub finish-requires-clause-one : goal.finish-requires-clause-one
 finish-requires-clause-one g c =
@@ -28,8 +28,8 @@ finish-requires-clause-one g c =
     let f = task g.St.Store.meaning (programs.goal p) in
     let is = stream_in (g.N.Nodes.table c.args.nodes.now) g.St.Store.meaning in
     ap length (bind-streams_after (programs.goal p c.args.goal) (terms_of c.args.env) (terms_of c.args.env) (is c.args.stream) _ _
-    (pushed-one f _ _ _ _ [] c.in_ok-push.ensures.items refl (ap (stack f) c.new-tasks.ensures.items))
-    (pushed-one is _ _ _ _ [] c.in_ok-push-2.ensures.items refl (ap (stack is) c.new-values.ensures.items)) refl)
+    (pushed-one f _ _ _ _ [] c.in_ok-push.ensures.items refl (ap (stack f) c.in_ok-tasks.ensures))
+    (pushed-one is _ _ _ _ [] c.in_ok-push-2.ensures.items refl (ap (stack is) c.in_ok-values.ensures)) refl)
 
 pub returns-clause-made : goal.returns-clause-made
 returns-clause-made g c =
@@ -37,5 +37,5 @@ returns-clause-made g c =
     let f = task g.St.Store.meaning (programs.goal p) in
     let is = stream_in (g.N.Nodes.table c.args.nodes.now) g.St.Store.meaning in
     only-one (sym c.in_ok-made.ensures.made ∙ bind-streams_after (programs.goal p c.args.goal) (terms_of c.args.env) (terms_of c.args.env) (is c.args.stream) _ _
-    (pushed-one f _ _ _ _ [] c.in_ok-push.ensures.items refl (ap (stack f) c.new-tasks.ensures.items))
-    (pushed-one is _ _ _ _ [] c.in_ok-push-2.ensures.items refl (ap (stack is) c.new-values.ensures.items)) refl)
+    (pushed-one f _ _ _ _ [] c.in_ok-push.ensures.items refl (ap (stack f) c.in_ok-tasks.ensures))
+    (pushed-one is _ _ _ _ [] c.in_ok-push-2.ensures.items refl (ap (stack is) c.in_ok-values.ensures)) refl)

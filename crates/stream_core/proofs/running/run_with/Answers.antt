@@ -15,7 +15,7 @@ finish-requires-clause-ready g c =
     let f = task g.St.Store.meaning (programs.goal p) in
     run-ready (programs.meaning p) (program-closed p c.requires.table.small) (programs.goal p c.args.goal) (terms_of c.args.env) (terms_of c.args.env) (g.St.Store.meaning c.args.store) _ _
     c.requires.is.0 c.requires.is.1 c.requires.below c.requires.room
-    (pushed-one f _ _ _ _ [] c.in_ok-push.ensures.items refl (ap (stack f) c.new-tasks.ensures.items)) refl
+    (pushed-one f _ _ _ _ [] c.in_ok-push.ensures.items refl (ap (stack f) c.in_ok-tasks.ensures)) refl
 
 pub finish-requires-clause-one : goal.finish-requires-clause-one
 finish-requires-clause-one g c =
@@ -23,7 +23,7 @@ finish-requires-clause-one g c =
     let f = task g.St.Store.meaning (programs.goal p) in
     let is = stream_in (g.N.Nodes.table c.args.nodes.now) g.St.Store.meaning in
     ap length (run-streams_after (programs.goal p c.args.goal) (terms_of c.args.env) (terms_of c.args.env) (g.St.Store.meaning c.args.store) _ _
-    (pushed-one f _ _ _ _ [] c.in_ok-push.ensures.items refl (ap (stack f) c.new-tasks.ensures.items)) (ap (stack is) c.new-values.ensures.items) refl)
+    (pushed-one f _ _ _ _ [] c.in_ok-push.ensures.items refl (ap (stack f) c.in_ok-tasks.ensures)) (ap (stack is) c.in_ok-values.ensures) refl)
 
 pub returns-clause-made : goal.returns-clause-made
 returns-clause-made g c =
@@ -31,4 +31,4 @@ returns-clause-made g c =
     let f = task g.St.Store.meaning (programs.goal p) in
     let is = stream_in (g.N.Nodes.table c.args.nodes.now) g.St.Store.meaning in
     only-one (sym c.in_ok-made.ensures.made ∙ run-streams_after (programs.goal p c.args.goal) (terms_of c.args.env) (terms_of c.args.env) (g.St.Store.meaning c.args.store) _ _
-    (pushed-one f _ _ _ _ [] c.in_ok-push.ensures.items refl (ap (stack f) c.new-tasks.ensures.items)) (ap (stack is) c.new-values.ensures.items) refl)
+    (pushed-one f _ _ _ _ [] c.in_ok-push.ensures.items refl (ap (stack f) c.in_ok-tasks.ensures)) (ap (stack is) c.in_ok-values.ensures) refl)

@@ -1,4 +1,4 @@
-use Rattle.std.proofs.Common.{ℕ, ap, ◌∙◌, sym, subst, IfOk}
+use Rattle.std.proofs.Common.{ℕ, ap, ◌∙◌, sym, subst}
 use Rattle.std.proofs.lemmas.Result.{IfOk-weaker}
 use Rattle.std.specs.Arc.{arc_value}
 use Rattle.kan_model.specs.Programs.Goals.{Goal}

@@ -1,0 +1,28 @@
+use Rattle.std.proofs.Common.{ap, ◌∙◌, ◌∷◌}
+use Rattle.stream_core.specs.Tables.{HasStream, stream_in}
+use Rattle.stream_core.proofs.StreamLaws.{becomes-top-closed, stack-stays, all-belong, Each-last, Each-front}
+use Rattle.stream_core.proofs.StackLaws.{stack-pop, one-pop}
+use Rattle.stream_core.proofs.running.append_empty_to_top.Goals as goal
+
+pub unreachable-requires : goal.unreachable-requires
+unreachable-requires g c = one-pop _ _ _ _ _ _ c.pop.ensures.items c.pop.ensures.rest c.pop.ensures.cases c.in_default.not-Some c.requires.one
+
+pub returns-clause-becomes : goal.returns-clause-becomes
+returns-clause-becomes g c program ts =
+    let means = g.St.Store.meaning in
+    let t = g.N.Nodes.table c.args.nodes.now in
+    let u = g.N.Nodes.table c.append_empty.new.nodes in
+    let is = stream_in u means in
+    let first = Each-front (HasStream t) _ _ _ c.in-Some.ensures.items c.requires.belong in
+    becomes-top-closed program ts _ _ _ _ _
+    (stack-pop (stream_in t means) _ _ _ c.in-Some.ensures.items)
+    (stack-pop is _ _ _ c.in_ok-push.ensures.items
+    ∙ ap (λ vs. is c.in_ok-stream.stream ∷ vs) (stack-stays t.belongs u.belongs t.tree u.tree means c.in_ok-stream.ensures.adds.ids _ first.0))
+    c.in_ok-stream.ensures.made
+
+pub returns-clause-belong : goal.returns-clause-belong
+returns-clause-belong g c =
+    let t = g.N.Nodes.table c.args.nodes.now in
+    let u = g.N.Nodes.table c.append_empty.new.nodes in
+    let first = Each-front (HasStream t) _ _ _ c.in-Some.ensures.items c.requires.belong in
+    rw c.in_ok-push.ensures.items (Each-last (HasStream u) _ _ (all-belong t.belongs u.belongs t.tree u.tree c.in_ok-stream.ensures.adds.ids _ first.0) c.in_ok-stream.ensures.belong)
