@@ -8,11 +8,12 @@ use Rattle.std.specs.Str.{is_utf8}
 use Rattle.kan_terms.specs.Table.{Table}
 use Rattle.kan_grammar.specs.Data.Words.{Atom, symbol, string, number, truth, out_of_range, reserved}
 use Rattle.kan_grammar.specs.Data.Words.{Token, opening, closing, prefix, dot, atom, bad_string, bad}
-use Rattle.kan_grammar.specs.Data.Tokens.{Placed, placed, Piece, blank, spelled, placed_before, piece, more, tokens, tokens_from}
+use Rattle.kan_grammar.specs.Data.Tokens.{Placed, placed, tokens}
 use Rattle.kan_grammar.specs.Data.Written.{Written, Within, single, prefixed, close, dotted}
 use Rattle.kan_grammar.specs.Data.Enclosing.{row, Place, top, in_list, after_dot, after_prefix, Enclosing, awaiting, ended, put}
 use Rattle.kan_grammar.specs.Data.Faults.{Fault, refusal, after, Progress, going, stopped, settle, step, run, data_are, finish, beginning, read_tokens, read_if, read_text}
 use Rattle.kan_grammar.specs.Texts.Sited.{Sited, with_sites, within_sites}
+use Rattle.kan_grammar.proofs.Data.CountLaws.{few_tokens}
 use Rattle.sexpr.specs.WrittenForms.{as_kept, list_of, written_form}
 use Rattle.sexpr.specs.Printing.{within}
 use Rattle.sexpr.specs.declared.data.Datum.{Datum}
@@ -88,21 +89,6 @@ front_parts names [] zero = omega arith
 front_parts names [] (suc i) = omega arith
 front_parts names (x ∷ xs) zero = omega arith
 front_parts names (x ∷ xs) (suc i) = omega (arith, front_parts names xs i)
-
--- a text has at most as many tokens as bytes
-one_more : (at most : ℕ) (p : Piece) (rest : List Placed) → length rest ≤ most → length (placed_before at p rest) ≤ suc most
-one_more at most (blank n) rest few = omega (arith, few)
-one_more at most (spelled t n) rest few = omega (arith, few)
-
-few_from : (at skip : ℕ) (bs : List ℕ) → length (tokens_from at skip bs) ≤ length bs
-unfolding tokens_from
-few_from at skip [] = omega arith
-few_from at (suc skip) (b ∷ bs) = omega (arith, few_from (suc at) skip bs)
-few_from at zero (b ∷ bs) = one_more at (length bs) (piece b bs) (tokens_from (suc at) (more (piece b bs)) bs) (few_from (suc at) (more (piece b bs)) bs)
-
-few_tokens : (bs : List ℕ) → length (tokens bs) ≤ length bs
-unfolding tokens
-few_tokens bs = few_from 0 0 bs
 
 -- the parts of a datum as it is written
 abbrev size : Table → Written → ℕ

@@ -1,6 +1,6 @@
 //! Goals as they are written, parsed one step at a time.
 
-ghost use Rattle.std.specs.Prelude.{◌≡◌, ◌+◌, ◌<◌, ◌≤◌, List, true};
+ghost use Rattle.std.specs.Prelude.{◌≡◌, ◌<◌, ◌≤◌, List, true};
 ghost use Rattle.kan_terms.specs.Table.{Table};
 ghost use Rattle.kan_grammar.specs.Texts.Sited.{Sited, name, pair, count};
 ghost use Rattle.kan_grammar.specs.Texts.GoalForms.{goal_form, fresh_form, is_count, parts_of};

@@ -1,5 +1,6 @@
 -- The tables of a program, as they are built.
 pub mod TableLaws
+pub mod PlaceLaws
 pub mod EntryLaws
 pub mod FormEntryLaws
 pub mod TermsLeftLaws

@@ -12,3 +12,5 @@ pub mod FormsBuilt
 pub mod CallsThere
 pub mod LowTemplates
 pub mod InContext
+pub mod WorkDone
+pub mod GoalAdded

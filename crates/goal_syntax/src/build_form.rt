@@ -2,20 +2,17 @@
 
 ghost use Rattle.goal_syntax.specs.Building.InContext.{list_goal, relation_at, relations_parsed};
 ghost use Rattle.goal_syntax.specs.Building.InContext.{queries_parsed, names_parsed};
-ghost use Rattle.std.specs.Prelude.{◌≡◌, ◌&&◌, ◌<◌, ◌+◌, ◌∷◌, ◌++◌, [], length, IfOk, OnOk};
-ghost use Rattle.kan_model.specs.Programs.Goals as model;
+ghost use Rattle.std.specs.Prelude.{◌≡◌, ◌<◌, ◌+◌, ◌∷◌, ◌++◌, [], length, IfOk, OnOk};
 ghost use Rattle.kan_grammar.specs.Texts.TopForms.{head_name};
-ghost use Rattle.kan_grammar.specs.Texts.GoalForms.{goal_forms};
 ghost use Rattle.kan_grammar.specs.Texts.Resolved.{within};
 ghost use Rattle.kan_model.specs.Programs.Drafts.{tables};
 ghost use Rattle.kan_model.specs.Programs.Nodes.{relation_entry};
 ghost use Rattle.kan_model.specs.Programs.Tables.{with_relation};
 ghost use Rattle.goal_forms.specs.Contexts.{data_of, datum_at, form_of, head_at};
-ghost use Rattle.goal_syntax.specs.Building.CallsThere.{KeepsClosed, all_named, bodies_named};
-ghost use Rattle.goal_syntax.specs.Building.CallsThere.{calls_named};
+ghost use Rattle.goal_syntax.specs.Building.CallsThere.{all_named, bodies_named};
 ghost use Rattle.goal_syntax.specs.Building.FormsBuilt.{name_symbol, query_asked, AddsNames};
 ghost use Rattle.goal_syntax.specs.Building.FormsBuilt.{AddsRelations, AddsForms};
-ghost use Rattle.goal_syntax.specs.Building.GrownTables.{HasGoal, Grows};
+ghost use Rattle.goal_syntax.specs.Building.GoalAdded.{AddsGoal};
 ghost use Rattle.goal_syntax.specs.Building.Entries.{Adds, HasRoomFor, form_size};
 ghost use Rattle.goal_syntax.specs.Building.InContext.{list_entries};
 ghost use Rattle.goal_forms.specs.FormSteps.{limit_at};
@@ -24,7 +21,7 @@ ghost use Rattle.goal_syntax.specs.Building.Widths.{Widens, form_width};
 ghost use Rattle.goal_syntax.specs.Building.InContext.{list_width};
 ghost use Rattle.goal_syntax.specs.Building.Named.{Lacks, relation_unnamed};
 ghost use Rattle.kan_terms.specs.Table.{Table};
-ghost use Rattle.goal_syntax.specs.Building.InContext.{NamesIn};
+ghost use Rattle.goal_syntax.specs.Building.InContext.{KeepsClosedIn, NamesIn};
 
 use crate::build_goal::build_goals;
 use crate::build_run::{build_list, build_one};
@@ -68,18 +65,10 @@ fn build_body(
 ) -> Result<u32, Memory>
     requires room { HasRoomFor
         (length params.now + list_entries context.now goals) (tables draft.old) }
-    ensures made { IfOk result
-        (λ at. HasGoal (tables draft.new) at (list_goal context.now (within [] params.now) goals)) }
-    ensures grows { OnOk result (Grows (tables draft.old) (tables draft.new)) }
-    ensures room { OnOk result
-        (Adds (length params.now + list_entries context.now goals)
-        (tables draft.old) (tables draft.new)) }
-    ensures closed { OnOk result
-        (KeepsClosed (data_of context.now) (tables draft.old) (tables draft.new)
-        (λ rows. calls_named rows (list_goal context.now (within [] params.now) goals))) }
-    ensures narrow { OnOk result
-        (Widens (list_width context.now goals) (tables draft.old) (tables draft.new)) }
-    ensures named { OnOk result (NamesIn context.now draft.old draft.new) }
+    ensures { IfOk result (AddsGoal context.now
+        (list_goal context.now (within [] params.now) goals)
+        (length params.now + list_entries context.now goals) (list_width context.now goals)
+        draft.old draft.new) }
 {
     let mut scope = Vec::new(context.alloc);
     enter(params, &mut scope)?;
@@ -105,8 +94,7 @@ pub(crate) fn build_relation(
     ensures room { OnOk result
         (Adds (1 + length (head_at context.now head).value + list_entries context.now goals)
         (tables draft.old) (tables draft.new)) }
-    ensures closed { OnOk result
-        (KeepsClosed (data_of context.now) (tables draft.old) (tables draft.new)
+    ensures closed { OnOk result (KeepsClosedIn context.now draft.old draft.new
         (bodies_named (relation_at context.now head goals ∷ []))) }
     ensures narrow { OnOk result
         (Widens (list_width context.now goals) (tables draft.old) (tables draft.new)) }
@@ -161,8 +149,7 @@ pub(crate) fn build_form(
         (AddsNames (tables draft.old) (tables draft.new) (names_parsed context.now form)) }
     ensures room { OnOk result
         (Adds (form_size (form_of context.now form)) (tables draft.old) (tables draft.new)) }
-    ensures closed { OnOk result
-        (KeepsClosed (data_of context.now) (tables draft.old) (tables draft.new)
+    ensures closed { OnOk result (KeepsClosedIn context.now draft.old draft.new
         (all_named (relations_parsed context.now form) (queries_parsed context.now form))) }
     ensures narrow { OnOk result
         (Widens (form_width (form_of context.now form)) (tables draft.old) (tables draft.new)) }

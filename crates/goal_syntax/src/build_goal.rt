@@ -1,27 +1,26 @@
 //! Building goals.
 
-ghost use Rattle.goal_syntax.specs.Building.InContext.{list_goal, goal_alone, made_after};
-ghost use Rattle.goal_syntax.specs.Building.InContext.{KeepsLowIn};
+ghost use Rattle.goal_syntax.specs.Building.InContext.{list_goal, goal_alone, KeepsLowIn};
+ghost use Rattle.goal_syntax.specs.Building.WorkDone.{goals_made, width_made, made_later};
+ghost use Rattle.goal_syntax.specs.Building.WorkDone.{AreMade, Falls, KeepsEntries, KeepsWidth};
 ghost use Rattle.std.specs.Prelude.{List, ◌≡◌, ◌&&◌, ◌<◌, ◌≤◌, ◌+◌, ◌^◌, ◌∷◌, ◌++◌, [], length};
 ghost use Rattle.std.specs.Prelude.{reverse};
-ghost use Rattle.std.specs.Prelude.{true, IfOk, OnOk};
-ghost use Rattle.kan_grammar.specs.Texts.GoalForms.{goal_forms};
+ghost use Rattle.std.specs.Prelude.{IfOk, OnOk};
 ghost use Rattle.kan_grammar.specs.Texts.Resolved.{Names, within};
 ghost use Rattle.kan_model.specs.Programs.Drafts.{tables};
 ghost use Rattle.goal_forms.specs.Contexts.{data_of, datum_at, binder_at};
 ghost use Rattle.kan_model.specs.Programs.Tables.{RelationEntry};
 ghost use Rattle.goal_syntax.specs.Building.CallsThere.{are_there, calls_named};
-ghost use Rattle.goal_syntax.specs.Building.GoalsBuilt.{stack_goals, with_maybe};
+ghost use Rattle.goal_syntax.specs.Building.GoalsBuilt.{with_maybe};
 ghost use Rattle.goal_syntax.specs.Building.GrownTables.{HasGoal, Grows};
 ghost use Rattle.goal_syntax.specs.Building.Entries.{Adds, HasRoomFor, entries};
 ghost use Rattle.goal_syntax.specs.Building.InContext.{goals_entries, list_entries, next_entries};
 ghost use Rattle.goal_forms.specs.GoalSteps.{inner_names};
 ghost use Rattle.goal_syntax.specs.Building.GoalsLeft.{first_work, inner_works, other_works};
-ghost use Rattle.goal_syntax.specs.Building.GoalsLeft.{own_size, work_size, works_size};
+ghost use Rattle.goal_syntax.specs.Building.GoalsLeft.{own_size};
 ghost use Rattle.goal_forms.specs.Shapes.{parts};
-ghost use Rattle.goal_forms.specs.Places.{are_below};
-ghost use Rattle.goal_syntax.specs.Building.Widths.{Widens, made_width};
-ghost use Rattle.goal_syntax.specs.Building.InContext.{left_width, list_width, next_width};
+ghost use Rattle.goal_syntax.specs.Building.Widths.{Widens};
+ghost use Rattle.goal_syntax.specs.Building.InContext.{list_width};
 ghost use Rattle.goal_syntax.specs.Building.InContext.{NamesIn};
 
 use crate::build_node::build_node;
@@ -60,19 +59,17 @@ fn build_own(
     requires room { HasRoomFor
         (own_size context.now.names.now (data_of context.now) goal) (tables draft.old) }
     requires few { length scope.now < 2 ^ 24 }
-    requires below { are_below (length (tables draft.old).goals) places.old.items ≡ true }
-    ensures made { OnOk result (stack_goals (tables draft.new) places.new.items
+    requires below { AreMade draft.old places.old.items }
+    ensures made { OnOk result (goals_made draft.new places.new.items
         ≡ with_maybe (goal_alone context.now scope.now goal)
-        (stack_goals (tables draft.old) places.old.items)) }
-    ensures below { OnOk result
-        (are_below (length (tables draft.new).goals) places.new.items ≡ true) }
+        (goals_made draft.old places.old.items)) }
+    ensures below { OnOk result (AreMade draft.new places.new.items) }
     ensures grows { OnOk result (Grows (tables draft.old) (tables draft.new)) }
     ensures room { OnOk result
         (Adds (own_size context.now.names.now (data_of context.now) goal)
         (tables draft.old) (tables draft.new)) }
     ensures low { OnOk result (KeepsLowIn context.now draft.old draft.new) }
-    ensures narrow { OnOk result (Widens
-        (made_width (stack_goals (tables draft.new) places.new.items))
+    ensures narrow { OnOk result (Widens (width_made draft.new places.new.items)
         (tables draft.old) (tables draft.new)) }
     ensures named { OnOk result (NamesIn context.now draft.old draft.new) }
 {
@@ -144,37 +141,26 @@ fn build_goal(
 ) -> Result<(), Memory>
     requires room { HasRoomFor (next_entries context.now (Work.Goal place)) (tables draft.old) }
     requires few { length scope.old.items + next_entries context.now (Work.Goal place) < 2 ^ 24 }
-    requires below { are_below (length (tables draft.old).goals) places.old.items ≡ true }
-    ensures made { OnOk result (
-        made_after context.now scope.new.items (reverse works.new.items)
-        (stack_goals (tables draft.new) places.new.items)
-        ≡ made_after context.now scope.old.items (Work.Goal place ∷ reverse works.old.items)
-        (stack_goals (tables draft.old) places.old.items)) }
+    requires below { AreMade draft.old places.old.items }
+    ensures made { OnOk result
+        (made_later context.now scope.new.items (reverse works.new.items) draft.new places.new.items
+        ≡ made_later context.now scope.old.items (Work.Goal place ∷ reverse works.old.items)
+        draft.old places.old.items) }
     ensures falls { OnOk result
-        (works_size (data_of context.now) works.new.items
-        < work_size (data_of context.now) (Work.Goal place) + works_size
-        (data_of context.now) works.old.items) }
-    ensures below { OnOk result
-        (are_below (length (tables draft.new).goals) places.new.items ≡ true) }
+        (Falls context.now (Work.Goal place) works.old.items works.new.items) }
+    ensures below { OnOk result (AreMade draft.new places.new.items) }
     ensures grows { OnOk result (Grows (tables draft.old) (tables draft.new)) }
     ensures room { OnOk result
-        (entries (tables draft.new) + goals_entries context.now works.new.items
-        ≤ entries (tables draft.old)
-        + (next_entries context.now (Work.Goal place)
-        + goals_entries context.now works.old.items)) }
+        (KeepsEntries context.now (Work.Goal place) works.old.items works.new.items
+        (entries (tables draft.old)) (entries (tables draft.new))) }
     ensures few { OnOk result
-        (length scope.new.items + goals_entries context.now works.new.items
-        ≤ length scope.old.items
-        + (next_entries context.now (Work.Goal place)
-        + goals_entries context.now works.old.items)) }
+        (KeepsEntries context.now (Work.Goal place) works.old.items works.new.items
+        (length scope.old.items) (length scope.new.items)) }
     ensures low { OnOk result (KeepsLowIn context.now draft.old draft.new) }
     ensures wide { OnOk result
-        (made_width (stack_goals (tables draft.new) places.new.items)
-        + left_width context.now works.new.items
-        ≤ made_width (stack_goals (tables draft.old) places.old.items)
-        + (next_width context.now (Work.Goal place) + left_width context.now works.old.items)) }
-    ensures narrow { OnOk result (Widens
-        (made_width (stack_goals (tables draft.new) places.new.items))
+        (KeepsWidth context.now (Work.Goal place) works.old.items works.new.items
+        (width_made draft.old places.old.items) (width_made draft.new places.new.items)) }
+    ensures narrow { OnOk result (Widens (width_made draft.new places.new.items)
         (tables draft.old) (tables draft.new)) }
     ensures named { OnOk result (NamesIn context.now draft.old draft.new) }
 {
@@ -224,36 +210,27 @@ fn build_row(
     works: &mut Vec<Work>,
 ) -> Result<(), Memory>
     requires room { HasRoomFor (next_entries context.now (Work.Row row place)) (tables draft.old) }
-    requires below { are_below (length (tables draft.old).goals) places.old.items ≡ true }
+    requires below { AreMade draft.old places.old.items }
     ensures made { OnOk result ((ns : Names) →
-        made_after context.now ns (reverse works.new.items)
-        (stack_goals (tables draft.new) places.new.items)
-        ≡ made_after context.now ns (Work.Row row place ∷ reverse works.old.items)
-        (stack_goals (tables draft.old) places.old.items)) }
+        made_later context.now ns (reverse works.new.items) draft.new places.new.items
+        ≡ made_later context.now ns (Work.Row row place ∷ reverse works.old.items)
+        draft.old places.old.items) }
     ensures falls { OnOk result
-        (works_size (data_of context.now) works.new.items
-        < work_size (data_of context.now) (Work.Row row place) + works_size
-        (data_of context.now) works.old.items) }
-    ensures below { OnOk result
-        (are_below (length (tables draft.new).goals) places.new.items ≡ true) }
+        (Falls context.now (Work.Row row place) works.old.items works.new.items) }
+    ensures below { OnOk result (AreMade draft.new places.new.items) }
     ensures grows { OnOk result (Grows (tables draft.old) (tables draft.new)) }
     ensures room { OnOk result
-        (entries (tables draft.new) + goals_entries context.now works.new.items
-        ≤ entries (tables draft.old)
-        + (next_entries context.now (Work.Row row place)
-        + goals_entries context.now works.old.items)) }
+        (KeepsEntries context.now (Work.Row row place) works.old.items works.new.items
+        (entries (tables draft.old)) (entries (tables draft.new))) }
     ensures few { OnOk result
         (goals_entries context.now works.new.items
         ≤ next_entries context.now (Work.Row row place)
         + goals_entries context.now works.old.items) }
     ensures terms { OnOk result ((tables draft.new).terms ≡ (tables draft.old).terms) }
     ensures wide { OnOk result
-        (made_width (stack_goals (tables draft.new) places.new.items)
-        + left_width context.now works.new.items
-        ≤ made_width (stack_goals (tables draft.old) places.old.items)
-        + (next_width context.now (Work.Row row place) + left_width context.now works.old.items)) }
-    ensures narrow { OnOk result (Widens
-        (made_width (stack_goals (tables draft.new) places.new.items))
+        (KeepsWidth context.now (Work.Row row place) works.old.items works.new.items
+        (width_made draft.old places.old.items) (width_made draft.new places.new.items)) }
+    ensures narrow { OnOk result (Widens (width_made draft.new places.new.items)
         (tables draft.old) (tables draft.new)) }
     ensures named { OnOk result (NamesIn context.now draft.old draft.new) }
 {
@@ -275,36 +252,27 @@ fn build_clause(
     works: &mut Vec<Work>,
 ) -> Result<(), Memory>
     requires room { HasRoomFor (next_entries context.now (Work.Clause clause)) (tables draft.old) }
-    requires below { are_below (length (tables draft.old).goals) places.old.items ≡ true }
+    requires below { AreMade draft.old places.old.items }
     ensures made { OnOk result ((ns : Names) →
-        made_after context.now ns (reverse works.new.items)
-        (stack_goals (tables draft.new) places.new.items)
-        ≡ made_after context.now ns (Work.Clause clause ∷ reverse works.old.items)
-        (stack_goals (tables draft.old) places.old.items)) }
+        made_later context.now ns (reverse works.new.items) draft.new places.new.items
+        ≡ made_later context.now ns (Work.Clause clause ∷ reverse works.old.items)
+        draft.old places.old.items) }
     ensures falls { OnOk result
-        (works_size (data_of context.now) works.new.items
-        < work_size (data_of context.now) (Work.Clause clause) + works_size
-        (data_of context.now) works.old.items) }
-    ensures below { OnOk result
-        (are_below (length (tables draft.new).goals) places.new.items ≡ true) }
+        (Falls context.now (Work.Clause clause) works.old.items works.new.items) }
+    ensures below { OnOk result (AreMade draft.new places.new.items) }
     ensures grows { OnOk result (Grows (tables draft.old) (tables draft.new)) }
     ensures room { OnOk result
-        (entries (tables draft.new) + goals_entries context.now works.new.items
-        ≤ entries (tables draft.old)
-        + (next_entries context.now (Work.Clause clause)
-        + goals_entries context.now works.old.items)) }
+        (KeepsEntries context.now (Work.Clause clause) works.old.items works.new.items
+        (entries (tables draft.old)) (entries (tables draft.new))) }
     ensures few { OnOk result
         (goals_entries context.now works.new.items
         ≤ next_entries context.now (Work.Clause clause)
         + goals_entries context.now works.old.items) }
     ensures terms { OnOk result ((tables draft.new).terms ≡ (tables draft.old).terms) }
     ensures wide { OnOk result
-        (made_width (stack_goals (tables draft.new) places.new.items)
-        + left_width context.now works.new.items
-        ≤ made_width (stack_goals (tables draft.old) places.old.items)
-        + (next_width context.now (Work.Clause clause) + left_width context.now works.old.items)) }
-    ensures narrow { OnOk result (Widens
-        (made_width (stack_goals (tables draft.new) places.new.items))
+        (KeepsWidth context.now (Work.Clause clause) works.old.items works.new.items
+        (width_made draft.old places.old.items) (width_made draft.new places.new.items)) }
+    ensures narrow { OnOk result (Widens (width_made draft.new places.new.items)
         (tables draft.old) (tables draft.new)) }
     ensures named { OnOk result (NamesIn context.now draft.old draft.new) }
 {
@@ -327,34 +295,23 @@ fn build_next(
 ) -> Result<(), Memory>
     requires room { HasRoomFor (next_entries context.now work) (tables draft.old) }
     requires few { length scope.old.items + next_entries context.now work < 2 ^ 24 }
-    requires below { are_below (length (tables draft.old).goals) places.old.items ≡ true }
-    ensures made { OnOk result (
-        made_after context.now scope.new.items (reverse works.new.items)
-        (stack_goals (tables draft.new) places.new.items)
-        ≡ made_after context.now scope.old.items (work ∷ reverse works.old.items)
-        (stack_goals (tables draft.old) places.old.items)) }
+    requires below { AreMade draft.old places.old.items }
+    ensures made { OnOk result
+        (made_later context.now scope.new.items (reverse works.new.items) draft.new places.new.items
+        ≡ made_later context.now scope.old.items (work ∷ reverse works.old.items)
+        draft.old places.old.items) }
     ensures falls { OnOk result
-        (works_size (data_of context.now) works.new.items
-        < work_size (data_of context.now) work + works_size (data_of context.now) works.old.items) }
-    ensures below { OnOk result
-        (are_below (length (tables draft.new).goals) places.new.items ≡ true) }
+        (Falls context.now work works.old.items works.new.items) }
+    ensures below { OnOk result (AreMade draft.new places.new.items) }
     ensures grows { OnOk result (Grows (tables draft.old) (tables draft.new)) }
-    ensures room { OnOk result
-        (entries (tables draft.new) + goals_entries context.now works.new.items
-        ≤ entries (tables draft.old)
-        + (next_entries context.now work + goals_entries context.now works.old.items)) }
-    ensures few { OnOk result
-        (length scope.new.items + goals_entries context.now works.new.items
-        ≤ length scope.old.items
-        + (next_entries context.now work + goals_entries context.now works.old.items)) }
+    ensures room { OnOk result (KeepsEntries context.now work works.old.items works.new.items
+        (entries (tables draft.old)) (entries (tables draft.new))) }
+    ensures few { OnOk result (KeepsEntries context.now work works.old.items works.new.items
+        (length scope.old.items) (length scope.new.items)) }
     ensures low { OnOk result (KeepsLowIn context.now draft.old draft.new) }
-    ensures wide { OnOk result
-        (made_width (stack_goals (tables draft.new) places.new.items)
-        + left_width context.now works.new.items
-        ≤ made_width (stack_goals (tables draft.old) places.old.items)
-        + (next_width context.now work + left_width context.now works.old.items)) }
-    ensures narrow { OnOk result (Widens
-        (made_width (stack_goals (tables draft.new) places.new.items))
+    ensures wide { OnOk result (KeepsWidth context.now work works.old.items works.new.items
+        (width_made draft.old places.old.items) (width_made draft.new places.new.items)) }
+    ensures narrow { OnOk result (Widens (width_made draft.new places.new.items)
         (tables draft.old) (tables draft.new)) }
     ensures named { OnOk result (NamesIn context.now draft.old draft.new) }
 {

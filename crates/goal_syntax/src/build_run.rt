@@ -1,31 +1,25 @@
 //! Building the goals of runs.
 
-ghost use Rattle.goal_syntax.specs.Building.InContext.{list_goal, goal_behind, run_goal};
-ghost use Rattle.goal_syntax.specs.Building.InContext.{fresh_goal};
-ghost use Rattle.std.specs.Prelude.{true, ◌≤◌, ◌≡◌, ◌&&◌, ◌<◌, ◌+◌, ◌^◌, ◌∷◌, [], List, length};
-ghost use Rattle.std.specs.Prelude.{IfOk};
-ghost use Rattle.std.specs.Prelude.{OnOk};
-ghost use Rattle.kan_model.specs.Programs.Goals as model;
-ghost use Rattle.kan_grammar.specs.Texts.GoalForms.{goal_forms};
-ghost use Rattle.kan_grammar.specs.Texts.Resolved.{suspended_in, within};
-ghost use Rattle.kan_model.specs.Programs.Drafts.{tables, templates};
-ghost use Rattle.goal_forms.specs.Contexts.{data_of, binder_at};
-ghost use Rattle.goal_syntax.specs.Building.CallsThere.{KeepsClosed, are_there, calls_named};
+ghost use Rattle.std.specs.Prelude.{true, ◌≤◌, ◌≡◌, ◌<◌, ◌+◌, ◌^◌, ◌∷◌, [], List, length};
+ghost use Rattle.std.specs.Prelude.{IfOk, OnOk};
 ghost use Rattle.std.specs.List.{list_all};
-ghost use Rattle.kan_model.specs.Programs.Scope.{is_low};
-ghost use Rattle.kan_model.specs.Programs.Tables.{RelationEntry};
-ghost use Rattle.goal_syntax.specs.Building.GrownTables.{HasGoal, Grows};
-ghost use Rattle.goal_syntax.specs.Building.Entries.{Adds, HasRoomFor};
-ghost use Rattle.goal_syntax.specs.Building.InContext.{list_entries};
-ghost use Rattle.goal_syntax.specs.Building.FormsBuilt.{asked_equation};
-ghost use Rattle.goal_syntax.specs.Building.Widths.{Widens};
-ghost use Rattle.goal_syntax.specs.Building.InContext.{list_width};
-ghost use Rattle.kan_model.specs.Programs.Scope.{width};
-ghost use Rattle.kan_model.specs.Programs.Tables.{goal_at};
-ghost use Rattle.kan_model.specs.Programs.Drafts.{goals as model_goals};
-ghost use Rattle.goal_syntax.specs.Building.Named.{Lacks};
 ghost use Rattle.kan_terms.specs.Table.{Table};
-ghost use Rattle.goal_syntax.specs.Building.InContext.{NamesIn};
+ghost use Rattle.kan_model.specs.Programs.Drafts.{tables, templates, goals as model_goals};
+ghost use Rattle.kan_model.specs.Programs.Goals as model;
+ghost use Rattle.kan_model.specs.Programs.Scope.{is_low, width};
+ghost use Rattle.kan_model.specs.Programs.Tables.{RelationEntry, goal_at};
+ghost use Rattle.kan_grammar.specs.Texts.Resolved.{suspended_in, within};
+ghost use Rattle.goal_syntax.specs.Building.CallsThere.{are_there, calls_named};
+ghost use Rattle.goal_syntax.specs.Building.Entries.{Adds, HasRoomFor};
+ghost use Rattle.goal_syntax.specs.Building.FormsBuilt.{asked_equation};
+ghost use Rattle.goal_syntax.specs.Building.GoalAdded.{AddsGoal};
+ghost use Rattle.goal_syntax.specs.Building.GrownTables.{HasGoal, Grows};
+ghost use Rattle.goal_syntax.specs.Building.InContext.{list_goal, goal_behind, run_goal};
+ghost use Rattle.goal_syntax.specs.Building.InContext.{fresh_goal, list_entries, fresh_entries};
+ghost use Rattle.goal_syntax.specs.Building.InContext.{run_entries, list_width, run_width};
+ghost use Rattle.goal_syntax.specs.Building.InContext.{KeepsClosedIn, NamesIn};
+ghost use Rattle.goal_syntax.specs.Building.Named.{Lacks};
+ghost use Rattle.goal_syntax.specs.Building.Widths.{Widens};
 
 use crate::build_goal::build_goals;
 use crate::build_term::build_slots;
@@ -43,18 +37,9 @@ pub(crate) fn build_one(
     draft: &mut Draft,
 ) -> Result<u32, Memory>
     requires room { HasRoomFor (1 + list_entries context.now goals) (tables draft.old) }
-    ensures made { IfOk result
-        (λ at. HasGoal (tables draft.new) at
-        (list_goal context.now (within [] (symbol ∷ [])) goals)) }
-    ensures grows { OnOk result (Grows (tables draft.old) (tables draft.new)) }
-    ensures room { OnOk result
-        (Adds (1 + list_entries context.now goals) (tables draft.old) (tables draft.new)) }
-    ensures closed { OnOk result
-        (KeepsClosed (data_of context.now) (tables draft.old) (tables draft.new)
-        (λ rows. calls_named rows (list_goal context.now (within [] (symbol ∷ [])) goals))) }
-    ensures narrow { OnOk result
-        (Widens (list_width context.now goals) (tables draft.old) (tables draft.new)) }
-    ensures named { OnOk result (NamesIn context.now draft.old draft.new) }
+    ensures { IfOk result (AddsGoal context.now
+        (list_goal context.now (within [] (symbol ∷ [])) goals)
+        (1 + list_entries context.now goals) (list_width context.now goals) draft.old draft.new) }
 {
     let mut scope = Vec::new(context.alloc);
     scope.push(Some(symbol))?;
@@ -101,8 +86,7 @@ fn build_behind(
     ensures grows { OnOk result (Grows (tables draft.old) (tables draft.new)) }
     ensures room { OnOk result
         (Adds (1 + list_entries context.now goals) (tables draft.old) (tables draft.new)) }
-    ensures closed { OnOk result
-        (KeepsClosed (data_of context.now) (tables draft.old) (tables draft.new)
+    ensures closed { OnOk result (KeepsClosedIn context.now draft.old draft.new
         (λ rows. calls_named rows (list_goal context.now scope.items goals))) }
     ensures narrow { OnOk result (Widens
         (width (goal_at (model_goals draft.old) first) + list_width context.now goals)
@@ -119,24 +103,10 @@ fn build_behind(
 
 // Builds the fresh goal of a run over a list of names, whose variable is the list of these.
 fn build_fresh(context: &Context, binder: u32, goals: u32, draft: &mut Draft) -> Result<u32, Memory>
-    requires room { HasRoomFor
-        (5 + length (binder_at context.now binder).value
-        + length (binder_at context.now binder).value + list_entries context.now goals)
-        (tables draft.old) }
-    ensures made { IfOk result
-        (λ at. HasGoal (tables draft.new) at (fresh_goal context.now binder goals)) }
-    ensures grows { OnOk result (Grows (tables draft.old) (tables draft.new)) }
-    ensures room { OnOk result
-        (Adds (5 + length (binder_at context.now binder).value
-        + length (binder_at context.now binder).value + list_entries context.now goals)
-        (tables draft.old) (tables draft.new)) }
-    ensures closed { OnOk result
-        (KeepsClosed (data_of context.now) (tables draft.old) (tables draft.new)
-        (λ rows. calls_named rows (fresh_goal context.now binder goals))) }
-    ensures narrow { OnOk result (Widens
-        (length (binder_at context.now binder).value + list_width context.now goals)
-        (tables draft.old) (tables draft.new)) }
-    ensures named { OnOk result (NamesIn context.now draft.old draft.new) }
+    requires room { HasRoomFor (fresh_entries context.now binder goals) (tables draft.old) }
+    ensures { IfOk result (AddsGoal context.now (fresh_goal context.now binder goals)
+        (fresh_entries context.now binder goals) (run_width context.now binder goals)
+        draft.old draft.new) }
 {
     let bound = binder_names(context.alloc, context.flat, binder)?;
     let count = bound.len() as u32;
@@ -179,24 +149,10 @@ pub(crate) fn build_list(
     goals: u32,
     draft: &mut Draft,
 ) -> Result<u32, Memory>
-    requires room { HasRoomFor
-        (6 + length (binder_at context.now binder).value
-        + length (binder_at context.now binder).value + list_entries context.now goals)
-        (tables draft.old) }
-    ensures made { IfOk result
-        (λ at. HasGoal (tables draft.new) at (run_goal context.now binder goals)) }
-    ensures grows { OnOk result (Grows (tables draft.old) (tables draft.new)) }
-    ensures room { OnOk result
-        (Adds (6 + length (binder_at context.now binder).value
-        + length (binder_at context.now binder).value + list_entries context.now goals)
-        (tables draft.old) (tables draft.new)) }
-    ensures closed { OnOk result
-        (KeepsClosed (data_of context.now) (tables draft.old) (tables draft.new)
-        (λ rows. calls_named rows (run_goal context.now binder goals))) }
-    ensures narrow { OnOk result (Widens
-        (length (binder_at context.now binder).value + list_width context.now goals)
-        (tables draft.old) (tables draft.new)) }
-    ensures named { OnOk result (NamesIn context.now draft.old draft.new) }
+    requires room { HasRoomFor (run_entries context.now binder goals) (tables draft.old) }
+    ensures { IfOk result (AddsGoal context.now (run_goal context.now binder goals)
+        (run_entries context.now binder goals) (run_width context.now binder goals)
+        draft.old draft.new) }
 {
     let fresh = build_fresh(context, binder, goals, draft)?;
     let goal = suspend_at(context.dialect, fresh, draft)?;

@@ -4,13 +4,11 @@ ghost use Rattle.goal_syntax.specs.Building.InContext.{form_relations, form_name
 ghost use Rattle.goal_syntax.specs.Building.InContext.{forms_queries, forms_names};
 ghost use Rattle.goal_syntax.specs.Building.FormsBuilt.{relation_names, entry_names, AddsNames};
 ghost use Rattle.goal_syntax.specs.Building.FormsBuilt.{AddsRelations, AddsForms};
-ghost use Rattle.std.specs.Prelude.{[], ◌≡◌, ◌&&◌, ◌+◌, ◌*◌, ◌<◌, ◌≤◌, ◌^◌, ◌++◌, length, map};
+ghost use Rattle.std.specs.Prelude.{[], ◌≡◌, ◌+◌, ◌*◌, ◌<◌, ◌≤◌, ◌^◌, ◌++◌, length, map};
 ghost use Rattle.std.specs.Prelude.{true, IfOk};
 ghost use Rattle.std.specs.Prelude.{OnOk};
-ghost use Rattle.std.specs.List.{list_all};
 ghost use Rattle.kan_grammar.specs.Texts.TextNames.{with_prefixes};
 ghost use Rattle.kan_model.specs.Programs.Drafts.{tables};
-ghost use Rattle.kan_model.specs.Programs.Goals as model;
 ghost use Rattle.kan_model.specs.Programs.Nodes.{goal_place};
 ghost use Rattle.kan_grammar.specs.Texts.ProgramText.{text_meaning};
 ghost use Rattle.kan_model.specs.Programs.Closed as programs;
@@ -22,7 +20,7 @@ ghost use Rattle.kan_grammar.specs.Texts.TopForms.{definitions};
 ghost use Rattle.goal_forms.specs.Contexts.{data_of, data_at, datum_at, defined_in};
 ghost use Rattle.goal_forms.specs.Heights.{AreLow};
 ghost use Rattle.kan_grammar.specs.Texts.TextFaults.{faults_of, IsAccepted};
-ghost use Rattle.goal_syntax.specs.Building.CallsThere.{KeepsClosed, all_named, bodies_named};
+ghost use Rattle.goal_syntax.specs.Building.CallsThere.{all_named, bodies_named};
 ghost use Rattle.goal_syntax.specs.Compiling.CompiledForms.{CompilesForms, IsMeant};
 ghost use Rattle.goal_syntax.specs.Compiling.Compiles.{AreOfText, Compiles, IsAcceptedAlone};
 ghost use Rattle.goal_syntax.specs.Compiling.Compiles.{TableAfter};
@@ -37,7 +35,7 @@ ghost use Rattle.goal_forms.specs.Flattening.{AreNumbered, meaning};
 ghost use Rattle.goal_syntax.specs.Building.Widths.{Widens, form_width, forms_width, widest_in};
 ghost use Rattle.goal_syntax.specs.Building.InContext.{widest_form};
 ghost use Rattle.goal_syntax.specs.Building.Named.{data_unnamed};
-ghost use Rattle.goal_syntax.specs.Building.InContext.{NamesIn};
+ghost use Rattle.goal_syntax.specs.Building.InContext.{KeepsClosedIn, NamesIn};
 ghost use Rattle.goal_forms.specs.Unnamed.{AreNamed};
 
 use crate::build_form::{build_form, build_relation};
@@ -75,8 +73,7 @@ fn build_library_form(context: &Context, place: u32, draft: &mut Draft) -> Resul
     ensures room { OnOk result
         (Adds (form_size (form context.now.names.now (datum_at context.now place)))
         (tables draft.old) (tables draft.new)) }
-    ensures closed { OnOk result
-        (KeepsClosed (data_of context.now) (tables draft.old) (tables draft.new)
+    ensures closed { OnOk result (KeepsClosedIn context.now draft.old draft.new
         (bodies_named (form_relations context.now place))) }
     ensures narrow { OnOk result (Widens
         (form_width (form context.now.names.now (datum_at context.now place)))
@@ -98,8 +95,7 @@ fn build_library(context: &Context, forms: &[u32], draft: &mut Draft) -> Result<
         (AddsNames (tables draft.old) (tables draft.new) (forms_names context.now forms.now)) }
     ensures room { OnOk result
         (Adds (forms_entries context.now forms.now) (tables draft.old) (tables draft.new)) }
-    ensures closed { OnOk result
-        (KeepsClosed (data_of context.now) (tables draft.old) (tables draft.new)
+    ensures closed { OnOk result (KeepsClosedIn context.now draft.old draft.new
         (bodies_named (forms_relations context.now forms.now))) }
     ensures narrow { OnOk result
         (Widens (widest_form context.now forms.now) (tables draft.old) (tables draft.new)) }
@@ -127,8 +123,7 @@ fn build_text(
         (AddsNames (tables draft.old) (tables draft.new) (forms_names context.now forms.now)) }
     ensures room { OnOk result
         (Adds (forms_entries context.now forms.now) (tables draft.old) (tables draft.new)) }
-    ensures closed { OnOk result
-        (KeepsClosed (data_of context.now) (tables draft.old) (tables draft.new)
+    ensures closed { OnOk result (KeepsClosedIn context.now draft.old draft.new
         (all_named (forms_relations context.now forms.now) (forms_queries context.now forms.now))) }
     ensures narrow { OnOk result
         (Widens (widest_form context.now forms.now) (tables draft.old) (tables draft.new)) }

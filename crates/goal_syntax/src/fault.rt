@@ -1,6 +1,6 @@
 //! Faults of texts.
 
-ghost use Rattle.std.specs.Prelude.{◌≡◌, [], ◌∷◌, OnOk};
+ghost use Rattle.std.specs.Prelude.{[], ◌∷◌, OnOk};
 ghost use Rattle.kan_grammar.specs.Data.Faults.{fault};
 ghost use Rattle.kan_refusals.specs.Refusals.{number_of};
 ghost use Rattle.goal_syntax.specs.Judging.FaultLists.{AddsFaults};

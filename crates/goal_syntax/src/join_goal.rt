@@ -4,15 +4,15 @@ ghost use Rattle.std.specs.Prelude.{◌≡◌, length, true, OnOk};
 ghost use Rattle.kan_model.specs.Programs.Drafts.{tables};
 ghost use Rattle.kan_model.specs.Programs.Nodes.{goal_entry};
 ghost use Rattle.kan_model.specs.Programs.Tables.{is_goal_grown};
-ghost use Rattle.goal_syntax.specs.Building.GoalsBuilt.{stack_goals, with_entry};
+ghost use Rattle.goal_syntax.specs.Building.GoalsBuilt.{with_entry};
 ghost use Rattle.goal_syntax.specs.Building.GrownTables.{Grows};
 ghost use Rattle.goal_syntax.specs.Building.Entries.{Adds, HasRoomFor};
 ghost use Rattle.goal_syntax.specs.Building.GoalsLeft.{empty_entry, with_last_fresh, join_entry};
 ghost use Rattle.goal_syntax.specs.Building.GoalsLeft.{with_last_joined};
 ghost use Rattle.goal_syntax.specs.Building.GoalsLeft.{with_last_suspended};
 ghost use Rattle.goal_syntax.specs.Building.StackSteps.{ChangesGoals};
-ghost use Rattle.goal_forms.specs.Places.{are_below};
-ghost use Rattle.goal_syntax.specs.Building.Widths.{Widens, made_width};
+ghost use Rattle.goal_syntax.specs.Building.WorkDone.{AreMade, goals_made, width_made};
+ghost use Rattle.goal_syntax.specs.Building.Widths.{Widens};
 ghost use Rattle.goal_syntax.specs.Building.Named.{Lacks, goal_unnamed};
 ghost use Rattle.kan_terms.specs.Table.{Table};
 
@@ -61,18 +61,16 @@ pub(crate) fn make(node: GoalNode, draft: &mut Draft, places: &mut Vec<u32>) -> 
     requires there { is_goal_grown (tables draft.old) (length (tables draft.old).goals)
         (goal_entry node) ≡ true }
     requires room { HasRoomFor 1 (tables draft.old) }
-    requires below { are_below (length (tables draft.old).goals) places.old.items ≡ true }
+    requires below { AreMade draft.old places.old.items }
     ensures made { OnOk result
-        (stack_goals (tables draft.new) places.new.items
+        (goals_made draft.new places.new.items
         ≡ with_entry (tables draft.old) (goal_entry node)
-        (stack_goals (tables draft.old) places.old.items)) }
-    ensures below { OnOk result
-        (are_below (length (tables draft.new).goals) places.new.items ≡ true) }
+        (goals_made draft.old places.old.items)) }
+    ensures below { OnOk result (AreMade draft.new places.new.items) }
     ensures grows { OnOk result (Grows (tables draft.old) (tables draft.new)) }
     ensures room { OnOk result (Adds 1 (tables draft.old) (tables draft.new)) }
     ensures terms { OnOk result ((tables draft.new).terms ≡ (tables draft.old).terms) }
-    ensures narrow { OnOk result (Widens
-        (made_width (stack_goals (tables draft.new) places.new.items))
+    ensures narrow { OnOk result (Widens (width_made draft.new places.new.items)
         (tables draft.old) (tables draft.new)) }
     ensures named { OnOk result ((names : Table) →
         Lacks names (goal_unnamed names (goal_entry node)) (tables draft.old) (tables draft.new)) }
@@ -85,7 +83,7 @@ pub(crate) fn make(node: GoalNode, draft: &mut Draft, places: &mut Vec<u32>) -> 
 /// Joins the two goals that were made last as those of a row.
 pub(crate) fn join_two(row: Row, draft: &mut Draft, places: &mut Vec<u32>) -> Result<(), Memory>
     requires room { HasRoomFor 1 (tables draft.old) }
-    requires below { are_below (length (tables draft.old).goals) places.old.items ≡ true }
+    requires below { AreMade draft.old places.old.items }
     ensures { OnOk result (ChangesGoals (with_last_joined row)
         (tables draft.old) (tables draft.new) places.old.items places.new.items) }
 {
@@ -102,7 +100,7 @@ pub(crate) fn join_two(row: Row, draft: &mut Draft, places: &mut Vec<u32>) -> Re
 /// Gives the goal that was made last so many slots of its own.
 pub(crate) fn add_slots(count: u32, draft: &mut Draft, places: &mut Vec<u32>) -> Result<(), Memory>
     requires room { HasRoomFor 1 (tables draft.old) }
-    requires below { are_below (length (tables draft.old).goals) places.old.items ≡ true }
+    requires below { AreMade draft.old places.old.items }
     ensures { OnOk result (ChangesGoals (with_last_fresh count)
         (tables draft.old) (tables draft.new) places.old.items places.new.items) }
 {
@@ -116,7 +114,7 @@ pub(crate) fn add_slots(count: u32, draft: &mut Draft, places: &mut Vec<u32>) ->
 // Lets the goal that was made last suspend.
 fn add_later(draft: &mut Draft, places: &mut Vec<u32>) -> Result<(), Memory>
     requires room { HasRoomFor 1 (tables draft.old) }
-    requires below { are_below (length (tables draft.old).goals) places.old.items ≡ true }
+    requires below { AreMade draft.old places.old.items }
     ensures { OnOk result (ChangesGoals (with_last_suspended Dialect.All)
         (tables draft.old) (tables draft.new) places.old.items places.new.items) }
 {
@@ -134,7 +132,7 @@ pub(crate) fn suspend(
     places: &mut Vec<u32>,
 ) -> Result<(), Memory>
     requires room { HasRoomFor 1 (tables draft.old) }
-    requires below { are_below (length (tables draft.old).goals) places.old.items ≡ true }
+    requires below { AreMade draft.old places.old.items }
     ensures { OnOk result (ChangesGoals (with_last_suspended dialect)
         (tables draft.old) (tables draft.new) places.old.items places.new.items) }
 {

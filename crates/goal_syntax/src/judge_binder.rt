@@ -1,6 +1,6 @@
 //! The faults of binders and tags.
 
-ghost use Rattle.std.specs.Prelude.{◌≡◌, ◌++◌, [], OnOk};
+ghost use Rattle.std.specs.Prelude.{[], OnOk};
 ghost use Rattle.kan_grammar.specs.Texts.Binders.{binder_faults, names_faults, binder, tag};
 ghost use Rattle.goal_forms.specs.Parts.{sites, site_at};
 ghost use Rattle.goal_syntax.specs.Judging.FaultLists.{AddsFaults};

@@ -1,8 +1,7 @@
 //! The faults of top forms.
 
-ghost use Rattle.std.specs.Prelude.{◌≡◌, ◌++◌, ◌∷◌, [], take, None, IfOk, OnOk};
+ghost use Rattle.std.specs.Prelude.{◌≡◌, take, None, IfOk, OnOk};
 ghost use Rattle.kan_grammar.specs.Texts.TopForms.{head_name as name_of_head, name_faults};
-ghost use Rattle.kan_grammar.specs.Texts.GoalForms.{goal_forms};
 ghost use Rattle.kan_grammar.specs.Texts.Resolved.{arity, within};
 ghost use Rattle.kan_grammar.specs.Texts.TextFaults.{is_new, again_faults, goals_faults};
 ghost use Rattle.kan_grammar.specs.Texts.TextFaults.{form_faults};

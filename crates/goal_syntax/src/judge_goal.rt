@@ -4,7 +4,7 @@ ghost use Rattle.std.specs.Prelude.{◌≡◌, ◌+◌, ◌<◌, ◌++◌, ◌�
 ghost use Rattle.std.specs.Prelude.{OnOk};
 ghost use Rattle.std.specs.List.{flat_map};
 ghost use Rattle.kan_terms.specs.Table.{Table};
-ghost use Rattle.kan_grammar.specs.Texts.GoalForms.{goal_forms, term_forms};
+ghost use Rattle.kan_grammar.specs.Texts.GoalForms.{term_forms};
 ghost use Rattle.kan_grammar.specs.Texts.TextFaults.{term_faults, call_faults, goals_faults};
 ghost use Rattle.kan_grammar.specs.Texts.Resolved.{arity, within};
 ghost use Rattle.goal_forms.specs.Contexts.{data_of, datum_at, defined_in, term_at, terms_at};

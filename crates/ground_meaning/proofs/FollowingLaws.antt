@@ -1,24 +1,21 @@
 -- What following a step does to the claims on a stack.
-use Rattle.std.proofs.Common.{◌≡◌, ℕ, zero, suc, ◌+◌, Bool, true, false, List, [], ◌∷◌, ◌++◌, length, map, take, drop, Option, Some, None, slice_get, refl, sym, ap, ap₂, subst, ◌∙◌, leb-true}
-use Rattle.std.specs.Prelude.{Result, Ok, Err, IfOk, option_map}
+use Rattle.std.proofs.Common.{◌≡◌, ℕ, zero, suc, ◌+◌, Bool, true, List, [], ◌∷◌, ◌++◌, length, map, take, drop, Option, Some, slice_get, refl, sym, ap, ap₂, subst, ◌∙◌, leb-true}
+use Rattle.std.specs.Prelude.{Result, IfOk, option_map}
 use Rattle.std.proofs.lemmas.Bool.{and_parts, eq-eqb}
 use Rattle.std.proofs.lemmas.Option.{slice_get-map}
 use Rattle.kan_terms.specs.Tree.{Gd}
 use Rattle.kan_model.specs.Meaning.Derivations.{values}
-use Rattle.kan_model.specs.Meaning.Derivations as model
 use Rattle.kan_model.specs.Programs.Closed as programs
-use Rattle.kan_model.specs.Programs.Nodes.{goal_entry}
 use Rattle.kan_model.specs.Programs.Tables.{RelationEntry, GoalEntry, goal_at, goals_of, is_goal_grown, goals_grown}
 use Rattle.kan_model.specs.declared.nodes.GoalNode.{GoalNode}
 use Rattle.kan_model.specs.declared.nodes.GoalNode.TheVariants as nodes
 use Rattle.kan_model.specs.declared.program.Program.{Program}
-use Rattle.ground_meaning.specs.Accepting.{Claim, claim, when, body_claim, claims_after, in_front}
-use Rattle.ground_meaning.specs.Following.{step_of, claims_in, Leaves, Follows, ArgumentsPlaced, FollowsClaim}
-use Rattle.ground_meaning.specs.Holding.{node_holds}
+use Rattle.ground_meaning.specs.Accepting.{claim, when, body_claim, in_front}
+use Rattle.ground_meaning.specs.Following.{claims_in, Follows, ArgumentsPlaced}
 use Rattle.ground_meaning.specs.Values.{value_of}
 use Rattle.ground_meaning.specs.declared.following.Waiting.{Waiting}
 use Rattle.ground_meaning.specs.declared.steps.Step.{Step}
-use Rattle.ground_meaning.specs.declared.steps.Step.TheVariants.{Holds, Both, Left, Right, Choose, Enter}
+use Rattle.ground_meaning.specs.declared.steps.Step.TheVariants.{Both, Left, Right, Choose, Enter}
 
 abbrev pub waiting_for : ℕ → List Gd → Waiting
 waiting_for g us = record { goal = g; values = us }
@@ -76,49 +73,6 @@ module _ (p : Program) where
       ap (λ o. in_front (body_claim (values us (map (programs.template p) (take k (drop at (programs.tables p).arguments)))) o) (claims_in p old)) (relation-there r (Some e) there)
       ∙ ap Some (ap₂ (λ b vs. claim (programs.goal p b) vs ∷ claims_in p old) (sym is) (ap (λ l. values us (map (programs.template p) l)) (sym args) ∙ values-are us xs ∙ sym made)
       ∙ grown old new (waiting_for body all) pushed)
-
-  pub call_refused : (us : List Gd) (r at k : ℕ) (old : List Waiting) → None ≡ slice_get (programs.tables p).relations r → Follows p (nodes.Call r at k) us Enter old false old
-  call_refused us r at k old there =
-      ap (λ o. in_front (body_claim (values us (map (programs.template p) (take k (drop at (programs.tables p).arguments)))) o) (claims_in p old)) (relation-there r None there)
-
-  -- what a goal that holds by itself leaves
-  held_leaves : (b : Bool) (cs : List Claim) → Leaves (in_front (when b []) cs) b cs
-  held_leaves true cs = refl
-  held_leaves false cs = refl
-
-  held_after : (node : GoalNode) (us : List Gd) →
-      claims_after (programs.meaning p) (programs.entry_goal p (goal_entry node)) us model.Step.holds ≡ when (node_holds (programs.templates p) us (goal_entry node)) []
-  held_after nodes.Succeed us = refl
-  held_after nodes.Fail us = refl
-  held_after (nodes.Same a b) us = refl
-  held_after (nodes.Differ a b) us = refl
-  held_after (nodes.Symbol a) us = refl
-  held_after (nodes.Number a) us = refl
-  held_after (nodes.Text a) us = refl
-  held_after (nodes.Absent tag a) us = refl
-  held_after (nodes.Both g h) us = refl
-  held_after (nodes.Either g h) us = refl
-  held_after (nodes.Fresh k g) us = refl
-  held_after (nodes.Later g) us = refl
-  held_after (nodes.Call r at k) us = refl
-
-  held_follows : (node : GoalNode) (us : List Gd) (old : List Waiting) (b : Bool) → b ≡ node_holds (programs.templates p) us (goal_entry node) → Follows p node us Holds old b old
-  held_follows node us old b is =
-      subst (λ o. Leaves (in_front o (claims_in p old)) b (claims_in p old)) (ap (λ c. when c []) is ∙ sym (held_after node us)) (held_leaves b (claims_in p old))
-
-  -- a step with a claim, by the claim's node
-  pub claim_follows : {E : Type 0} (r : Result Bool E) (w : Waiting) (node : GoalNode) (step this : Step) (old new : List Waiting) →
-      programs.goal p w.goal ≡ programs.entry_goal p (goal_entry node) → step ≡ this → IfOk r (λ followed. Follows p node w.values this old followed new) →
-      IfOk r (λ followed. FollowsClaim p w step old followed new)
-  claim_follows r w node step this old new is kind h =
-      subst (λ s. IfOk r (λ followed. FollowsClaim p w s old followed new)) (sym kind)
-      (subst (λ g. IfOk r (λ followed. Leaves (in_front (claims_after (programs.meaning p) g w.values (step_of this)) (claims_in p old)) followed (claims_in p new))) (sym is) h)
-
-  pub claim_holds : {E : Type 0} (r : Result Bool E) (w : Waiting) (node : GoalNode) (step : Step) (old : List Waiting) →
-      programs.goal p w.goal ≡ programs.entry_goal p (goal_entry node) → step ≡ Holds → IfOk r (λ held. held ≡ node_holds (programs.templates p) w.values (goal_entry node)) →
-      IfOk r (λ followed. FollowsClaim p w step old followed old)
-  claim_holds (Ok b) w node step old is kind h = claim_follows {E = ℕ} (Ok b) w node step Holds old old is kind (held_follows node w.values old b h)
-  claim_holds (Err e) w node step old is kind h = h
 
   -- the arguments of a goal of the table are there
   entry-placed : (n : ℕ) (e : GoalEntry) → is_goal_grown (programs.tables p) n e ≡ true → ArgumentsPlaced p e

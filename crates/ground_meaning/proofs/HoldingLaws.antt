@@ -2,33 +2,15 @@
 use Rattle.std.proofs.Common.{◌≡◌, ◌↔◌, ℕ, Bool, true, false, ◌||◌, List, refl, sym, ap, ap₂, ◌∙◌}
 use Rattle.std.specs.Prelude.{IsTrue}
 use Rattle.std.specs.List.{list_any}
-use Rattle.std.proofs.lemmas.Bool.{eq-eqb, eqb-true, both_ways, false_from_ne_true}
+use Rattle.std.proofs.lemmas.Bool.{both_ways, false_from_ne_true}
 use Rattle.std.proofs.lemmas.List.Folds.{list_any-append}
-use Rattle.std.proofs.lemmas.Bool.Decides.{Decides-int_eq}
 use Rattle.kan_terms.specs.Tree.{Tree, Gd, has_symbol, ground_eq}
 use Rattle.kan_terms.specs.Spelling.{spelling}
 use Rattle.kan_terms.specs.declared.marks.Mark.{Mark}
-use Rattle.kan_terms.specs.declared.marks.Mark.TheVariants.{Pair, Sym, Str, Num, Truth, Nil}
+use Rattle.kan_terms.specs.declared.marks.Mark.TheVariants.{Sym}
 use Rattle.kan_terms.proofs.SpellingLaws.{spelling-same}
-use Rattle.kan_terms.proofs.TreeLaws.{Decides-bool_eq, Decides-ground_eq}
-use Rattle.ground_meaning.specs.Values.{mark_eq, is_tag}
-
-pub mark_eq-true : (x y : Mark) → mark_eq x y ≡ true → x ≡ y
-mark_eq-true Pair Pair e = refl
-mark_eq-true (Sym v) (Sym w) e = ap Sym (sym (eqb-true w v e))
-mark_eq-true (Str v) (Str w) e = ap Str (sym (eqb-true w v e))
-mark_eq-true (Num v) (Num w) e = ap Num (sym ((Decides-int_eq w v).0 e))
-mark_eq-true (Truth v) (Truth w) e = ap Truth (sym ((Decides-bool_eq w v).0 e))
-mark_eq-true Nil Nil e = refl
-mark_eq-true _ _ e = cc
-
-pub mark_eq-same : (x : Mark) → mark_eq x x ≡ true
-mark_eq-same Pair = refl
-mark_eq-same (Sym v) = eq-eqb v v refl
-mark_eq-same (Str v) = eq-eqb v v refl
-mark_eq-same (Num v) = (Decides-int_eq v v).1 refl
-mark_eq-same (Truth v) = (Decides-bool_eq v v).1 refl
-mark_eq-same Nil = refl
+use Rattle.kan_terms.proofs.TreeLaws.{Decides-ground_eq}
+use Rattle.ground_meaning.specs.Values.{is_tag}
 
 -- terms are the same where their marks are
 pub same_spelled : (same : Bool) (xs ys : List Mark) (a b : Gd) → xs ≡ spelling a → ys ≡ spelling b → IsTrue same ↔ (xs ≡ ys) → same ≡ ground_eq a b

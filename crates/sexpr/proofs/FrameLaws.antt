@@ -13,7 +13,6 @@ use Rattle.kan_terms.specs.Table.{Table}
 use Rattle.sexpr.specs.Frames.{after_point, inside, place, enclosing_of, depth_inside, HasDepth, Takes}
 use Rattle.sexpr.specs.declared.data.Datum.{Datum}
 use Rattle.sexpr.specs.declared.data.Prefix.{Prefix}
-use Rattle.sexpr.specs.declared.data.DatumKind.TheVariants as kinds
 use Rattle.sexpr.specs.declared.frame.ListFrame.{ListFrame}
 use Rattle.sexpr.specs.declared.frame.Frame.{Frame}
 use Rattle.sexpr.specs.declared.frame.Frame.TheVariants as frames

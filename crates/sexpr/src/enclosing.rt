@@ -7,7 +7,7 @@ ghost use Rattle.kan_grammar.specs.Data.Words.{Atom, Token, opening, closing, pr
 ghost use Rattle.kan_grammar.specs.Data.Words.{out_of_range, reserved};
 ghost use Rattle.kan_grammar.specs.Data.Written.{is_allowed_atom, single};
 ghost use Rattle.kan_grammar.specs.Data.Enclosing.{top, in_list, awaiting, put};
-ghost use Rattle.kan_grammar.specs.Data.Faults.{refusal, begins, is_shape, fault, answer_at_end};
+ghost use Rattle.kan_grammar.specs.Data.Faults.{begins, is_shape, fault, answer_at_end};
 ghost use Rattle.sexpr.specs.Meaning.{shape_of, prefix_of};
 ghost use Rattle.sexpr.specs.WrittenForms.{list_of, written_form, as_kept};
 ghost use Rattle.kan_terms.specs.Table.{Table};

@@ -1,6 +1,6 @@
 //! Reading a text into its data.
 
-ghost use Rattle.std.specs.Prelude.{List, IsTrue, ◌≡◌, ◌^◌, ◌<◌, ◌≤◌, false, length, IfErr, OnOk};
+ghost use Rattle.std.specs.Prelude.{IsTrue, ◌≡◌, ◌<◌, ◌≤◌, false, length, IfErr, OnOk};
 ghost use Rattle.kan_terms.specs.Table.{Table, is_string_text};
 ghost use Rattle.kan_grammar.specs.Data.Words as words;
 ghost use Rattle.kan_grammar.specs.Data.Words.{Token, symbol, string};

@@ -1,8 +1,6 @@
 -- Forms are made of at most as many entries as their data have parts, and three more for each.
 use Rattle.std.proofs.Common.{◌≡◌, ℕ, suc, ◌+◌, ◌*◌, ◌≤◌, ◌<◌, List, [], ◌∷◌, ◌++◌, length, map, take, get_or, zero, refl, ◌∙◌, ap, arith, length-append, Option}
 use Rattle.std.specs.Prelude.{Bool, true, false, if◌then◌else◌}
-use Rattle.std.proofs.Math.Seq.{take-suc}
-use Rattle.std.proofs.lemmas.List.{map-append}
 use Rattle.kan_terms.specs.Tree.{Tree, size}
 use Rattle.kan_terms.specs.Table.{Table}
 use Rattle.kan_grammar.specs.Texts.Sited.{Sited, site, constant, is_proper, count, first}
@@ -16,6 +14,7 @@ use Rattle.goal_forms.specs.TermSteps.{site_size}
 use Rattle.goal_forms.specs.Sizes.{parts_in}
 use Rattle.goal_forms.proofs.SizeLaws.{some_parts}
 use Rattle.goal_syntax.specs.Building.Entries.{arguments_size, goal_size, goals_size, others_size, form_size, forms_size}
+use Rattle.goal_syntax.proofs.Building.PlaceLaws.{sites_next}
 
 -- a constant has as many parts as its datum
 constant_size : (d : Sited) → size (constant {V = Use} d) ≡ site_size d
@@ -294,10 +293,7 @@ forms_behind t (d ∷ ds) es = omega (arith, forms_behind t ds es)
 pub forms_next : (t : Table) (ds : List Sited) (forms : List ℕ) (i : ℕ) → i < length forms →
     forms_size t (map (site_at ds) (take (i + 1) forms)) ≡ forms_size t (map (site_at ds) (take i forms)) + form_size (form t (site_at ds (get_or forms i 0)))
 forms_next t ds forms i here =
-    let step : i + 1 ≡ suc i = omega arith in
-    ap (λ n. forms_size t (map (site_at ds) (take n forms))) step
-    ∙ ap (λ l. forms_size t (map (site_at ds) l)) (take-suc forms i 0 here)
-    ∙ ap (forms_size t) (map-append (site_at ds) (take i forms) (get_or forms i 0 ∷ []))
+    ap (forms_size t) (sites_next ds forms i here)
     ∙ forms_behind t (map (site_at ds) (take i forms)) (site_at ds (get_or forms i 0) ∷ [])
     ∙ omega arith
 

@@ -1,8 +1,6 @@
 -- Goals of texts are narrow: they have more than twice as many parts as they are wide.
 use Rattle.std.proofs.Common.{◌≡◌, ℕ, suc, ◌+◌, ◌*◌, ◌≤◌, ◌<◌, ◌^◌, max, zero, List, [], ◌∷◌, ◌++◌, length, map, take, get_or, refl, ◌∙◌, ap, arith, Option}
 use Rattle.std.specs.Prelude.{Bool, true, false, if◌then◌else◌}
-use Rattle.std.proofs.Math.Seq.{take-suc}
-use Rattle.std.proofs.lemmas.List.{map-append}
 use Rattle.kan_terms.specs.Table.{Table}
 use Rattle.kan_grammar.specs.Texts.Sited.{Sited, site, is_proper, count}
 use Rattle.kan_grammar.specs.Texts.Language.{Word, word, head_word}
@@ -15,6 +13,7 @@ use Rattle.goal_forms.specs.Sizes.{parts_in}
 use Rattle.goal_forms.proofs.SizeLaws.{some_parts}
 use Rattle.goal_syntax.specs.Building.Widths.{goal_width, goals_width, form_width, forms_width}
 use Rattle.goal_syntax.proofs.Building.FormEntryLaws.{binder_small, goal_form_of_word}
+use Rattle.goal_syntax.proofs.Building.PlaceLaws.{sites_next}
 
 -- so many terms have more than twice as many parts
 terms_narrow : (t : Table) (d : Sited) → length (term_forms t d) + length (term_forms t d) < site_size d
@@ -142,10 +141,7 @@ widest_behind t (d ∷ ds) es = omega (arith, widest_behind t ds es)
 pub widest_next : (t : Table) (ds : List Sited) (forms : List ℕ) (i : ℕ) → i < length forms →
     forms_width t (map (site_at ds) (take (i + 1) forms)) ≡ max (forms_width t (map (site_at ds) (take i forms))) (form_width (form t (site_at ds (get_or forms i 0))))
 widest_next t ds forms i here =
-    let step : i + 1 ≡ suc i = omega arith in
-    ap (λ n. forms_width t (map (site_at ds) (take n forms))) step
-    ∙ ap (λ l. forms_width t (map (site_at ds) l)) (take-suc forms i 0 here)
-    ∙ ap (forms_width t) (map-append (site_at ds) (take i forms) (get_or forms i 0 ∷ []))
+    ap (forms_width t) (sites_next ds forms i here)
     ∙ widest_behind t (map (site_at ds) (take i forms)) (site_at ds (get_or forms i 0) ∷ [])
     ∙ omega arith
 

@@ -19,8 +19,6 @@ use Rattle.kan_model.specs.Programs.Scope.{is_low, takes, calls_there, in_scope,
 use Rattle.kan_model.specs.Programs.Tables.{RelationEntry, Tables, goal_at, goals_of, templates_of, program_of, is_grown, are_closed}
 use Rattle.kan_grammar.specs.Texts.TextFaults.{faults_of, least, IsAccepted}
 use Rattle.kan_grammar.specs.Texts.TopForms.{Defined, form, definitions, definitions_of}
-use Rattle.kan_model.specs.Programs.Closed as programs
-use Rattle.kan_model.specs.declared.program.CloseRefused.TheVariants as closing
 use Rattle.kan_model.specs.declared.nodes.Query.{Query}
 use Rattle.kan_model.proofs.Programs.ScopeLaws.{all-calls}
 use Rattle.goal_syntax.specs.Building.FormsBuilt.{Means, query_made, relation_made}

@@ -1,10 +1,8 @@
 -- The relations and the runs of top forms, as they are built one after the other, and the widths of goals.
-use Rattle.std.proofs.Common.{◌≡◌, ℕ, suc, ◌+◌, ◌<◌, List, [], ◌∷◌, ◌++◌, length, map, take, get_or, refl, sym, ◌∙◌, ap, arith, append_assoc, append-nil}
+use Rattle.std.proofs.Common.{◌≡◌, ℕ, ◌+◌, ◌<◌, List, [], ◌∷◌, ◌++◌, length, map, take, get_or, refl, sym, ◌∙◌, ap, append_assoc, append-nil}
 use Rattle.std.specs.Prelude.{true}
 use Rattle.std.specs.List.{flat_map}
-use Rattle.std.proofs.Math.Seq.{take-suc}
 use Rattle.std.proofs.lemmas.Grind.{flat_map-append}
-use Rattle.std.proofs.lemmas.List.{map-append}
 use Rattle.kan_terms.specs.Table.{Table}
 use Rattle.kan_grammar.specs.declared.dialect.Dialect.{Dialect}
 use Rattle.kan_grammar.specs.Texts.Sited.{Sited}
@@ -21,6 +19,7 @@ use Rattle.goal_syntax.specs.Building.FormsBuilt.{AddsNames, Means, entry_names,
 use Rattle.goal_syntax.specs.Compiling.CompiledForms.{IsMeant}
 use Rattle.goal_syntax.specs.Building.GrownTables.{HasRoom}
 use Rattle.goal_forms.specs.Parts.{site_at}
+use Rattle.goal_syntax.proofs.Building.PlaceLaws.{sites_next}
 
 abbrev pub empty_tables : Tables
 empty_tables = record { terms = []; arguments = []; goals = []; relations = [] }
@@ -33,10 +32,7 @@ nothing_means = record { relations = refl; queries = refl; bodies_there = refl; 
 pub flat_next : {X : Type 0} (f : Sited → List X) (ds : List Sited) (forms : List ℕ) (i : ℕ) → i < length forms →
     flat_map f (map (site_at ds) (take (i + 1) forms)) ≡ flat_map f (map (site_at ds) (take i forms)) ++ f (site_at ds (get_or forms i 0))
 flat_next f ds forms i here =
-    let step : i + 1 ≡ suc i = omega arith in
-    ap (λ n. flat_map f (map (site_at ds) (take n forms))) step
-    ∙ ap (λ l. flat_map f (map (site_at ds) l)) (take-suc forms i 0 here)
-    ∙ ap (flat_map f) (map-append (site_at ds) (take i forms) (get_or forms i 0 ∷ []))
+    ap (flat_map f) (sites_next ds forms i here)
     ∙ flat_map-append f (map (site_at ds) (take i forms)) (site_at ds (get_or forms i 0) ∷ [])
     ∙ ap (λ l. flat_map f (map (site_at ds) (take i forms)) ++ l) (append-nil (f (site_at ds (get_or forms i 0))))
 

@@ -1,9 +1,10 @@
 -- What the forms in a context are built to.
-use Rattle.std.specs.Prelude.{ℕ, List, ◌∷◌, Option, map}
+use Rattle.std.specs.Prelude.{ℕ, Bool, List, ◌∷◌, ◌+◌, Option, length, map}
 use Rattle.kan_terms.specs.Tree.{size}
 use Rattle.kan_model.specs.Programs.Goals as model
 use Rattle.kan_model.specs.Programs.Goals.{Goal, Template}
 use Rattle.kan_model.specs.Programs.Drafts.{tables}
+use Rattle.kan_model.specs.Programs.Tables.{RelationEntry}
 use Rattle.kan_model.specs.declared.draft.Draft.{Draft}
 use Rattle.kan_grammar.specs.Texts.Resolved.{Names, conjunction, goals_in, template_in}
 use Rattle.kan_grammar.specs.Texts.ProgramText.{relations_in, queries_in, relations_of, queries_of}
@@ -15,6 +16,7 @@ use Rattle.goal_forms.specs.declared.context.Context.{Context}
 use Rattle.goal_forms.specs.declared.form.Form as parsed
 use Rattle.goal_forms.specs.declared.goal.Goal as opened
 use Rattle.goal_forms.specs.declared.term.Task.{Task}
+use Rattle.goal_syntax.specs.Building.CallsThere.{KeepsClosed}
 use Rattle.goal_syntax.specs.Building.FormsBuilt.{asked_fresh, asked_list, relation_meant, names_in}
 use Rattle.goal_syntax.specs.Building.FormsBuilt.{relation_names}
 use Rattle.goal_syntax.specs.Building.GoalsBuilt.{Built, own_goal}
@@ -112,6 +114,11 @@ forms_names context places = relation_names context.names.now (data_at context p
 abbrev pub KeepsLowIn : Context → Draft → Draft → Type 0
 KeepsLowIn context old new = KeepsLow (data_of context) (tables old) (tables new)
 
+-- and the calls that came to it are there exactly where a test says so
+abbrev pub KeepsClosedIn : Context → Draft → Draft → (List RelationEntry → Bool) → Type 0
+KeepsClosedIn context old new passes =
+    KeepsClosed (data_of context) (tables old) (tables new) passes
+
 -- how many entries are made of a task's term, and of the terms in a list as arguments; of all work
 -- that is left on terms, and on goals; and of the goals in a list, and top forms at places
 abbrev pub task_entries : Context → Task → ℕ
@@ -129,11 +136,22 @@ next_entries context work = work_entries context.names.now (data_of context) wor
 abbrev pub list_entries : Context → ℕ → ℕ
 list_entries context place = goals_size (goals_at context place)
 
+-- and those of a run over a list of names, and of what suspends in it
+abbrev pub fresh_entries : Context → ℕ → ℕ → ℕ
+fresh_entries context binder goals =
+    5 + length (binder_at context binder).value + length (binder_at context binder).value
+    + list_entries context goals
+
+abbrev pub run_entries : Context → ℕ → ℕ → ℕ
+run_entries context binder goals =
+    6 + length (binder_at context binder).value + length (binder_at context binder).value
+    + list_entries context goals
+
 abbrev pub forms_entries : Context → List ℕ → ℕ
 forms_entries context places = forms_size context.names.now (data_at context places)
 
--- how wide the goals of a piece of work are, of all work that is left, and of a list; and the
--- widest of the top forms at places
+-- how wide the goals of a piece of work are, of all work that is left, of a list, and of a run over
+-- a list of names; and the widest of the top forms at places
 abbrev pub next_width : Context → Work → ℕ
 next_width context work = work_width context.names.now (data_of context) work
 
@@ -142,6 +160,10 @@ left_width context works = works_width context.names.now (data_of context) works
 
 abbrev pub list_width : Context → ℕ → ℕ
 list_width context place = goals_width (goals_at context place)
+
+abbrev pub run_width : Context → ℕ → ℕ → ℕ
+run_width context binder goals =
+    length (binder_at context binder).value + list_width context goals
 
 abbrev pub widest_form : Context → List ℕ → ℕ
 widest_form context places = forms_width context.names.now (data_at context places)

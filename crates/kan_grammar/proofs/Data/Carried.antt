@@ -5,7 +5,7 @@ use Rattle.std.specs.Str.{is_utf8}
 use Rattle.kan_grammar.specs.Data.Tokens.{Placed, placed, tokens}
 use Rattle.kan_grammar.specs.Data.Words.{Shape, Token, opening, closing, prefix, dot, atom, bad_string, bad}
 use Rattle.kan_grammar.specs.Data.Written.{Written, Within, close, dotted}
-use Rattle.kan_grammar.specs.Data.Enclosing.{Build, Place, top, in_list, after_dot, after_prefix, Enclosing, awaiting, ended, depth, innermost_shape, put, row, as_written}
+use Rattle.kan_grammar.specs.Data.Enclosing.{Build, Place, top, in_list, after_dot, after_prefix, Enclosing, awaiting, ended, depth, put, row, as_written}
 use Rattle.kan_grammar.specs.Data.Faults.{Fault, refusal, after, Progress, going, stopped, settle, step, run, finish, beginning, read_tokens, read_if, read_text}
 use Rattle.kan_grammar.specs.Data.Builds.{build_datum, build_within, Carries, map_reading}
 
@@ -36,12 +36,6 @@ depth-map f (top ds) = refl
 depth-map f (in_list outer at s ds) = rw (depth-map f outer, map-length f ds)
 depth-map f (after_dot outer at s e ds point) = rw (depth-map f outer, map-length f ds)
 depth-map f (after_prefix outer at p) = rw (depth-map f outer)
-
-shape-map : {C D : Type 0} (f : C → D) (p : Place C) → innermost_shape (map_place f p) ≡ innermost_shape p
-shape-map f (top ds) = refl
-shape-map f (in_list outer at s ds) = refl
-shape-map f (after_dot outer at s e ds point) = refl
-shape-map f (after_prefix outer at p) = shape-map f outer
 
 -- the questions don't see what is built
 refusal-map : {C D : Type 0} (f : C → D) (o : Enclosing C) (at : ℕ) (t : Token) → refusal (map_enclosing f o) at t ≡ refusal o at t

@@ -27,7 +27,8 @@ few_from at zero (b ∷ bs) =
     one_more at (length bs) (piece b bs) (tokens_from (suc at) (more (piece b bs)) bs)
     (few_from (suc at) (more (piece b bs)) bs)
 
-few_tokens : (bs : List ℕ) → length (tokens bs) ≤ length bs
+-- a text has at most as many tokens as bytes
+pub few_tokens : (bs : List ℕ) → length (tokens bs) ≤ length bs
 unfolding tokens
 few_tokens bs = few_from 0 0 bs
 

@@ -9,23 +9,7 @@ use Rattle.kan_grammar.specs.Data.Enclosing.{Place, top, in_list, after_dot, aft
 use Rattle.kan_grammar.specs.Data.Faults.{Fault, refusal, first_fault, after, is_out_of_range, is_reserved_name}
 use Rattle.kan_grammar.proofs.Data.Complete.{and_left, and_right, and_both}
 
--- the tokens before what follows, and what follows them
-mutual
-  pub spell-append : (d : Written) (rest more : List Placed) → spell d (rest ++ more) ≡ spell d rest ++ more
-  spell-append (single at a) rest more = refl
-  spell-append (list at s inner) rest more = ap (λ (ts : List Placed). placed at (opening s) ∷ ts) (spell_within-append s inner rest more)
-  spell-append (prefixed at p d) rest more = ap (λ (ts : List Placed). placed at (prefix p) ∷ ts) (spell-append d rest more)
-
-  pub spell_within-append : (s : Shape) (inner : Within) (rest more : List Placed) → spell_within s inner (rest ++ more) ≡ spell_within s inner rest ++ more
-  spell_within-append s (close at) rest more = refl
-  spell_within-append s (dotted at d end) rest more = ap (λ (ts : List Placed). placed at dot ∷ ts) (spell-append d (placed end (closing s) ∷ rest) more)
-  spell_within-append s (element d inner) rest more =
-      ap (spell d) (spell_within-append s inner rest more) ∙ spell-append d (spell_within s inner rest) more
-
-pub spell_all-append : (ds : List Written) (rest more : List Placed) → spell_all ds (rest ++ more) ≡ spell_all ds rest ++ more
-spell_all-append [] rest more = refl
-spell_all-append (d ∷ ds) rest more = ap (spell d) (spell_all-append ds rest more) ∙ spell-append d (spell_all ds rest) more
-
+-- data behind others are spelled behind them
 pub spell_all-snoc : (ds : List Written) (d : Written) (rest : List Placed) → spell_all (ds ++ d ∷ []) rest ≡ spell_all ds (spell d rest)
 spell_all-snoc [] d rest = refl
 spell_all-snoc (e ∷ ds) d rest = ap (spell e) (spell_all-snoc ds d rest)

@@ -1,6 +1,5 @@
 -- The line of a refusal is the one that is printed.
-use Rattle.std.proofs.Common.{◌≡◌, ◌<◌, ◌^◌, ℕ, ◌∷◌, [], ◌++◌, Some, codes, sym, ap, ap₂, ◌∙◌, arith}
-use Rattle.std.specs.Prelude.{Option}
+use Rattle.std.proofs.Common.{◌≡◌, ◌<◌, ◌^◌, ℕ, ◌∷◌, [], ◌++◌, codes, ap₂, arith}
 use Rattle.kan_model.proofs.Answering.DecimalLaws.{decimal_as_printed}
 use Rattle.kan_refusals.specs.Refusals.{error_line, number_of, text_of}
 use Rattle.kan_refusals.specs.declared.refusals.Refusal.{Refusal}
@@ -9,7 +8,7 @@ use Rattle.kan_refusals.specs.declared.refusals.Refusal.TheVariants.{BadDot, Too
 use Rattle.kan_refusals.specs.declared.refusals.Refusal.TheVariants.{UnknownForm, BadShape, UnboundName}
 use Rattle.kan_refusals.specs.declared.refusals.Refusal.TheVariants.{UnknownRelation, WrongCount, DefinedTwice}
 use Rattle.kan_refusals.specs.declared.refusals.Refusal.TheVariants.{BadTag, BadString}
-use Rattle.kan_grammar.specs.Texts.Reply.{line_at, line_of}
+use Rattle.kan_grammar.specs.Texts.Reply.{line_at}
 
 few_digits : (r : Refusal) → number_of r < 10 ^ 64
 few_digits NotUtf8 = omega arith
@@ -33,8 +32,3 @@ pub line_printed : (at : ℕ) (r : Refusal) → at < 2 ^ 32 → line_at at r ≡
 line_printed at r small =
     ap₂ (λ n o. (codes "error " ++ n ++ codes " at " ++ o ++ codes ": " ++ text_of r) ++ 10 ∷ [])
     (decimal_as_printed (number_of r) (few_digits r)) (decimal_as_printed at (omega (arith, small)))
-
--- the line of the refusal with a number
-pub line_found : (at : ℕ) (found : Option Refusal) (r : Refusal) → at < 2 ^ 32 → found ≡ Some r →
-    error_line at r ≡ line_of found at
-line_found at found r small is = sym (line_printed at r small) ∙ sym (ap (λ f. line_of f at) is)
