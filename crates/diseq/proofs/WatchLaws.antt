@@ -15,7 +15,7 @@ use Rattle.unify_core.specs.Laws.{added_equations}
 use Rattle.unify_core.proofs.CycleLaws.{grown}
 use Rattle.unify_core.proofs.Grown.{Grown, ends-unbound}
 use Rattle.unify_core.proofs.WalkLaws.{full-walk, walk-twice}
-use Rattle.unify_core.proofs.UnifyingLaws.{full-apart, unifying_makes}
+use Rattle.unify_core.proofs.Relation.UnifyingLaws.{full-apart, unifying_makes}
 use Rattle.unify_core.proofs.AddedLaws.{added_solve}
 use Rattle.diseq.specs.Disequalities.{Disequality, has_same_sides, is_identical}
 use Rattle.diseq.specs.Watching.{is_none, is_apart, is_watchable, watches, is_woken}

@@ -4,8 +4,8 @@ ghost use Rattle.std.specs.Prelude.{◌≡◌, ◌≤◌, ◌^◌, IfOk};
 ghost use Rattle.kan_model.specs.Streams.Bounds.{top};
 ghost use Rattle.kan_model.specs.Programs.Closed as programs;
 ghost use Rattle.stream_core.specs.Tables.{Grows, IsTableOf};
-ghost use Rattle.stream_core.specs.LinkedTables.{linked_table};
-ghost use Rattle.stream_core.specs.PlainTables.{plain_table};
+ghost use Rattle.stream_core.specs.TableKinds.LinkedTables.{linked_table};
+ghost use Rattle.stream_core.specs.TableKinds.PlainTables.{plain_table};
 ghost use Rattle.susp_cells.specs.Tables.{table_of};
 ghost use Rattle.engine_tests.specs.Small.{small_tables};
 

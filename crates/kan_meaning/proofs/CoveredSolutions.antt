@@ -23,7 +23,7 @@ use Rattle.store_laws.proofs.OneForm.{through_answer}
 use Rattle.kan_meaning.specs.Instances.{SolutionsAreCovered}
 use Rattle.kan_meaning.proofs.Chosen.{Each-from_in_order, variables_named, value_at-place, values_pass}
 use Rattle.kan_meaning.proofs.Grounds.{ground_same}
-use Rattle.kan_meaning.proofs.NamedValues.{PairHolds, holding_factors, pair_named, value-named, met_hold}
+use Rattle.kan_meaning.proofs.Instances.NamedValues.{PairHolds, holding_factors, pair_named, value-named, met_hold}
 use Rattle.kan_meaning.proofs.SolutionLaws.{unifies, known, of_type}
 
 -- a form in order is over named variables where it was so

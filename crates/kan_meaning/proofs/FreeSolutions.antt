@@ -15,8 +15,8 @@ use Rattle.kan_model.specs.declared.prims.Kind.{Kind}
 use Rattle.kan_model.specs.declared.prims.Kind.TheVariants.{Symbol, Number, Text}
 use Rattle.kan_model.proofs.ListLaws.{Each}
 use Rattle.kan_meaning.proofs.Grounds.{ground_same, same_ground, is_of, below_occurs}
-use Rattle.kan_meaning.proofs.OwnValues.{first_values, first_at}
-use Rattle.kan_meaning.proofs.SolvedLaws.{EqualSides}
+use Rattle.kan_meaning.proofs.Instances.OwnValues.{first_values, first_at}
+use Rattle.kan_meaning.proofs.Instances.SolvedLaws.{EqualSides}
 
 -- the valuation of the first variables under an answer
 abbrev pub under_answer : Replacement → (ℕ → Gd) → ℕ → List Gd

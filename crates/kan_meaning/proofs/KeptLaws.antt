@@ -9,7 +9,7 @@ use Rattle.kan_model.specs.Stores.Store.{Store, equations}
 use Rattle.kan_model.proofs.Solving.UnifierLaws.{answer_unifies}
 use Rattle.kan_meaning.specs.KeptStores.{HasSolution, KeptHasSolution}
 use Rattle.kan_meaning.proofs.SolutionLaws.{solved_is_kept}
-use Rattle.kan_meaning.proofs.SolvedLaws.{bound_all, solution, solved_under}
+use Rattle.kan_meaning.proofs.Instances.SolvedLaws.{bound_all, solution, solved_under}
 
 kept_is_solved : (st : Store) → is_counted st ≡ true → is_kept st ≡ true → HasSolution st
 kept_is_solved st counted kept = by (solve_store st) refl kept

@@ -3,14 +3,9 @@ pub mod CoveredSolutions
 pub mod FreeSolutions
 pub mod Grounds
 pub mod KeptLaws
-pub mod LeftOutLaws
-pub mod NamedValues
-pub mod OwnForms
-pub mod OwnValues
+pub mod Instances
 pub mod RunAnswers
 pub mod SolutionLaws
-pub mod SolvedInstances
-pub mod SolvedLaws
 pub mod StandingStores
 pub mod TakenLaws
 pub mod Taking

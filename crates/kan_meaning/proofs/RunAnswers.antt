@@ -12,7 +12,7 @@ use Rattle.pull_bounds.specs.Finding.{IsSolvedAt, IsTaken, IsCutBefore}
 use Rattle.pull_bounds.proofs.TakenSolutions.{none_is_missed, end_has_all}
 use Rattle.kan_meaning.specs.Answers.{AnswersAreSolutions, IsCovered, SolutionsAreAnswered, EndCoversAll}
 use Rattle.kan_meaning.proofs.CoveredSolutions.{solutions_are_covered}
-use Rattle.kan_meaning.proofs.SolvedInstances.{instances_are_values}
+use Rattle.kan_meaning.proofs.Instances.SolvedInstances.{instances_are_values}
 use Rattle.kan_meaning.proofs.StandingStores.{Stands, StreamStands, force_stands, start_stands}
 use Rattle.kan_meaning.proofs.TakenLaws.{taken_are_solutions}
 use Rattle.kan_meaning.proofs.Taking.{one_of_each, take_each}

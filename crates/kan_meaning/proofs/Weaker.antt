@@ -8,7 +8,7 @@ use Rattle.kan_model.specs.Answers.Answer.{implies, is_weaker}
 use Rattle.kan_model.specs.Stores.Solve.{Replacement, image, apply}
 use Rattle.kan_model.proofs.ListLaws.{Each}
 use Rattle.kan_model.proofs.Solving.UnifierLaws.{fill-apply}
-use Rattle.kan_meaning.proofs.NamedValues.{PairHolds, holding_factors}
+use Rattle.kan_meaning.proofs.Instances.NamedValues.{PairHolds, holding_factors}
 
 -- a list has an element, equal to a given one or greater, than which none is greater
 module _ {X : Type 0} (greater : X → X → Bool) (itself : (x : X) → greater x x ≡ false)

@@ -16,8 +16,8 @@ use Rattle.unify_core.specs.Unifying.{Meeting, met, Unifying}
 use Rattle.unify_core.proofs.Grown.{Grown, full-newest, ends-unbound}
 use Rattle.unify_core.proofs.WalkLaws.{full-walk, walk-end}
 use Rattle.unify_core.proofs.SolutionLaws.{solution_of}
-use Rattle.unify_core.proofs.MeetingLaws.{met_says}
-use Rattle.unify_core.proofs.UnifyingLaws.{full-apart, one_ends, unifying_makes, binding_grows}
+use Rattle.unify_core.proofs.Relation.MeetingLaws.{met_says}
+use Rattle.unify_core.proofs.Relation.UnifyingLaws.{full-apart, one_ends, unifying_makes, binding_grows}
 
 -- an equation of full values
 abbrev pub full_sides : Pairs → Equation → Equation

@@ -109,7 +109,8 @@ impl<T: Again> VarTree<T> {
 
     /// The value at a key. It takes no memory.
     pub fn get(&self, key: u64) -> Option<&T>
-        ensures { option_map (λ value. T.meaning value.now) result ≡ under_key T.meaning self.now key }
+        ensures { option_map (λ value. T.meaning value.now) result
+            ≡ under_key T.meaning self.now key }
     {
         find_within(&self.front, self.waiting, self.height % 16, key)
     }

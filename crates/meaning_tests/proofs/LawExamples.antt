@@ -12,7 +12,7 @@ use Rattle.kan_model.specs.Stores.Solve.{solve_by, rounds, steps}
 use Rattle.kan_model.specs.Stores.Store.{Store}
 use Rattle.kan_meaning.specs.KeptStores.{HasSolution}
 use Rattle.kan_meaning.proofs.KeptLaws.{kept_has_solution}
-use Rattle.kan_meaning.proofs.SolvedInstances.{instances_are_values}
+use Rattle.kan_meaning.proofs.Instances.SolvedInstances.{instances_are_values}
 
 abbrev table : Table
 table = record { symbols = []; strings = [] }

@@ -4,14 +4,10 @@ pub mod StackLaws
 pub mod ArgumentLaws
 pub mod StreamLaws
 pub mod TableLaws
-pub mod PlainTreeLaws
+pub mod TableKinds
 pub mod CounterLaws
-pub mod ForceLaws
-pub mod WayLaws
-pub mod AroundLaws
-pub mod LinkedLaws
+pub mod Ways
 pub mod ClosedLaws
 pub mod FitLaws
 pub mod TaskLaws
 pub mod SolutionLaws
-pub mod PlainRowLaws

@@ -9,9 +9,5 @@ pub mod InnerSuspensions
 pub mod WaysDown
 pub mod Surroundings
 pub mod CodeSurroundings
-pub mod PlainTrees
-pub mod PlainRows
-pub mod PlainTables
-pub mod LinkedThunks
-pub mod LinkedTables
+pub mod TableKinds
 pub mod SolutionsFound

@@ -17,7 +17,7 @@ pub struct LinkedNodes<'a> {
 }
 
 impl<'a> LinkedNodes<'a> {
-    ghost use Rattle.stream_core.specs.LinkedTables.{program_of};
+    ghost use Rattle.stream_core.specs.TableKinds.LinkedTables.{program_of};
 
     /// The table of a program's suspensions.
     pub fn new(alloc: Global, program: &'a Program) -> LinkedNodes<'a>
@@ -33,11 +33,11 @@ impl<'a, St: Store> Nodes<St> for LinkedNodes<'a> {
     ghost use Rattle.kan_model.specs.Streams.Bounds.{Fits};
     ghost use Rattle.stream_core.specs.Tables.{GrowsBy, KeepsMore, OnlyAdds, StandsFor, IsKept};
     ghost use Rattle.stream_core.specs.Tables.{HasThunk, thunk_in, IsForce};
-    ghost use Rattle.stream_core.specs.LinkedTables.{linked_table, around_in_table};
+    ghost use Rattle.stream_core.specs.TableKinds.LinkedTables.{linked_table, around_in_table};
     ghost use Rattle.kan_model.specs.Programs.Scope.{is_small};
     ghost use Rattle.kan_model.specs.Streams.Stream.{Thunk as Suspension};
     ghost use Rattle.stream_core.specs.CodeSurroundings.{IsForceWithin, StandsClosed};
-    ghost use Rattle.stream_core.specs.LinkedThunks.{linked_around};
+    ghost use Rattle.stream_core.specs.TableKinds.LinkedThunks.{linked_around};
     ghost use Rattle.stream_core.specs.Suspensions.{goal_in};
 
     type Id = LinkedId<St>;

@@ -106,7 +106,8 @@ pub trait Nodes<St: Store> {
         inside: Stream<Self::Id, St>,
     ) -> Result<Closed<Self::Around, Self::Id, St>, Memory>
         requires { is_small (table self.now).program ≡ true }
-        ensures { IfOk result (λ closed. (whole : Suspension) → Fits (table self.now).program whole →
+        ensures { IfOk result (λ closed. (whole : Suspension) →
+            Fits (table self.now).program whole →
             IsForceWithin (table self.now) (around_in self.now) St.meaning whole around inside →
             StandsClosed (table self.now) (around_in self.now) St.meaning whole around closed) };
 

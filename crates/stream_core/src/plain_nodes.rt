@@ -1,8 +1,8 @@
 //! The table of one thread: a list of rows, in which suspensions name earlier ones.
 
 ghost use Rattle.std.specs.Prelude.{◌≡◌, IsTrue, IfOk, map};
-ghost use Rattle.stream_core.specs.PlainTrees.{all_grown};
-ghost use Rattle.stream_core.specs.PlainRows.{thunks};
+ghost use Rattle.stream_core.specs.TableKinds.PlainTrees.{all_grown};
+ghost use Rattle.stream_core.specs.TableKinds.PlainRows.{thunks};
 
 use crate::copies::stores_again;
 use crate::nodes::{Closed, Innermost, Nodes, Parted};
@@ -48,7 +48,7 @@ fn stream_again<St: Store>(
 
 impl<'a, St: Store> PlainNodes<'a, St> {
     ghost use Rattle.std.specs.Prelude.{Some};
-    ghost use Rattle.stream_core.specs.PlainTables.{plain_table, program_of};
+    ghost use Rattle.stream_core.specs.TableKinds.PlainTables.{plain_table, program_of};
 
     /// The empty table for a program.
     pub fn new(alloc: Global, program: &'a Program) -> PlainNodes<'a, St>
@@ -85,7 +85,7 @@ impl<'a, St: Store> Nodes<St> for PlainNodes<'a, St> {
     ghost use Rattle.kan_model.specs.Programs.Scope.{is_small};
     ghost use Rattle.kan_model.specs.Streams.Stream.{Thunk as Suspension};
     ghost use Rattle.stream_core.specs.CodeSurroundings.{IsForceWithin, StandsClosed};
-    ghost use Rattle.stream_core.specs.PlainTables.{plain_table};
+    ghost use Rattle.stream_core.specs.TableKinds.PlainTables.{plain_table};
     ghost use Rattle.stream_core.specs.declared.plain_nodes.PlainId.{PlainId};
 
     type Id = PlainId;

@@ -11,7 +11,7 @@ use Rattle.unify_core.specs.Lent.{waiting_trees, parts_of}
 use Rattle.unify_core.proofs.Grown.{ends-unbound}
 use Rattle.unify_core.proofs.CycleLaws.{grown}
 use Rattle.unify_core.proofs.WalkLaws.{full-walk, walk-end}
-use Rattle.unify_core.proofs.OccursSteps.{waiting-push, stands_in, nodes}
+use Rattle.unify_core.proofs.Steps.OccursSteps.{waiting-push, stands_in, nodes}
 use Rattle.type_absence.specs.Tags.{with_tags, has_any}
 use Rattle.type_absence.specs.Absent.{TagsOf}
 use Rattle.type_absence.specs.Waiting.{names_one, put_on, Tagged}

@@ -6,7 +6,7 @@ use Rattle.unify_core.specs.Walking.{Pairs}
 use Rattle.unify_core.specs.Solutions.{IsSolution, AddedTo}
 use Rattle.unify_core.specs.Laws.{AddedSolve, AddsSolutions, added_equations}
 use Rattle.unify_core.proofs.CycleLaws.{grown, no_cycle}
-use Rattle.unify_core.proofs.UnifyingLaws.{unifying_makes}
+use Rattle.unify_core.proofs.Relation.UnifyingLaws.{unifying_makes}
 
 -- bindings to which pairs were added have the solutions of the older ones that make the sides of the pairs the same
 pub added_solutions : {V : Type 0} (f : ℕ → Tree V) (older : Pairs) (added : List (Tm × Tm)) (new : Pairs) → AddedTo older added new →

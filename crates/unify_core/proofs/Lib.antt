@@ -4,17 +4,8 @@ pub mod CycleLaws
 mod Examples
 pub mod Grown
 pub mod CentralLaw
-pub mod LeftLaws
-pub mod LentLaws
-pub mod LoadLaws
-pub mod MeetingLaws
+pub mod Relation
+pub mod Steps
 pub mod NewLaws
-pub mod OccursSteps
-pub mod OneAnswer
-pub mod OneEquation
 pub mod SolutionLaws
-pub mod UnifyClauses
-pub mod UnifySteps
-pub mod UnifyingLaws
 pub mod WalkLaws
-pub mod WalkSteps

@@ -24,7 +24,7 @@ pub fn bindings_are_a_replacement()
 {}
 
 /// What unification adds, and in which order, is one list.
-#[tactic(auto, using(crate::proofs::OneAnswer::adds_one))]
+#[tactic(auto, using(crate::proofs::Relation::OneAnswer::adds_one))]
 pub fn unification_adds_one_list()
     ensures { AddsOne }
 {}

@@ -1,4 +1,4 @@
-use Rattle.kan_meaning.proofs.LeftOutLaws.{excluded_differ}
+use Rattle.kan_meaning.proofs.Instances.LeftOutLaws.{excluded_differ}
 use Rattle.kan_meaning.proofs.laws.excluded_sides_differ.Goals as goal
 
 pub returns : goal.returns

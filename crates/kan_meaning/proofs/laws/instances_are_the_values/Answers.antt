@@ -1,4 +1,4 @@
-use Rattle.kan_meaning.proofs.SolvedInstances.{instances_are_values}
+use Rattle.kan_meaning.proofs.Instances.SolvedInstances.{instances_are_values}
 use Rattle.kan_meaning.proofs.laws.instances_are_the_values.Goals as goal
 
 pub returns : goal.returns

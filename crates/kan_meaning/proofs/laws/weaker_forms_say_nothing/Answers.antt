@@ -1,4 +1,4 @@
-use Rattle.kan_meaning.proofs.LeftOutLaws.{weaker_say_nothing}
+use Rattle.kan_meaning.proofs.Instances.LeftOutLaws.{weaker_say_nothing}
 use Rattle.kan_meaning.proofs.laws.weaker_forms_say_nothing.Goals as goal
 
 pub returns : goal.returns

@@ -6,7 +6,7 @@ use Rattle.stream_core.specs.Tables.{IsForce}
 use Rattle.stream_core.proofs.ClosedLaws.{program-closed}
 use Rattle.stream_core.proofs.FitLaws.{force-fits, fits-moved}
 use Rattle.stream_core.proofs.TableLaws.{more_grow, grow_twice, table_stays, kept-last, kept-up, kept-none}
-use Rattle.stream_core.proofs.WayLaws.{last-around, way-stays, way-up, force-next, force-up, force-end, next-inside}
+use Rattle.stream_core.proofs.Ways.WayLaws.{last-around, way-stays, way-up, force-next, force-up, force-end, next-inside}
 use Rattle.stream_core.proofs.StackLaws.{none-left}
 use Rattle.stream_core.proofs.forcing.force.Goals as goal
 

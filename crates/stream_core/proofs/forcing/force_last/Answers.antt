@@ -1,7 +1,7 @@
 use Rattle.std.proofs.Common.{◌≡◌, false, sym, subst}
 use Rattle.stream_core.specs.InnerSuspensions.{MayForce, has_inner}
 use Rattle.stream_core.specs.WaysDown.{EndsWay}
-use Rattle.stream_core.proofs.ForceLaws.{made-force, force-same}
+use Rattle.stream_core.proofs.Ways.ForceLaws.{made-force, force-same}
 use Rattle.stream_core.proofs.TableLaws.{adds_more, found-more}
 use Rattle.stream_core.proofs.forcing.force_last.Goals as goal
 

@@ -1,6 +1,6 @@
 use Rattle.std.proofs.Common.{subst}
 use Rattle.stream_core.specs.InnerSuspensions.{IsInside}
-use Rattle.stream_core.proofs.WayLaws.{way-longer, next-longer, leads-longer, way-begins, next-begins, leads-begins}
+use Rattle.stream_core.proofs.Ways.WayLaws.{way-longer, next-longer, leads-longer, way-begins, next-begins, leads-begins}
 use Rattle.stream_core.proofs.forcing.way_down.Goals as goal
 
 pub down-init : goal.down-init

@@ -1,4 +1,4 @@
-use Rattle.stream_core.proofs.LinkedLaws.{entered-bind, entered-swap}
+use Rattle.stream_core.proofs.TableKinds.LinkedLaws.{entered-bind, entered-swap}
 use Rattle.stream_core.proofs.linked_ids.enter.Goals as goal
 
 pub returns-in-Bind : goal.returns-in-Bind

@@ -1,5 +1,5 @@
 use Rattle.std.proofs.Common.{subst}
-use Rattle.stream_core.specs.LinkedThunks.{held, IsEntered}
+use Rattle.stream_core.specs.TableKinds.LinkedThunks.{held, IsEntered}
 use Rattle.stream_core.proofs.linked_ids.enter_node.Goals as goal
 
 pub returns-in-Some : goal.returns-in-Some

@@ -1,5 +1,5 @@
 use Rattle.std.proofs.Common.{sym, subst}
-use Rattle.stream_core.specs.LinkedThunks.{IsLevel, linked_layers}
+use Rattle.stream_core.specs.TableKinds.LinkedThunks.{IsLevel, linked_layers}
 use Rattle.stream_core.proofs.linked_ids.level_of.Goals as goal
 
 pub returns-in-Bind : goal.returns-in-Bind

@@ -1,7 +1,7 @@
 use Rattle.std.proofs.Common.{ap}
 use Rattle.kan_terms.specs.Terms.{tree}
 use Rattle.unify_core.specs.Lent.{with_lent}
-use Rattle.unify_core.proofs.WalkSteps.{end_apart}
+use Rattle.unify_core.proofs.Steps.WalkSteps.{end_apart}
 use Rattle.unify_core.proofs.occurring.is_inside.Goals as goal
 
 pub returns-in-Var : goal.returns-in-Var

@@ -3,7 +3,7 @@ use Rattle.kan_terms.specs.Terms.{tree}
 use Rattle.kan_terms.specs.Tree.{occurs}
 use Rattle.unify_core.specs.Lent.{waiting_trees, with_lent}
 use Rattle.unify_core.specs.Walking.{full}
-use Rattle.unify_core.proofs.OccursSteps.{stands_in, nodes}
+use Rattle.unify_core.proofs.Steps.OccursSteps.{stands_in, nodes}
 use Rattle.unify_core.proofs.occurring.occurs_on.Given as goal
 
 -- the variable stands in the term where it stands in one that waits

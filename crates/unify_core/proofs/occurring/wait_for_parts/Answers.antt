@@ -1,6 +1,6 @@
 use Rattle.std.proofs.Common.{rules}
 use Rattle.kan_terms.specs.Terms.{tree}
-use Rattle.unify_core.proofs.OccursSteps.{parts_wait, some_open}
+use Rattle.unify_core.proofs.Steps.OccursSteps.{parts_wait, some_open}
 use Rattle.unify_core.proofs.occurring.wait_for_parts.Goals as goal
 
 pub returns-in_ok-push-2 : goal.returns-in_ok-push-2

@@ -2,8 +2,8 @@ use Rattle.std.proofs.Common.{map, option_map}
 use Rattle.std.proofs.lemmas.Result.{IfOk-weaker}
 use Rattle.kan_terms.specs.Terms.{sides, tree}
 use Rattle.unify_core.specs.Solutions.{equation}
-use Rattle.unify_core.proofs.OneEquation.{adds_alone}
-use Rattle.unify_core.proofs.WalkSteps.{walked_end}
+use Rattle.unify_core.proofs.Relation.OneEquation.{adds_alone}
+use Rattle.unify_core.proofs.Steps.WalkSteps.{walked_end}
 use Rattle.unify_core.proofs.unifying.added_by.Goals as goal
 
 pub returns : goal.returns

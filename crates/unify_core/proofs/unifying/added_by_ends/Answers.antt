@@ -4,7 +4,7 @@ use Rattle.kan_terms.specs.Terms.{sides, tree}
 use Rattle.unify_core.specs.Lent.{waiting_equations}
 use Rattle.unify_core.specs.Solutions.{equation}
 use Rattle.unify_core.specs.Unifying.{Unifying}
-use Rattle.unify_core.proofs.OneEquation.{same_adds, ends_add}
+use Rattle.unify_core.proofs.Relation.OneEquation.{same_adds, ends_add}
 use Rattle.unify_core.proofs.unifying.added_by_ends.Goals as goal
 
 pub returns-then-is_variable : goal.returns-then-is_variable

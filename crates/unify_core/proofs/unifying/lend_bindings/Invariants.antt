@@ -1,7 +1,7 @@
 use Rattle.unify_core.specs.Cycles.{HasNoCycle}
 use Rattle.unify_core.specs.Lent.{with_lent, waiting_equations, equations_ahead, with_next}
-use Rattle.unify_core.proofs.LoadLaws.{left_over}
-use Rattle.unify_core.proofs.UnifySteps.{Leads}
+use Rattle.unify_core.proofs.Steps.LoadLaws.{left_over}
+use Rattle.unify_core.proofs.Steps.UnifySteps.{Leads}
 use Rattle.unify_core.proofs.unifying.lend_bindings.Given as goal
 
 -- what the next equation and those behind it add stands behind what was lent

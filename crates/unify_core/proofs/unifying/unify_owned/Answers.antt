@@ -1,7 +1,7 @@
 use Rattle.std.proofs.Common.{[], ◌∷◌, map}
 use Rattle.kan_terms.specs.Terms.{sides, tree}
 use Rattle.unify_core.specs.Solutions.{equation}
-use Rattle.unify_core.proofs.UnifyClauses.{puts, puts_no_cycle, puts_solutions, puts_some, puts_none}
+use Rattle.unify_core.proofs.Steps.UnifyClauses.{puts, puts_no_cycle, puts_solutions, puts_some, puts_none}
 use Rattle.unify_core.proofs.unifying.unify_owned.Goals as goal
 
 pub bind_all-requires : goal.bind_all-requires

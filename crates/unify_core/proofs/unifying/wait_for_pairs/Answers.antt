@@ -1,5 +1,5 @@
 use Rattle.std.proofs.Common.{arith, refl}
-use Rattle.unify_core.proofs.UnifySteps.{pair_waits}
+use Rattle.unify_core.proofs.Steps.UnifySteps.{pair_waits}
 use Rattle.unify_core.proofs.unifying.wait_for_pairs.Goals as goal
 
 pub loop-left-preserved : goal.loop-left-preserved

@@ -2,7 +2,7 @@ use Rattle.std.proofs.Common.{IfOk, map, option_map, subst, ◌∙◌, arith}
 use Rattle.std.proofs.lemmas.List.{nil_from_length}
 use Rattle.kan_terms.specs.Terms.{sides}
 use Rattle.unify_core.specs.Unifying.{Unifying}
-use Rattle.unify_core.proofs.UnifySteps.{popped}
+use Rattle.unify_core.proofs.Steps.UnifySteps.{popped}
 use Rattle.unify_core.proofs.unifying.would_add.Goals as goal
 
 pub returns : goal.returns

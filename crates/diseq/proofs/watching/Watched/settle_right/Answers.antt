@@ -1,5 +1,5 @@
 use Rattle.kan_terms.specs.Terms.{tree}
-use Rattle.unify_core.proofs.WalkSteps.{no_leaf}
+use Rattle.unify_core.proofs.Steps.WalkSteps.{no_leaf}
 use Rattle.diseq.specs.Seen.{watchers}
 use Rattle.diseq.proofs.KeptLaws.{settled_term}
 use Rattle.diseq.proofs.watching.Watched.settle_right.Goals as goal

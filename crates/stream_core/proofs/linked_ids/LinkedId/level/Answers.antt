@@ -2,8 +2,8 @@ use Rattle.std.proofs.Common.{ℕ, ap, ◌∙◌, sym, subst}
 use Rattle.std.proofs.lemmas.Result.{IfOk-weaker}
 use Rattle.std.specs.Arc.{arc_value}
 use Rattle.kan_model.specs.Programs.Goals.{Goal}
-use Rattle.stream_core.specs.LinkedThunks.{held, linked_layers, linked_around, IsLevel}
-use Rattle.stream_core.proofs.LinkedLaws.{read-id, read-node, up}
+use Rattle.stream_core.specs.TableKinds.LinkedThunks.{held, linked_layers, linked_around, IsLevel}
+use Rattle.stream_core.proofs.TableKinds.LinkedLaws.{read-id, read-node, up}
 use Rattle.stream_core.proofs.linked_ids.LinkedId.level.Goals as goal
 
 pub returns-in-Inside : goal.returns-in-Inside

@@ -1,6 +1,6 @@
 use Rattle.std.specs.Arc.{arc_value}
-use Rattle.stream_core.specs.LinkedThunks.{held}
-use Rattle.stream_core.proofs.LinkedLaws.{read-id, read-node, down}
+use Rattle.stream_core.specs.TableKinds.LinkedThunks.{held}
+use Rattle.stream_core.proofs.TableKinds.LinkedLaws.{read-id, read-node, down}
 use Rattle.stream_core.proofs.linked_ids.LinkedId.step.Goals as goal
 
 pub returns-in-Inner : goal.returns-in-Inner

@@ -1,10 +1,10 @@
 use Rattle.std.proofs.Common.{suc, length, arith, ap, subst, ◌≡◌}
 use Rattle.kan_model.specs.Programs.Closed as programs
-use Rattle.stream_core.specs.LinkedTables.{program_of, around_in_table}
-use Rattle.stream_core.specs.LinkedThunks.{IsLevel}
+use Rattle.stream_core.specs.TableKinds.LinkedTables.{program_of, around_in_table}
+use Rattle.stream_core.specs.TableKinds.LinkedThunks.{IsLevel}
 use Rattle.stream_core.specs.Suspensions.{goal_in}
 use Rattle.stream_core.proofs.ClosedLaws.{program-closed}
-use Rattle.stream_core.proofs.LinkedLaws.{up-within, up-ends}
+use Rattle.stream_core.proofs.TableKinds.LinkedLaws.{up-within, up-ends}
 use Rattle.stream_core.proofs.linked_nodes.LinkedNodesNodes.close.Goals as goal
 
 pub loop-level-init : goal.loop-level-init

@@ -2,7 +2,7 @@ use Rattle.std.proofs.Common.{◌≤◌, length}
 use Rattle.kan_model.specs.Streams.Bounds.{Fits}
 use Rattle.kan_model.specs.Streams.Stream.{Thunk}
 use Rattle.stream_core.specs.CodeSurroundings.{IsForceWithin}
-use Rattle.stream_core.specs.LinkedTables.{linked_table, around_in_table}
+use Rattle.stream_core.specs.TableKinds.LinkedTables.{linked_table, around_in_table}
 use Rattle.stream_core.proofs.linked_nodes.LinkedNodesNodes.close.Given as goal
 
 -- the stream is the force of what stands inside what is left around it, and no more is left

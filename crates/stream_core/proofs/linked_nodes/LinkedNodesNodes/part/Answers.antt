@@ -1,7 +1,7 @@
 use Rattle.kan_model.specs.Programs.Closed as programs
-use Rattle.stream_core.specs.LinkedTables.{program_of, linked_table}
+use Rattle.stream_core.specs.TableKinds.LinkedTables.{program_of, linked_table}
 use Rattle.stream_core.specs.Suspensions.{goal_in}
-use Rattle.stream_core.proofs.LinkedLaws.{down-whole, down-fits, down-smaller, down-ends, down-begins}
+use Rattle.stream_core.proofs.TableKinds.LinkedLaws.{down-whole, down-fits, down-smaller, down-ends, down-begins}
 use Rattle.stream_core.proofs.linked_nodes.LinkedNodesNodes.part.Goals as goal
 
 pub loop-longer-init : goal.loop-longer-init

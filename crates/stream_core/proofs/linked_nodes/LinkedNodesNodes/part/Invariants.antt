@@ -1,6 +1,6 @@
 use Rattle.std.proofs.Common.{◌≡◌}
 use Rattle.stream_core.specs.InnerSuspensions.{depth}
-use Rattle.stream_core.specs.LinkedTables.{linked_table, around_in_table}
+use Rattle.stream_core.specs.TableKinds.LinkedTables.{linked_table, around_in_table}
 use Rattle.stream_core.specs.Surroundings.{within_all}
 use Rattle.stream_core.proofs.linked_nodes.LinkedNodesNodes.part.Given as goal
 

@@ -2,7 +2,7 @@ use Rattle.std.proofs.Common.{◌≡◌, length, arith, rules, ap, ◌∙◌}
 use Rattle.std.specs.Vec.{vec_len}
 use Rattle.std.specs.Prelude.{is_some}
 use Rattle.kan_model.specs.Programs.Closed as programs
-use Rattle.stream_core.proofs.PlainRowLaws.{placed-within, kept-is-force, told-row}
+use Rattle.stream_core.proofs.TableKinds.PlainRowLaws.{placed-within, kept-is-force, told-row}
 use Rattle.stream_core.proofs.plain_nodes.PlainNodesNodes.found.Goals as goal
 
 pub index-requires : goal.index-requires

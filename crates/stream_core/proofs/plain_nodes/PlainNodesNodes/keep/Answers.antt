@@ -3,7 +3,7 @@ use Rattle.std.specs.Prelude.{Some}
 use Rattle.std.specs.Vec.{vec_len}
 use Rattle.std.proofs.lemmas.List.{length-set}
 use Rattle.kan_model.specs.Programs.Closed as programs
-use Rattle.stream_core.proofs.PlainRowLaws.{placed-within, rows-kept, kept-more, kept-force}
+use Rattle.stream_core.proofs.TableKinds.PlainRowLaws.{placed-within, rows-kept, kept-more, kept-force}
 use Rattle.stream_core.proofs.plain_nodes.PlainNodesNodes.keep.Goals as goal
 
 pub index_mut-requires : goal.index_mut-requires

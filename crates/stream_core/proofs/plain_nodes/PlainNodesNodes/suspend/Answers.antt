@@ -1,6 +1,6 @@
 use Rattle.std.proofs.Common.{◌≡◌, length, refl, rules}
 use Rattle.kan_model.specs.Programs.Closed as programs
-use Rattle.stream_core.proofs.PlainRowLaws.{rows-grown, pushed-adds, pushed-empty, pushed-longer, pushed-belongs}
+use Rattle.stream_core.proofs.TableKinds.PlainRowLaws.{rows-grown, pushed-adds, pushed-empty, pushed-longer, pushed-belongs}
 use Rattle.stream_core.proofs.plain_nodes.PlainNodesNodes.suspend.Goals as goal
 
 pub invariant_of-self : goal.invariant_of-self

@@ -1,7 +1,7 @@
 use Rattle.std.proofs.Common.{◌≡◌, length, arith, rules}
 use Rattle.std.specs.Vec.{vec_len}
 use Rattle.kan_model.specs.Programs.Closed as programs
-use Rattle.stream_core.proofs.PlainRowLaws.{placed-within, inner-row, row-belongs, row-stands}
+use Rattle.stream_core.proofs.TableKinds.PlainRowLaws.{placed-within, inner-row, row-belongs, row-stands}
 use Rattle.stream_core.proofs.plain_nodes.PlainNodesNodes.thunk.Goals as goal
 
 pub index-requires : goal.index-requires

@@ -1,7 +1,7 @@
 use Rattle.kan_terms.specs.Terms.{tree}
 use Rattle.unify_core.specs.Lent.{waiting_trees}
 use Rattle.unify_core.specs.Walking.{full}
-use Rattle.unify_core.proofs.OccursSteps.{nodes}
+use Rattle.unify_core.proofs.Steps.OccursSteps.{nodes}
 use Rattle.type_absence.specs.Seen.{tags}
 use Rattle.type_absence.proofs.TagSteps.{Leads}
 use Rattle.type_absence.proofs.absence.Absences.put_inside.Given as goal

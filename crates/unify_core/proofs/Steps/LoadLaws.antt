@@ -11,8 +11,8 @@ use Rattle.unify_core.specs.Solutions.{equation}
 use Rattle.unify_core.specs.Unifying.{Meeting, met}
 use Rattle.unify_core.proofs.Grown.{Grown, full-newest, ends-unbound}
 use Rattle.unify_core.proofs.WalkLaws.{full-walk}
-use Rattle.unify_core.proofs.MeetingLaws.{met_says}
-use Rattle.unify_core.proofs.UnifyingLaws.{full-apart, one_ends}
+use Rattle.unify_core.proofs.Relation.MeetingLaws.{met_says}
+use Rattle.unify_core.proofs.Relation.UnifyingLaws.{full-apart, one_ends}
 
 -- how many steps an answer took, where identical sides count for their nodes
 abbrev load : {left : ℕ → ℕ → Bool} {es : List Equation} {r : Option Replacement} → Solves left es r → ℕ

@@ -11,15 +11,15 @@ use Rattle.kan_model.specs.Streams.Bounds.{Fits}
 use Rattle.stream_core.specs.Suspensions as standing
 use Rattle.stream_core.specs.Suspensions.{inner_id, Stays, ThunkBelongs, ForceOf}
 use Rattle.stream_core.specs.Tables.{GrowsBy, KeepsMore, OnlyAdds}
-use Rattle.stream_core.specs.PlainTables.{rows_table}
-use Rattle.stream_core.specs.PlainTrees.{no_thunk, trees_after, all_grown, is_placed, grown_tree}
-use Rattle.stream_core.specs.PlainRows.{thunks, is_kept_at, inner_at, row_tree, RowIsSound, IsSound, BelongsTo}
+use Rattle.stream_core.specs.TableKinds.PlainTables.{rows_table}
+use Rattle.stream_core.specs.TableKinds.PlainTrees.{no_thunk, trees_after, all_grown, is_placed, grown_tree}
+use Rattle.stream_core.specs.TableKinds.PlainRows.{thunks, is_kept_at, inner_at, row_tree, RowIsSound, IsSound, BelongsTo}
 use Rattle.stream_core.specs.declared.streams.Thunk.{Thunk}
 use Rattle.stream_core.specs.declared.streams.Thunk.TheVariants.{Call, Pause, Swap, Bind}
 use Rattle.stream_core.specs.declared.streams.Stream.{Stream}
 use Rattle.stream_core.specs.declared.plain_nodes.PlainId.{PlainId}
 use Rattle.stream_core.specs.declared.plain_nodes.Row.{Row}
-use Rattle.stream_core.proofs.PlainTreeLaws.{added, grows-by, grown-more, stands-for}
+use Rattle.stream_core.proofs.TableKinds.PlainTreeLaws.{added, grows-by, grown-more, stands-for}
 use Rattle.stream_core.proofs.TableLaws.{adds_same}
 use Rattle.stream_core.proofs.StreamLaws.{stream-stays, stays-same}
 

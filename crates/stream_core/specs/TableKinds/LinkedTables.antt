@@ -5,7 +5,7 @@ use Rattle.kan_model.specs.Programs.Closed as programs
 use Rattle.kan_model.specs.Stores.Store as facts
 use Rattle.kan_model.specs.Streams.Bounds.{Fits}
 use Rattle.kan_model.specs.declared.program.Program as code
-use Rattle.stream_core.specs.LinkedThunks.{linked_tree, linked_around}
+use Rattle.stream_core.specs.TableKinds.LinkedThunks.{linked_tree, linked_around}
 use Rattle.stream_core.specs.Suspensions.{goal_in}
 use Rattle.stream_core.specs.Surroundings.{Around}
 use Rattle.stream_core.specs.Tables.{Table}

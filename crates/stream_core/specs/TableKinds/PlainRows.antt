@@ -7,7 +7,7 @@ use Rattle.kan_model.specs.Stores.Store as facts
 use Rattle.kan_model.specs.Streams.Stream as model
 use Rattle.kan_model.specs.Streams.Bounds.{Fits}
 use Rattle.stream_core.specs.Suspensions.{inner_id, ThunkBelongs, ForceOf}
-use Rattle.stream_core.specs.PlainTrees.{is_placed, grown_tree}
+use Rattle.stream_core.specs.TableKinds.PlainTrees.{is_placed, grown_tree}
 use Rattle.stream_core.specs.declared.streams.Thunk.{Thunk}
 use Rattle.stream_core.specs.declared.plain_nodes.PlainId.{PlainId}
 use Rattle.stream_core.specs.declared.plain_nodes.Row.{Row}

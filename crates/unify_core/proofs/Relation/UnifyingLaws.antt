@@ -12,7 +12,7 @@ use Rattle.unify_core.specs.Unifying.{Meeting, met, Unifying}
 use Rattle.unify_core.proofs.Grown.{Grown, ends-unbound}
 use Rattle.unify_core.proofs.WalkLaws.{walk-end, walk-twice}
 use Rattle.unify_core.proofs.SolutionLaws.{fill-full, fill-walk}
-use Rattle.unify_core.proofs.MeetingLaws.{met_says}
+use Rattle.unify_core.proofs.Relation.MeetingLaws.{met_says}
 
 -- with bindings and equations the same fillings as with other ones
 abbrev pub SameSolutions : Type 0 → Pairs → Pairs → List Equation → Type 0

@@ -6,7 +6,7 @@ use Rattle.kan_model.specs.Stores.Kept.{is_variable}
 use Rattle.unify_core.specs.Walking.{Pairs, walk}
 use Rattle.unify_core.specs.Solutions.{equation}
 use Rattle.unify_core.specs.Unifying.{Meeting, met, meeting, Unifying, Adds, AddsBinding}
-use Rattle.unify_core.proofs.OneAnswer.{nothing_added}
+use Rattle.unify_core.proofs.Relation.OneAnswer.{nothing_added}
 
 -- what is added by what the sides ask for is what unification adds
 pub adds_alone : (bound : Pairs) (e : Equation) (added : Option (List (Tm × Tm))) → Adds bound (met bound e) added → Unifying bound (e ∷ []) added

@@ -5,7 +5,7 @@ use Rattle.kan_model.specs.Programs.Closed as programs
 use Rattle.kan_model.specs.Stores.Store as facts
 use Rattle.kan_model.specs.declared.program.Program as code
 use Rattle.stream_core.specs.Tables.{Table, Told}
-use Rattle.stream_core.specs.PlainRows.{is_kept_at, inner_at, row_tree, BelongsTo}
+use Rattle.stream_core.specs.TableKinds.PlainRows.{is_kept_at, inner_at, row_tree, BelongsTo}
 use Rattle.stream_core.specs.declared.plain_nodes.PlainId.{PlainId}
 use Rattle.stream_core.specs.declared.plain_nodes.Row.{Row}
 use Rattle.stream_core.specs.declared.plain_nodes.PlainNodes.{PlainNodes}

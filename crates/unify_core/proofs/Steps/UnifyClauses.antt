@@ -9,7 +9,7 @@ use Rattle.unify_core.specs.Solutions.{IsSolution, AddedTo, equation, bindings_s
 use Rattle.unify_core.specs.Unifying.{Unifying}
 use Rattle.unify_core.proofs.CycleLaws.{grown, no_cycle}
 use Rattle.unify_core.proofs.AnswerLaws.{some_solved, none_unsolved}
-use Rattle.unify_core.proofs.UnifyingLaws.{unifying_makes}
+use Rattle.unify_core.proofs.Relation.UnifyingLaws.{unifying_makes}
 
 -- bindings to which these pairs are added are one list
 pub added-one : (older : Pairs) (added : List (Tm × Tm)) (one other : Pairs) → AddedTo older added one → AddedTo older added other → one ≡ other

@@ -8,7 +8,7 @@ use Rattle.kan_model.specs.Stores.Store as facts
 use Rattle.kan_model.specs.Streams.Stream as model
 use Rattle.kan_model.specs.Programs.Environments.{terms_of}
 use Rattle.stream_core.specs.Suspensions as standing
-use Rattle.stream_core.specs.PlainTrees.{no_thunk, tree_at, trees_after, is_below, tail_below, names_below, all_grown, is_placed, grown_tree}
+use Rattle.stream_core.specs.TableKinds.PlainTrees.{no_thunk, tree_at, trees_after, is_below, tail_below, names_below, all_grown, is_placed, grown_tree}
 use Rattle.stream_core.specs.declared.streams.Thunk.{Thunk}
 use Rattle.stream_core.specs.declared.streams.Thunk.TheVariants.{Call, Pause, Swap, Bind}
 use Rattle.stream_core.specs.declared.plain_nodes.PlainId.{PlainId}

@@ -14,8 +14,8 @@ use Rattle.kan_model.specs.declared.prims.Kind.TheVariants.{Symbol, Number, Text
 use Rattle.kan_model.proofs.Answering.NameLaws.{place_below}
 use Rattle.kan_model.proofs.Answering.SolvedForms.{Rises, Rising, Once}
 use Rattle.kan_model.proofs.ListLaws.{Each, Each-like, Each-both}
-use Rattle.kan_meaning.proofs.NamedValues.{PairHolds, pair_named}
-use Rattle.kan_meaning.proofs.OwnValues.{own_of, own, above_atoms}
+use Rattle.kan_meaning.proofs.Instances.NamedValues.{PairHolds, pair_named}
+use Rattle.kan_meaning.proofs.Instances.OwnValues.{own_of, own, above_atoms}
 
 -- where each variable is replaced once, its image is the term that replaces it
 images_are : (g : Replacement) → Once g → Each (λ p. image g p.var ≡ p.by) g

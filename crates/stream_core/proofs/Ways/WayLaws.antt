@@ -9,7 +9,7 @@ use Rattle.stream_core.specs.Tables.{Told, Table, GrowsBy, IsForce}
 use Rattle.stream_core.specs.CodeTasks.{stack}
 use Rattle.stream_core.specs.WaysDown.{next, IsWay, Leads, MayForceAround, IsWayFrom, IsNext}
 use Rattle.stream_core.specs.declared.streams.Stream.{Stream}
-use Rattle.stream_core.proofs.ForceLaws.{inner-may}
+use Rattle.stream_core.proofs.Ways.ForceLaws.{inner-may}
 use Rattle.stream_core.proofs.StackLaws.{stack-pop}
 use Rattle.stream_core.proofs.StreamLaws.{Each-last, Each-front}
 

@@ -15,9 +15,9 @@ use Rattle.unify_core.specs.Cycles.{HasNoCycle}
 use Rattle.unify_core.specs.Lent.{lent_pair, with_lent, lent_sides, equation_of, waiting_equations, with_top, with_next, MeetsTo, StepTo}
 use Rattle.unify_core.specs.Unifying.{Meeting, met, Unifying}
 use Rattle.unify_core.proofs.CycleLaws.{grown, no_cycle}
-use Rattle.unify_core.proofs.LentLaws.{with_lent-push}
-use Rattle.unify_core.proofs.LoadLaws.{left_over, falls_same, falls_parts, falls_binding}
-use Rattle.unify_core.proofs.UnifyingLaws.{binding_grows}
+use Rattle.unify_core.proofs.Steps.LentLaws.{with_lent-push}
+use Rattle.unify_core.proofs.Steps.LoadLaws.{left_over, falls_same, falls_parts, falls_binding}
+use Rattle.unify_core.proofs.Relation.UnifyingLaws.{binding_grows}
 
 -- the top of a stack comes first
 pub equations-push : (old : List Sides) (s : Sides) → waiting_equations (old ++ s ∷ []) ≡ equation_of s ∷ waiting_equations old

@@ -32,11 +32,11 @@ use Rattle.kan_meaning.proofs.CoveredSolutions.{named-in_rank, solutions_are_cov
 use Rattle.kan_meaning.proofs.FreeSolutions.{under_answer, Apart, value_is, each_holds, others_hold, all_hold}
 use Rattle.kan_meaning.proofs.Grounds.{ground_same, is_of, symbol_or_number, symbol_or_string, string_or_number}
 use Rattle.kan_meaning.proofs.KeptLaws.{kept_has_solution}
-use Rattle.kan_meaning.proofs.NamedValues.{PairHolds, Agrees, value-named, hold_met}
-use Rattle.kan_meaning.proofs.OwnForms.{free_values, named-free, own-free, above_values, above_terms, factors_hold, holding_named}
-use Rattle.kan_meaning.proofs.OwnValues.{own_of, own_apart, first-length, first_at}
+use Rattle.kan_meaning.proofs.Instances.NamedValues.{PairHolds, Agrees, value-named, hold_met}
+use Rattle.kan_meaning.proofs.Instances.OwnForms.{free_values, named-free, own-free, above_values, above_terms, factors_hold, holding_named}
+use Rattle.kan_meaning.proofs.Instances.OwnValues.{own_of, own_apart, first-length, first_at}
 use Rattle.kan_meaning.proofs.SolutionLaws.{unifies, of_type, solved_is_kept}
-use Rattle.kan_meaning.proofs.SolvedLaws.{kind_by, bound_all, each_equal}
+use Rattle.kan_meaning.proofs.Instances.SolvedLaws.{kind_by, bound_all, each_equal}
 use Rattle.kan_meaning.proofs.Weaker.{weaker_follow}
 
 -- equal forms are the same

@@ -13,7 +13,7 @@ use Rattle.kan_model.specs.Streams.Running.{force}
 use Rattle.stream_core.specs.CounterBounds.{TailFits}
 use Rattle.stream_core.specs.CodeSurroundings.{StandsInnermost, IsParted, IsForceWithin, StandsClosed}
 use Rattle.stream_core.specs.InnerSuspensions.{depth}
-use Rattle.stream_core.specs.LinkedTables.{suspensions_of}
+use Rattle.stream_core.specs.TableKinds.LinkedTables.{suspensions_of}
 use Rattle.stream_core.specs.Tables.{Table, IsForce, stream_in}
 use Rattle.stream_core.specs.declared.nodes.Innermost.{Innermost}
 use Rattle.stream_core.specs.declared.nodes.Innermost.TheVariants as innermost
@@ -21,13 +21,13 @@ use Rattle.stream_core.specs.declared.nodes.Parted.{Parted}
 use Rattle.stream_core.specs.declared.nodes.Closed.{Closed}
 use Rattle.stream_core.specs.declared.nodes.Closed.TheVariants as ways
 use Rattle.stream_core.specs.declared.linked_ids.Level.TheVariants as levels
-use Rattle.stream_core.proofs.AroundLaws.{within-fits, all-fits, made-force}
+use Rattle.stream_core.proofs.Ways.AroundLaws.{within-fits, all-fits, made-force}
 use Rattle.stream_core.proofs.ClosedLaws.{ProgramIsClosed}
 use Rattle.stream_core.proofs.FitLaws.{force-fits}
 use Rattle.stream_core.specs.Surroundings as outer
 use Rattle.stream_core.specs.Suspensions.{goal_in, inner_id, going_on, listed}
-use Rattle.stream_core.specs.LinkedThunks.{held, suspension_of, nothing_read, Reading, reading, IsInnermost, IsLevel, with_inner, IsDown, IsUp, IsInside, linked_tree, linked_around, linked_stream, linked_thunk, linked_layers}
-use Rattle.stream_core.specs.LinkedThunks.{IsInsideBind, HasEnteredSwap, IsEntered}
+use Rattle.stream_core.specs.TableKinds.LinkedThunks.{held, suspension_of, nothing_read, Reading, reading, IsInnermost, IsLevel, with_inner, IsDown, IsUp, IsInside, linked_tree, linked_around, linked_stream, linked_thunk, linked_layers}
+use Rattle.stream_core.specs.TableKinds.LinkedThunks.{IsInsideBind, HasEnteredSwap, IsEntered}
 use Rattle.stream_core.specs.declared.streams.Stream.{Stream}
 use Rattle.stream_core.specs.declared.streams.Thunk.{Thunk}
 use Rattle.stream_core.specs.declared.streams.Thunk.TheVariants.{Call, Pause, Swap, Bind}

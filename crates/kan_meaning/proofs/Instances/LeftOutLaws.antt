@@ -20,10 +20,10 @@ use Rattle.store_laws.proofs.OneForm.{answer_rises}
 use Rattle.kan_meaning.specs.LeftOut.{NeverEqual, UnnamedCanDiffer, ExcludedDiffer, pair_holds, fails, WeakerSayNothing, EqualSayNothing}
 use Rattle.kan_meaning.proofs.Chosen.{Each-from_filter, Each-from_once}
 use Rattle.kan_meaning.proofs.Grounds.{ground_same, same_ground}
-use Rattle.kan_meaning.proofs.NamedValues.{PairHolds}
-use Rattle.kan_meaning.proofs.OwnForms.{free_values, named-free, above_values, above_terms, factors_hold, holding_named}
+use Rattle.kan_meaning.proofs.Instances.NamedValues.{PairHolds}
+use Rattle.kan_meaning.proofs.Instances.OwnForms.{free_values, named-free, above_values, above_terms, factors_hold, holding_named}
 use Rattle.kan_meaning.proofs.SolutionLaws.{solved_is_kept}
-use Rattle.kan_meaning.proofs.SolvedInstances.{sides, same_form-true, form_once, form_above}
+use Rattle.kan_meaning.proofs.Instances.SolvedInstances.{sides, same_form-true, form_once, form_above}
 use Rattle.kan_meaning.proofs.Weaker.{weaker_follow}
 
 pub never_equal : NeverEqual

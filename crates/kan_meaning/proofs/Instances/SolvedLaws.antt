@@ -16,7 +16,7 @@ use Rattle.kan_model.specs.declared.prims.Kind.{Kind}
 use Rattle.kan_model.specs.declared.prims.Kind.TheVariants.{Symbol, Number, Text}
 use Rattle.kan_model.proofs.ListLaws.{Each}
 use Rattle.kan_meaning.proofs.Grounds.{ground_same, same_ground, below_occurs}
-use Rattle.kan_meaning.proofs.OwnValues.{own_of, own, above_atoms, separated, own_apart, first_values, first-length, first_at}
+use Rattle.kan_meaning.proofs.Instances.OwnValues.{own_of, own, above_atoms, separated, own_apart, first_values, first-length, first_at}
 
 -- a variable of no type gets a symbol
 abbrev pub kind_by : Bool → Bool → Kind

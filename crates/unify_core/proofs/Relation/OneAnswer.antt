@@ -7,8 +7,8 @@ use Rattle.unify_core.specs.Unifying.{Meeting, met, Unifying}
 use Rattle.unify_core.specs.Laws.{AddsOne}
 use Rattle.unify_core.proofs.Grown.{Grown}
 use Rattle.unify_core.proofs.CycleLaws.{grown}
-use Rattle.unify_core.proofs.LoadLaws.{left_over, falls_same, falls_parts, falls_binding}
-use Rattle.unify_core.proofs.UnifyingLaws.{binding_grows}
+use Rattle.unify_core.proofs.Steps.LoadLaws.{left_over, falls_same, falls_parts, falls_binding}
+use Rattle.unify_core.proofs.Relation.UnifyingLaws.{binding_grows}
 
 -- what an answer comes from, by what the sides of the first equation ask for
 abbrev FromBinding : Pairs → List Equation → Option (List (Tm × Tm)) → ℕ → Tm → Bool → Type 0
