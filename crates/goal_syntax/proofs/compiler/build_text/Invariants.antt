@@ -1,27 +1,27 @@
-use Rattle.std.proofs.Common.{◌++◌, List, map, take}
+use Rattle.std.proofs.Common.{take}
 use Rattle.kan_model.specs.Programs.Drafts.{tables}
-use Rattle.kan_model.specs.Programs.Goals as model
-use Rattle.kan_grammar.specs.Texts.ProgramText.{relations_of, queries_of}
-use Rattle.goal_syntax.specs.Building.FormsBuilt.{AddsNames, Means, relation_names}
-use Rattle.goal_syntax.specs.Building.CallsThere.{KeepsClosed, all_named}
-use Rattle.goal_syntax.specs.Building.Widths.{Widens, forms_width}
-use Rattle.goal_syntax.specs.Building.Entries.{Adds, forms_size}
-use Rattle.goal_forms.specs.Parts.{sites, site_at}
-use Rattle.goal_forms.specs.RelationTables.{relations}
-use Rattle.goal_syntax.specs.Building.Named.{Lacks, data_unnamed}
+use Rattle.goal_syntax.specs.Building.CallsThere.{all_named}
+use Rattle.goal_syntax.specs.Building.Entries.{Adds}
+use Rattle.goal_syntax.specs.Building.FormsBuilt.{AddsForms, AddsNames}
+use Rattle.goal_syntax.specs.Building.InContext.{forms_relations, forms_queries, forms_names}
+use Rattle.goal_syntax.specs.Building.InContext.{forms_entries, widest_form, KeepsClosedIn, NamesIn}
+use Rattle.goal_syntax.specs.Building.Widths.{Widens}
 use Rattle.goal_syntax.proofs.compiler.build_text.Given as goal
 
 -- the relations and the runs of the forms so far were added
 abbrev pub invariant-loop-place : goal.invariant-loop-place
 invariant-loop-place l = record {
-  means : (rs : List model.Relation) → (asked : List model.Query) → Means (tables l.fn.draft) l.fn.queries rs asked →
-      Means (tables l.draft) l.queries
-      (rs ++ relations_of l.context.dialect l.context.names.now (relations l.context.relations.now) (map (site_at (sites l.context.flat.now)) (take l.place-index l.forms)))
-      (asked ++ queries_of l.context.dialect l.context.names.now (relations l.context.relations.now) (map (site_at (sites l.context.flat.now)) (take l.place-index l.forms)));
-  names : AddsNames (tables l.fn.draft) (tables l.draft) (relation_names l.context.names.now (map (site_at (sites l.context.flat.now)) (take l.place-index l.forms)));
-  named : Lacks l.context.names.now (data_unnamed l.context.names.now (sites l.context.flat.now)) (tables l.fn.draft) (tables l.draft);
-  room : Adds (forms_size l.context.names.now (map (site_at (sites l.context.flat.now)) (take l.place-index l.forms))) (tables l.fn.draft) (tables l.draft);
-  narrow : Widens (forms_width l.context.names.now (map (site_at (sites l.context.flat.now)) (take l.place-index l.forms))) (tables l.fn.draft) (tables l.draft);
-  closed : KeepsClosed (sites l.context.flat.now) (tables l.fn.draft) (tables l.draft) (all_named (relations_of l.context.dialect l.context.names.now (relations l.context.relations.now) (map (site_at (sites l.context.flat.now)) (take l.place-index l.forms)))
-      (queries_of l.context.dialect l.context.names.now (relations l.context.relations.now) (map (site_at (sites l.context.flat.now)) (take l.place-index l.forms))));
+  means : AddsForms (tables l.fn.draft) (tables l.draft) l.fn.queries l.queries
+      (forms_relations l.context (take l.place-index l.forms))
+      (forms_queries l.context (take l.place-index l.forms));
+  names : AddsNames (tables l.fn.draft) (tables l.draft)
+      (forms_names l.context (take l.place-index l.forms));
+  named : NamesIn l.context l.fn.draft l.draft;
+  room : Adds (forms_entries l.context (take l.place-index l.forms))
+      (tables l.fn.draft) (tables l.draft);
+  narrow : Widens (widest_form l.context (take l.place-index l.forms))
+      (tables l.fn.draft) (tables l.draft);
+  closed : KeepsClosedIn l.context l.fn.draft l.draft
+      (all_named (forms_relations l.context (take l.place-index l.forms))
+      (forms_queries l.context (take l.place-index l.forms)));
 }
