@@ -1,11 +1,10 @@
 //! Whether parts are those of an answer in form: shapes and pairs.
 
-ghost use Rattle.std.specs.Prelude.{◌≡◌, ◌≤◌, ◌<◌, ◌^◌, ◌-◌, nat_lt, not, length};
+ghost use Rattle.std.specs.Prelude.{◌≡◌, ◌<◌, ◌^◌, ◌-◌, nat_lt};
 ghost use Rattle.std.specs.List.{list_all, list_any};
-ghost use Rattle.kan_model.specs.Answers.InForm.{apart, ascends, is_filled, names_in_form};
+ghost use Rattle.kan_model.specs.Answers.InForm.{apart, ascends, names_in_form};
 ghost use Rattle.kan_model.specs.Answers.Order.{stands_in};
 ghost use Rattle.reify.specs.Shapes.{all_whole, spells};
-ghost use Rattle.answer_reading.specs.Finding.{reach, rises};
 ghost use Rattle.answer_reading.specs.Forming.{all_different, are_kinds_formed, are_whole};
 ghost use Rattle.answer_reading.specs.Forming.{count_from, is_below, is_difference_formed};
 ghost use Rattle.answer_reading.specs.Forming.{is_free_of, is_higher, is_name, is_pair_formed};

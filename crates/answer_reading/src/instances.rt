@@ -1,6 +1,6 @@
 //! The ground terms that an answer covers.
 
-ghost use Rattle.std.specs.Prelude.{◌≡◌, ◌↔◌, IsTrue, IfOk};
+ghost use Rattle.std.specs.Prelude.{◌↔◌, IsTrue, IfOk};
 ghost use Rattle.kan_model.specs.Answers.Covers.{Covers};
 ghost use Rattle.reify.specs.Meaning.{meaning};
 

@@ -1,8 +1,6 @@
 //! Reads lines of answers back: each line of the files that the words name must be an answer that
-//! is
-//! printed as the same line. The number of each line that isn't is printed, and then how many
-//! passed
-//! and how many failed.
+//! is printed as the same line. The number of each line that isn't is printed, and then how many
+//! passed and how many failed.
 #![tactic(auto)]
 
 mod line;

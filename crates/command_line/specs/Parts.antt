@@ -7,9 +7,8 @@ abbrev pub Text : Type 0
 Text = List ℕ
 
 -- how a word is spelled: the two dashes that end the options; a name behind two dashes, maybe with
--- a
--- value behind the first equals sign; any other word that begins with a dash and goes on; and every
--- other word, of which one is the dash alone
+-- a value behind the first equals sign; any other word that begins with a dash and goes on; and
+-- every other word, of which one is the dash alone
 pub data Spelling : Type 0 where
   end : Spelling
   named : Text → Option Text → Spelling

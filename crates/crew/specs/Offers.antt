@@ -12,8 +12,7 @@ tail_of (model.Stream.ends hs) = None
 tail_of (model.Stream.goes_on hs t) = Some t
 
 -- what stands inside a suspension, in order: what is forced with it, and the tail of the stream
--- that
--- waits behind that
+-- that waits behind that
 abbrev pub offered_inside : model.Thunk → List model.Thunk
 offered_inside (model.Thunk.call rel args store) = []
 offered_inside (model.Thunk.pause goal env store) = []

@@ -36,6 +36,11 @@ pub record Ends : Type 0 where
   pub sink : SinkView
   pub sink_after : SinkView
 
+-- a source and a sink, each before a call and after it
+abbrev pub ends_of : SourceView → SourceView → SinkView → SinkView → Ends
+ends_of before after put put_after =
+    record { source = before; source_after = after; sink = put; sink_after = put_after }
+
 -- a place was read to its end
 pub record ReadsPlace (spot : Spot) (e : Ends) (text : List ℕ) : Type 0 where
   pub whole : IsWhole (e.source.holds spot) e.source_after.left text

@@ -15,12 +15,6 @@ use Rattle.kanren_run.specs.Origins.{GetsTooMuch, IsThere}
 use Rattle.kanren_run.specs.Answers.{answer, answer_bytes, AreInForm, Runs, IsRefused}
 use Rattle.kanren_run.specs.declared.settings.Settings.{Settings}
 
--- a call of the program: its words, its ends and its status
-pub record Call : Type 0 where
-  pub words : List (List ℕ)
-  pub ends : Ends
-  pub status : Status
-
 -- all that is written for a text was put
 abbrev pub PutWhole : Settings → List ℕ → Option (List ℕ) → Option (List ℕ) → Type 0
 PutWhole s text put after = Appends put after (answer_bytes s text)
@@ -59,8 +53,7 @@ pub record Untouched (e : Ends) : Type 0 where
   pub sink : e.sink_after ≡ e.sink
 
 -- Want of memory: nothing was done; or nothing was put, and the text was read as far as memory
--- went;
--- or it was got whole, and a front of what is written for it was put.
+-- went; or it was got whole, and a front of what is written for it was put.
 pub data WantedMemory (o : Origin) (s : Settings) (e : Ends) : Type 0 where
   at_once : Untouched e → WantedMemory o s e
   before : PutNothing e → GetsAtMost o e → WantedMemory o s e
@@ -88,8 +81,7 @@ Outcome o s e TooLong = GetsTooMuch o e × PutNothing e
 Outcome o s e Memory = WantedMemory o s e
 
 -- How many calls of the source have failed, and of the sink: one more where the status says so,
--- else
--- as many as before.
+-- else as many as before.
 abbrev pub read_faults_after : Status → ℕ → ℕ
 read_faults_after ReadFault faults = one_more faults
 read_faults_after s faults = faults
@@ -144,12 +136,12 @@ abbrev pub IsFaithfulTo : Option Line → Ends → Status → Type 0
 IsFaithfulTo (Some l) e status = IsFaithfulAt (origin_of l) (settings_of l) e status
 IsFaithfulTo None e status = IsNoLine e status
 
--- What is said of a call. Where its words are a line of the command: its outcome by its status,
--- which
--- isn't Usage; how many calls of its ends failed; and that it has the answer of the text where none
--- did. Where they are none: the status is Usage, or memory was wanting, and all is as it was.
-abbrev pub IsFaithful : Call → Type 0
-IsFaithful call = IsFaithfulTo (line_alone call.words) call.ends call.status
+-- What is said of a call by its words, its ends and its status. Where the words are a line of the
+-- command: its outcome by its status, which isn't Usage; how many calls of its ends failed; and that
+-- it has the answer of the text where none did. Where they are none: the status is Usage, or memory
+-- was wanting, and all is as it was.
+abbrev pub IsFaithful : List (List ℕ) → Ends → Status → Type 0
+IsFaithful words e status = IsFaithfulTo (line_alone words) e status
 
 -- nothing was put, or a front of what is written for a text
 pub data Wanted (s : Settings) (text : List ℕ) (put after : Option (List ℕ)) : Type 0 where

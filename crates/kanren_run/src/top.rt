@@ -6,12 +6,11 @@ ghost use Rattle.command_line.specs.WordsRead.{Reads, line_asked};
 ghost use Rattle.command_line.specs.Lines.{IsInRange, texts};
 ghost use Rattle.rel_library.specs.Loads.{greatest_load, load};
 ghost use Rattle.kan_model.specs.Answers.InForm.{TextsDiffer};
-ghost use Rattle.kan_terms.specs.Table.{no_names};
 ghost use Rattle.kanren_run.specs.Answers.{IsRefused};
 ghost use Rattle.kanren_run.specs.Commands as commands;
 ghost use Rattle.kanren_run.specs.Headline.{TextsMean};
 ghost use Rattle.kanren_run.specs.Origins as origins;
-ghost use Rattle.kanren_run.specs.Origins.{origin_of, spot_of};
+ghost use Rattle.kanren_run.specs.Origins.{ends_of, origin_of, spot_of};
 ghost use Rattle.kanren_run.specs.Outcomes.{IsFaithful, IsFaithfulAt, WritesReply, is_refusal};
 ghost use Rattle.kanren_run.specs.Replies.{HasRuns};
 ghost use Rattle.kanren_run.specs.Settings as settings;
@@ -35,9 +34,8 @@ use std::alloc::Global;
 /// Gets the text that the words ask for, runs it, and writes its output.
 ///
 /// The words are those after the program's name: options and at most one name of a file. The
-/// answers
-/// of a run come in the order of its stream, each a line, and behind them the run's summary line;
-/// they are written as they are found. A text that is refused gives one line that says so.
+/// answers of a run come in the order of its stream, each a line, and behind them the run's summary
+/// line; they are written as they are found. A text that is refused gives one line that says so.
 pub fn kanren_alone<S: Source, K: Sink>(
     alloc: Global,
     words: &[&str],
@@ -45,16 +43,8 @@ pub fn kanren_alone<S: Source, K: Sink>(
     sink: &mut K,
 ) -> Status
     // Its outcome, when it is Usage, how many calls of its ends failed, and that it is complete.
-    ensures faithful { IsFaithful (record {
-      words = texts words.now;
-      ends = record {
-        source = S.view source.old;
-        source_after = S.view source.new;
-        sink = K.view sink.old;
-        sink_after = K.view sink.new;
-      };
-      status = result;
-    }) }
+    ensures faithful { IsFaithful (texts words.now) (ends_of (S.view source.old)
+        (S.view source.new) (K.view sink.old) (K.view sink.new)) result }
     // What the answers mean that are written for an accepted text.
     ensures means { TextsMean (commands.line_alone (texts words.now)) }
 {
@@ -62,8 +52,7 @@ pub fn kanren_alone<S: Source, K: Sink>(
 }
 
 /// What `kanren_alone` does, over stores of any kind. All give the same bytes; they differ in time
-/// and
-/// memory.
+/// and memory.
 pub fn kanren_over<St: Store, S: Source, K: Sink>(
     alloc: Global,
     words: &[&str],
@@ -71,16 +60,8 @@ pub fn kanren_over<St: Store, S: Source, K: Sink>(
     sink: &mut K,
 ) -> Status
     // Its outcome, when it is Usage, how many calls of its ends failed, and that it is complete.
-    ensures faithful { IsFaithful (record {
-      words = texts words.now;
-      ends = record {
-        source = S.view source.old;
-        source_after = S.view source.new;
-        sink = K.view sink.old;
-        sink_after = K.view sink.new;
-      };
-      status = result;
-    }) }
+    ensures faithful { IsFaithful (texts words.now) (ends_of (S.view source.old)
+        (S.view source.new) (K.view sink.old) (K.view sink.new)) result }
     // What the answers mean that are written for an accepted text.
     ensures means { TextsMean (commands.line_alone (texts words.now)) }
 {
@@ -135,12 +116,8 @@ fn answer_options<St: Store, S: Source, K: Sink>(
 ) -> Status
     requires { IsInRange (line_asked options.now) }
     ensures { IsFaithfulAt (origin_of (line_asked options.now))
-        (settings.settings_of (line_asked options.now)) (record {
-          source = S.view source.old;
-          source_after = S.view source.new;
-          sink = K.view sink.old;
-          sink_after = K.view sink.new;
-        }) result }
+        (settings.settings_of (line_asked options.now)) (ends_of (S.view source.old)
+        (S.view source.new) (K.view sink.old) (K.view sink.new)) result }
 {
     let settings = settings_of(options);
     match options.load {
@@ -158,12 +135,9 @@ fn answer_place<St: Store, S: Source, K: Sink>(
     sink: &mut K,
 ) -> Status
     requires { InRange settings }
-    ensures { IsFaithfulAt (origins.Origin.opened (spot place.entry)) settings (record {
-      source = S.view source.old;
-      source_after = S.view source.new;
-      sink = K.view sink.old;
-      sink_after = K.view sink.new;
-    }) result }
+    ensures { IsFaithfulAt (origins.Origin.opened (spot place.entry)) settings
+        (ends_of (S.view source.old) (S.view source.new) (K.view sink.old) (K.view sink.new))
+        result }
 {
     match take_text(alloc, source, place) {
         Ok(text) => answer_text::<St, K>(alloc, settings, &text, sink),

@@ -1,6 +1,6 @@
 //! Runs, whose answers are written as they come.
 
-ghost use Rattle.std.specs.Prelude.{◌≡◌, ◌+◌, ◌++◌, ◌≤◌, [], ◌∷◌, map, true, false, IfOk, OnOk};
+ghost use Rattle.std.specs.Prelude.{◌≡◌, ◌+◌, ◌++◌, ◌≤◌, [], ◌∷◌, map, false, IfOk, OnOk};
 ghost use Rattle.kan_model.specs.Programs.Closed as programs;
 ghost use Rattle.kan_model.specs.Streams.Taking.{take_query};
 ghost use Rattle.kan_model.specs.Answers.Output.{taken_text, runs_output};

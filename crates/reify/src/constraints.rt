@@ -1,6 +1,6 @@
 //! The text of an answer.
 
-ghost use Rattle.std.specs.Prelude.{◌≡◌, ◌++◌, ◌&&◌, true, map, OnOk, IfOk, codes, string_bytes};
+ghost use Rattle.std.specs.Prelude.{◌≡◌, ◌++◌, ◌&&◌, true, map, OnOk, IfOk, string_bytes};
 ghost use Rattle.std.specs.List.{flat_map, list_all};
 ghost use Rattle.kan_model.specs.Answers.Text.{name_text, with_spaces};
 ghost use Rattle.kan_model.specs.Answers.AnswerText.{absence_text, answer_text, constraint_texts};
@@ -213,8 +213,7 @@ fn print_where(
 }
 
 /// The text of an answer, without a line's end. A symbol without a name prints as nothing, and so
-/// does a string without
-/// a text.
+/// does a string without a text.
 pub fn print_answer(alloc: Global, answer: &Answer, names: &Names) -> Result<Vec<u8>, Memory>
     ensures { IfOk result (λ bytes. bytes.items ≡ answer_text names.now (meaning answer.now)) }
 {

@@ -1,6 +1,6 @@
 //! Reading whole terms.
 
-ghost use Rattle.std.specs.Prelude.{◌≡◌, ◌<◌, ◌≤◌, ◌^◌, true, false, length, IfOk};
+ghost use Rattle.std.specs.Prelude.{◌≡◌, ◌<◌, ◌^◌, true, false, length, IfOk};
 ghost use Rattle.std.specs.List.{list_all};
 ghost use Rattle.reify.specs.declared.shaping.Shape.TheVariants.{Pair};
 ghost use Rattle.term_reading.specs.Reading.{GetsTerm, is_open, is_pair, next_open};

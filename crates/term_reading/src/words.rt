@@ -1,11 +1,10 @@
 //! Words, and what they are.
 
-ghost use Rattle.std.specs.Prelude.{◌≡◌, ◌<◌, ◌≤◌, ◌^◌, ◌++◌, List, ℕ, ℤ, length, true, IfOk};
-ghost use Rattle.std.specs.List.{list_all, prefix_len};
-ghost use Rattle.std.specs.Str.Parse.{without_leading_sign};
-ghost use Rattle.kan_grammar.specs.Data.Words.{all_digits, begins_with_digit, is_dot};
+ghost use Rattle.std.specs.Prelude.{◌≡◌, ◌<◌, ◌^◌, ℕ, ℤ, length, true, IfOk};
+ghost use Rattle.std.specs.List.{list_all};
+ghost use Rattle.kan_grammar.specs.Data.Words.{is_dot};
 ghost use Rattle.kan_grammar.specs.Data.Words.{is_in_range, is_reserved, is_word_byte};
-ghost use Rattle.kan_grammar.specs.Data.Words.{looks_like_number, without_leading_point};
+ghost use Rattle.kan_grammar.specs.Data.Words.{looks_like_number};
 ghost use Rattle.kan_model.specs.Answers.Decimals.{decimal_text, number_text};
 ghost use Rattle.kan_model.specs.Answers.Text.{name_text};
 ghost use Rattle.kan_terms.specs.Table.{Table};
