@@ -137,9 +137,9 @@ IsFaithfulTo (Some l) e status = IsFaithfulAt (origin_of l) (settings_of l) e st
 IsFaithfulTo None e status = IsNoLine e status
 
 -- What is said of a call by its words, its ends and its status. Where the words are a line of the
--- command: its outcome by its status, which isn't Usage; how many calls of its ends failed; and that
--- it has the answer of the text where none did. Where they are none: the status is Usage, or memory
--- was wanting, and all is as it was.
+-- command: its outcome by its status, which isn't Usage; how many calls of its ends failed; and
+-- that it has the answer of the text where none did. Where they are none: the status is Usage, or
+-- memory was wanting, and all is as it was.
 abbrev pub IsFaithful : List (List ℕ) → Ends → Status → Type 0
 IsFaithful words e status = IsFaithfulTo (line_alone words) e status
 

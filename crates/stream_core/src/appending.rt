@@ -107,19 +107,10 @@ pub(crate) fn append_empty<N: Nodes<St>, St: Store>(
     ensures belong { IfOk result (HasStream (N.table nodes.new)) }
     ensures adds { OnlyAdds (N.table nodes.old) (N.table nodes.new) }
 {
-    let Stream { heads, tail } = left;
-    match tail {
-        None => Ok(Stream { heads, tail: None }),
-        Some(later) => {
-            let tail = nodes.suspend(Thunk::Swap {
-                heads: ListOf::new(alloc),
-                tail: None,
-                inner: later,
-            })?;
-            Ok(Stream {
-                heads,
-                tail: Some(tail),
-            })
-        }
-    }
+    let empty = Stream {
+        heads: ListOf::new(alloc),
+        tail: None,
+    };
+    let made = append(alloc, left, empty, nodes)?;
+    Ok(made)
 }

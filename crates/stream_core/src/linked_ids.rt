@@ -5,10 +5,12 @@ ghost use Rattle.std.specs.Arc.{arc_value};
 ghost use Rattle.kan_model.specs.Programs.Goals.{Goal};
 ghost use Rattle.kan_model.specs.Programs.Environments.{terms_of};
 ghost use Rattle.kan_model.specs.Streams.Stream.{append};
-ghost use Rattle.stream_core.specs.TableKinds.LinkedThunks.{held, suspension_of, linked_tree, linked_around};
-ghost use Rattle.stream_core.specs.TableKinds.LinkedThunks.{linked_layers, linked_stream, IsExchanged};
-ghost use Rattle.stream_core.specs.TableKinds.LinkedThunks.{HasExchanged, IsInsideBind, HasEnteredSwap};
-ghost use Rattle.stream_core.specs.TableKinds.LinkedThunks.{IsEntered, IsWholeOrSame, IsStep, IsLevel};
+ghost use Rattle.stream_core.specs.TableKinds.LinkedThunks.{held, suspension_of, linked_tree};
+ghost use Rattle.stream_core.specs.TableKinds.LinkedThunks.{linked_around, linked_layers};
+ghost use Rattle.stream_core.specs.TableKinds.LinkedThunks.{linked_stream, IsExchanged};
+ghost use Rattle.stream_core.specs.TableKinds.LinkedThunks.{HasExchanged, IsInsideBind};
+ghost use Rattle.stream_core.specs.TableKinds.LinkedThunks.{HasEnteredSwap, IsEntered};
+ghost use Rattle.stream_core.specs.TableKinds.LinkedThunks.{IsWholeOrSame, IsStep, IsLevel};
 ghost use Rattle.stream_core.specs.Surroundings as outer;
 ghost use Rattle.stream_core.specs.Suspensions.{listed};
 
