@@ -183,8 +183,7 @@ impl Program {
     }
 
     /// How many variables the goal at a place can take before its calls are forced, or the greatest
-    /// u32 where they are
-    /// more; None exactly past the end. It takes no memory.
+    /// u32 where they are more; None exactly past the end. It takes no memory.
     pub fn width(&self, at: u32) -> Option<u32>
         ensures { result ≡ option_map noted_width (slice_get (programs.goals self.now) at) }
     {

@@ -11,8 +11,7 @@ use kan_terms::Memory;
 use std::alloc::Global;
 
 /// The tables of a program that grows. Each entry names entries that are there already, but a call
-/// may name a relation
-/// that comes later.
+/// may name a relation that comes later.
 #[derive(Drop)]
 pub struct Draft {
     pub(crate) terms: Vec<TermRow>,

@@ -98,7 +98,12 @@ impl Env {
     }
 
     // The term of a template that is no pair.
-    fn leaf(&self, program: &Program, term: u32) -> Result<Option<Term>, Memory>
+    fn leaf(
+        &self,
+        alloc: Global,
+        program: &Program,
+        term: u32,
+    ) -> Result<Option<Term>, Memory>
         ensures { IfOk result (λ found. IfSome found (λ made. tree made
             ≡ instance (terms_of self.now) (programs.template program.now term))) }
     {
@@ -109,7 +114,7 @@ impl Env {
             }
             TermNode::Sym(name) => Ok(Some(Term::Sym(name))),
             TermNode::Str(text) => Ok(Some(Term::Str(text))),
-            TermNode::Num(number) => Ok(Some(Term::Num(number))),
+            TermNode::Num(number) => Ok(Some(Term::number(alloc, number)?)),
             TermNode::Truth(truth) => Ok(Some(Term::Truth(truth))),
             TermNode::Nil => Ok(Some(Term::Nil)),
             TermNode::Pair(_, _) => Ok(None),
@@ -207,7 +212,7 @@ impl Env {
             ≡ instance (terms_of self.now) (programs.template program.now term))) }
     {
         let TermNode::Pair(first, rest) = program.template_node(term) else {
-            return self.leaf(program, term);
+            return self.leaf(alloc, program, term);
         };
         if height == 0 {
             return Ok(None);

@@ -40,7 +40,8 @@ pub fn first_letter(term: &Term) -> Letter
         Term::Var(var) => Letter::Var(*var),
         Term::Sym(name) => Letter::Sym(*name),
         Term::Str(text) => Letter::Str(*text),
-        Term::Num(number) => Letter::Num(*number),
+        Term::Num(number) => Letter::Num(i128::from(*number)),
+        Term::Large(number) => Letter::Num(**number),
         Term::Truth(truth) => Letter::Truth(*truth),
         Term::Nil => Letter::Nil,
         Term::Pair(_) => Letter::Pair,
@@ -74,18 +75,18 @@ pub fn spell(alloc: Global, term: &Term) -> Result<Vec<Letter>, Memory>
 }
 
 // The term of a letter that is none of a pair.
-fn atom(letter: Letter) -> Option<Term>
-    ensures { IsAtomOf letter (option_map tree result) }
+fn atom(alloc: Global, letter: Letter) -> Result<Option<Term>, Memory>
+    ensures { IfOk result (λ made. IsAtomOf letter (option_map tree made)) }
 {
-    match letter {
+    Ok(match letter {
         Letter::Pair => None,
         Letter::Var(var) => Some(Term::Var(var)),
         Letter::Sym(name) => Some(Term::Sym(name)),
         Letter::Str(text) => Some(Term::Str(text)),
-        Letter::Num(number) => Some(Term::Num(number)),
+        Letter::Num(number) => Some(Term::number(alloc, number)?),
         Letter::Truth(truth) => Some(Term::Truth(truth)),
         Letter::Nil => Some(Term::Nil),
-    }
+    })
 }
 
 // Makes a pair of the two terms on top of the stack.
@@ -106,7 +107,7 @@ fn put_on_stack(alloc: Global, letter: Letter, stack: &mut Vec<Term>) -> Result<
     ensures { OnOk result (put_letter letter (stack_terms stack.old.items)
         ≡ Some (stack_terms stack.new.items)) }
 {
-    match atom(letter) {
+    match atom(alloc, letter)? {
         None => join_top(alloc, stack),
         Some(term) => {
             stack.push(term)?;

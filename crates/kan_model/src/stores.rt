@@ -73,8 +73,7 @@ pub trait Store: Sized + Drop {
         ensures { IfOk result (AreTags (meaning self.now) var) };
 
     /// For each disequality whose sides may still become equal, pairs that are all equal exactly
-    /// where its sides are, in
-    /// the order of assertion.
+    /// where its sides are, in the order of assertion.
     fn differences(&self, alloc: Global) -> Result<PairLists, Memory>
         ensures { IfOk result
             (λ lists. AreDifferences (meaning self.now) (differences (meaning self.now).prims)

@@ -18,9 +18,9 @@ pub(crate) enum Values {
 pub(crate) fn copied(alloc: Global, values: &[Term]) -> Result<Vec<Term>, Memory>
     ensures { IfOk result (λ copies. map tree copies.items ≡ map tree values.now) }
 {
-    let mut copies = Vec::new(alloc);
+    let mut copies = Vec::with_capacity(alloc, values.len())?;
     for value in values {
-        copies.push(value.again()?)?;
+        copies.push_reserved(value.again()?);
     }
     Ok(copies)
 }

@@ -22,7 +22,7 @@ fn may_be(kind: Kind, term: &Term) -> bool
 {
     match kind {
         Kind::Symbol => matches!(term, Term::Var(_) | Term::Sym(_)),
-        Kind::Number => matches!(term, Term::Var(_) | Term::Num(_)),
+        Kind::Number => matches!(term, Term::Var(_) | Term::Num(_) | Term::Large(_)),
         Kind::Text => matches!(term, Term::Var(_) | Term::Str(_)),
     }
 }

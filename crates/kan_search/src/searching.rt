@@ -63,8 +63,7 @@ impl<'a, St: Store, N: Nodes<St> + Drop> Search<'a, St, N> {
     ghost use Rattle.kan_search.specs.Waiting.{GivesNone, WantsPull};
 
     /// The search of a run over a table of its program, at a fuel from 1 to 1,000,000. A batch
-    /// makes
-    /// at most so many pulls as a round has, from 1 to 65,536.
+    /// makes at most so many pulls as a round has, from 1 to 65,536.
     pub fn open(
         alloc: Global,
         program: &'a Program,

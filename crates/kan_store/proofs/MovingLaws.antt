@@ -7,7 +7,7 @@ use Rattle.std.proofs.lemmas.Bool.{and_parts, true≢false}
 use Rattle.kan_terms.specs.Tree.{Tree, Tm, occurs}
 use Rattle.kan_terms.specs.Terms.{tree, sides}
 use Rattle.kan_terms.specs.declared.terms.Term.{Term}
-use Rattle.kan_terms.specs.declared.terms.Term.TheVariants.{Var, Sym, Str, Num, Truth, Nil, Pair}
+use Rattle.kan_terms.specs.declared.terms.Term.TheVariants.{Var, Sym, Str, Num, Large, Truth, Nil, Pair}
 use Rattle.kan_terms.specs.declared.terms.TermPair.{TermPair}
 use Rattle.unify_core.specs.Walking.{Pairs, walk, full}
 use Rattle.type_absence.specs.Types.{Types, MovesTypes}
@@ -30,6 +30,7 @@ no_variable (Var x) u other = absurd (other x refl)
 no_variable (Sym s) u other = refl
 no_variable (Str s) u other = refl
 no_variable (Num n) u other = refl
+no_variable (Large number) u other = refl
 no_variable (Truth b) u other = refl
 no_variable Nil u other = refl
 no_variable (Pair parts) u other = refl

@@ -2,9 +2,9 @@
 use Rattle.std.specs.Prelude.{◌≤◌, ◌+◌, max}
 use Rattle.std.proofs.Common.{arith}
 use Rattle.kan_terms.specs.declared.terms.Term.{Term}
-use Rattle.kan_terms.specs.declared.terms.Term.TheVariants.{Var, Sym, Str, Num, Truth, Nil, Pair}
+use Rattle.kan_terms.specs.declared.terms.Term.TheVariants.{Var, Sym, Str, Num, Large, Truth, Nil, Pair}
 use Rattle.kan_terms.specs.declared.terms.PairParts.TheDeep.{deep-Term}
-use Rattle.kan_terms.specs.Tree.{Tree, size}
+use Rattle.kan_terms.specs.Tree.{size}
 use Rattle.kan_terms.specs.Terms.{tree}
 
 -- a term is no deeper than it has nodes
@@ -13,6 +13,7 @@ deep_le (Var v) = omega arith
 deep_le (Sym s) = omega arith
 deep_le (Str s) = omega arith
 deep_le (Num n) = omega arith
+deep_le (Large number) = omega arith
 deep_le (Truth b) = omega arith
 deep_le Nil = omega arith
 deep_le (Pair parts) = omega arith

@@ -34,6 +34,13 @@ impl<T> ListOf<T> {
         }
     }
 
+    /// The list of the items of a vector, in the same order.
+    pub fn of(items: Vec<T>) -> Self
+        ensures { result ≡ items.items }
+    {
+        ListOf { stored: items }
+    }
+
     /// How many items the list has.
     pub fn len(&self) -> usize
         ensures { result ≡ length self.now }

@@ -4,7 +4,7 @@ ghost use Rattle.std.specs.Prelude.{◌≡◌, ⊤, IfOk};
 ghost use Rattle.kan_terms.specs.Greatest.{greater, greatest_in};
 ghost use Rattle.kan_terms.specs.Memory.{memory};
 ghost use Rattle.kan_terms.specs.Terms.{tree};
-ghost use Rattle.kan_terms.specs.Tree.{Tree, noted_size};
+ghost use Rattle.kan_terms.specs.Tree.{Tree, noted_size, term_eq};
 
 use std::alloc::{AllocError, AllocFailed, Global};
 use std::marker::Model;
@@ -39,8 +39,10 @@ pub enum Term {
     Sym(u32),
     /// A string, by its number in the table of strings.
     Str(u32),
-    /// A whole number.
-    Num(i128),
+    /// A whole number that fits in 64 bits, as most do.
+    Num(i64),
+    /// A whole number, behind a pointer, so that no term takes more than 16 bytes.
+    Large(Arc<i128>),
     /// A truth value.
     Truth(bool),
     /// The empty list.
@@ -76,6 +78,7 @@ impl Drop for Term {
                 Term::Sym(_) => return,
                 Term::Str(_) => return,
                 Term::Num(_) => return,
+                Term::Large(_) => return,
                 Term::Truth(_) => return,
                 Term::Nil => return,
             }
@@ -165,7 +168,8 @@ impl Term {
     {
         match self {
             Term::Var(var) => Some(*var),
-            Term::Sym(_) | Term::Str(_) | Term::Num(_) | Term::Truth(_) | Term::Nil => None,
+            Term::Sym(_) | Term::Str(_) | Term::Truth(_) | Term::Nil => None,
+            Term::Num(_) | Term::Large(_) => None,
             Term::Pair(parts) => parts.greatest_variable(),
         }
     }
@@ -176,8 +180,30 @@ impl Term {
     {
         match self {
             Term::Var(_) => 1,
-            Term::Sym(_) | Term::Str(_) | Term::Num(_) | Term::Truth(_) | Term::Nil => 1,
+            Term::Sym(_) | Term::Str(_) | Term::Truth(_) | Term::Nil => 1,
+            Term::Num(_) | Term::Large(_) => 1,
             Term::Pair(parts) => parts.weight(),
+        }
+    }
+
+    /// The term of a whole number. Only one that doesn't fit in 64 bits takes memory.
+    pub fn number(alloc: Global, number: i128) -> Result<Term, Memory>
+        ensures { IfOk result (λ made. tree made ≡ Tree.num number) }
+    {
+        match i64::try_from(number) {
+            Ok(small) => Ok(Term::Num(small)),
+            Err(_) => Ok(Term::Large(Arc::new(alloc, number)?)),
+        }
+    }
+
+    /// Whether the term is a whole number.
+    pub fn is_number(&self, number: i128) -> bool
+        ensures { result ≡ term_eq (Tree.num number) (tree self.now) }
+    {
+        match self {
+            Term::Num(found) => number == i128::from(*found),
+            Term::Large(found) => number == **found,
+            _ => false,
         }
     }
 
@@ -210,6 +236,7 @@ impl Term {
             Term::Sym(name) => Term::Sym(*name),
             Term::Str(text) => Term::Str(*text),
             Term::Num(number) => Term::Num(*number),
+            Term::Large(number) => Term::Large(Arc::try_clone(number)?),
             Term::Truth(truth) => Term::Truth(*truth),
             Term::Nil => Term::Nil,
             Term::Pair(parts) => Term::Pair(Arc::try_clone(parts)?),

@@ -16,7 +16,8 @@ fn are_same_atoms(left: &Term, right: &Term) -> Option<bool>
         Term::Var(var) => Some(matches!(right, Term::Var(other) if *var == *other)),
         Term::Sym(name) => Some(matches!(right, Term::Sym(other) if *name == *other)),
         Term::Str(text) => Some(matches!(right, Term::Str(other) if *text == *other)),
-        Term::Num(number) => Some(matches!(right, Term::Num(other) if *number == *other)),
+        Term::Num(number) => Some(right.is_number(i128::from(*number))),
+        Term::Large(number) => Some(right.is_number(**number)),
         Term::Truth(truth) => Some(matches!(right, Term::Truth(other) if *truth == *other)),
         Term::Nil => Some(matches!(right, Term::Nil)),
         Term::Pair(_) => match right {

@@ -22,7 +22,7 @@ fn allows(kind: Option<Kind>, by: &Term) -> bool
     match by {
         Term::Var(_) => true,
         Term::Sym(_) => kind.is_none() || is_kind(Kind::Symbol, kind),
-        Term::Num(_) => kind.is_none() || is_kind(Kind::Number, kind),
+        Term::Num(_) | Term::Large(_) => kind.is_none() || is_kind(Kind::Number, kind),
         Term::Str(_) => kind.is_none() || is_kind(Kind::Text, kind),
         Term::Truth(_) => kind.is_none(),
         Term::Nil => kind.is_none(),

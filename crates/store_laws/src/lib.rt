@@ -1,6 +1,5 @@
 //! Laws of stores: most general answers, and the one solved form of a disequality. Each function
-//! has
-//! its law for its contract, and does nothing.
+//! has its law for its contract, and does nothing.
 #![tactic(auto)]
 
 ghost use Rattle.store_laws.specs.General.{AnswerIsGeneral, ComposedIsGeneral, GeneralForOthers};

@@ -1,6 +1,5 @@
 //! Programs, streams and suspensions spelled as words, and as numbers, so that clauses can hold
-//! them
-//! as values. Each function has its law for its contract, and does nothing.
+//! them as values. Each function has its law for its contract, and does nothing.
 #![tactic(auto)]
 
 ghost use Rattle.stream_words.specs.Reading.{WordsAreRead, ProgramsAreRead};

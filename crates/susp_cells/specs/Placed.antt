@@ -1,6 +1,5 @@
 -- Which suspensions are sound: the label is of the table and tells the thunk. That fits the
--- program,
--- and its ids are of the same table.
+-- program, and its ids are of the same table.
 use Rattle.std.specs.Prelude.{◌≡◌}
 use Rattle.kan_model.specs.Stores.Store as facts
 use Rattle.kan_model.specs.Streams.Bounds.{Fits}

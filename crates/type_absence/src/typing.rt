@@ -50,7 +50,7 @@ fn may_stand_for(kind: Kind, term: &Term) -> bool
     match term {
         Term::Var(_) => true,
         Term::Sym(_) => matches!(kind, Kind::Symbol),
-        Term::Num(_) => matches!(kind, Kind::Number),
+        Term::Num(_) | Term::Large(_) => matches!(kind, Kind::Number),
         Term::Str(_) => matches!(kind, Kind::Text),
         Term::Truth(_) | Term::Nil | Term::Pair(_) => false,
     }

@@ -45,7 +45,8 @@ fn same_atom(left: &Term, right: &Term) -> bool
         Term::Var(var) => is_variable(right, *var),
         Term::Sym(name) => matches!(right, Term::Sym(other) if *name == *other),
         Term::Str(text) => matches!(right, Term::Str(other) if *text == *other),
-        Term::Num(number) => matches!(right, Term::Num(other) if *number == *other),
+        Term::Num(number) => right.is_number(i128::from(*number)),
+        Term::Large(number) => right.is_number(**number),
         Term::Truth(truth) => matches!(right, Term::Truth(other) if *truth == *other),
         Term::Nil => matches!(right, Term::Nil),
         Term::Pair(_) => false,
@@ -228,17 +229,14 @@ fn lend_bindings<'a, B: Bindings>(
 fn owned<'a>(alloc: Global, lent: &[Lent<'a>]) -> Result<TermPairs, Memory>
     ensures { IfOk result (λ made. map sides made ≡ lent_sides lent.now) }
 {
-    let mut made = TermPairs::new(alloc);
+    let mut made = Vec::with_capacity(alloc, lent.len())?;
     for one in lent {
-        let pair = TermPair {
+        made.push_reserved(TermPair {
             first: Term::Var(one.var),
             rest: one.term.again()?,
-        };
-        if made.push(pair).is_err() {
-            return Err(Memory);
-        }
+        });
     }
-    Ok(made)
+    Ok(TermPairs::of(made))
 }
 
 // Puts pairs on a stack of equations, the first one on top.
@@ -311,15 +309,12 @@ fn added_binding<B: Bindings>(
     if is_inside(alloc, var, term, bindings, &[])? {
         return Ok(None);
     }
-    let pair = TermPair {
+    let mut made = Vec::with_capacity(alloc, 1)?;
+    made.push_reserved(TermPair {
         first: Term::Var(var),
         rest: term.again()?,
-    };
-    let mut made = TermPairs::new(alloc);
-    match made.push(pair) {
-        Ok(()) => Ok(Some(made)),
-        Err(_) => Err(Memory),
-    }
+    });
+    Ok(Some(TermPairs::of(made)))
 }
 
 // What two terms add that were walked to. A variable is bound with nothing lent.

@@ -25,8 +25,7 @@ on_sides f (Primitive.text a) = Primitive.text (f a)
 on_sides f (Primitive.absent tag a) = Primitive.absent tag (f a)
 
 -- a goal: the slots of its templates are the arguments, and behind them those that each enclosing
--- fresh adds;
--- later suspends the goal in it
+-- fresh adds; later suspends the goal in it
 pub data Goal : Type 0 where
   prim : Primitive Template → Goal
   succeed : Goal

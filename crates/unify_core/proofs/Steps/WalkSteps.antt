@@ -4,7 +4,7 @@ use Rattle.kan_terms.specs.Tree.{Tree, Tm, occurs}
 use Rattle.kan_terms.specs.Bound.{bound_to}
 use Rattle.kan_terms.specs.Terms.{tree}
 use Rattle.kan_terms.specs.declared.terms.Term.{Term}
-use Rattle.kan_terms.specs.declared.terms.Term.TheVariants.{Var, Sym, Str, Num, Truth, Nil, Pair}
+use Rattle.kan_terms.specs.declared.terms.Term.TheVariants.{Var, Sym, Str, Num, Large, Truth, Nil, Pair}
 use Rattle.kan_model.specs.Stores.Kept.{is_variable}
 use Rattle.unify_core.specs.Walking.{Pairs, IsOtherEnd, walk, full}
 use Rattle.unify_core.specs.Cycles.{HasNoCycle}
@@ -30,6 +30,7 @@ no_leaf (Var v) other y e = other v (cc)
 no_leaf (Sym s) other y e = cc
 no_leaf (Str s) other y e = cc
 no_leaf (Num n) other y e = cc
+no_leaf (Large number) other y e = cc
 no_leaf (Truth b) other y e = cc
 no_leaf Nil other y e = cc
 no_leaf (Pair parts) other y e = cc
@@ -44,6 +45,7 @@ no_variable x (Var v) other = absurd (other v refl)
 no_variable x (Sym s) other = refl
 no_variable x (Str s) other = refl
 no_variable x (Num n) other = refl
+no_variable x (Large number) other = refl
 no_variable x (Truth b) other = refl
 no_variable x Nil other = refl
 no_variable x (Pair parts) other = refl
