@@ -91,11 +91,11 @@ impl<E: Drop> Slots<E> {
     }
 }
 
-// Entries once more, with room for so many, or for all of them.
-fn copied<E: Again>(alloc: Global, from: &[E], room: usize) -> Result<Vec<E>, Memory>
+// Entries once more, with room for sixteen at least.
+fn copied<E: Again>(alloc: Global, from: &[E]) -> Result<Vec<E>, Memory>
     ensures { IfOk result (λ made. map E.meaning made.items ≡ map E.meaning from.now) }
 {
-    let mut made = Vec::with_capacity(alloc, room.max(from.len()))?;
+    let mut made = Vec::with_capacity(alloc, from.len().max(16))?;
     for entry in from {
         made.push_reserved(entry.again()?);
     }
@@ -110,7 +110,7 @@ impl<E: Again> Slots<E> {
     {
         Ok(Slots {
             order: self.order,
-            entries: copied(alloc, &self.entries, 16)?,
+            entries: copied(alloc, &self.entries)?,
         })
     }
 }

@@ -44,13 +44,6 @@ abbrev pub above_terms : Replacement → ℕ
 above_terms [] = 0
 above_terms (p ∷ g) = max (above_atoms p.by) (above_terms g)
 
-pub terms_above : (g : Replacement) → Each (λ p. above_atoms p.by ≤ above_terms g) g
-terms_above [] = tt
-terms_above (p ∷ g) = (
-  omega arith,
-  Each-like (λ q. above_atoms q.by ≤ above_terms g) (λ q. above_atoms q.by ≤ max (above_atoms p.by) (above_terms g)) (λ q l. omega (arith, l)) g (terms_above g),
-)
-
 own-above : (m : ℕ) (kind : Kind) → above_atoms (own_of m kind) ≡ 1 + m
 own-above m Symbol = refl
 own-above m Number = refl
