@@ -98,12 +98,7 @@ impl Env {
     }
 
     // The term of a template that is no pair.
-    fn leaf(
-        &self,
-        alloc: Global,
-        program: &Program,
-        term: u32,
-    ) -> Result<Option<Term>, Memory>
+    fn leaf(&self, alloc: Global, program: &Program, term: u32) -> Result<Option<Term>, Memory>
         ensures { IfOk result (λ found. IfSome found (λ made. tree made
             ≡ instance (terms_of self.now) (programs.template program.now term))) }
     {

@@ -16,14 +16,15 @@ pub(crate) fn none_bound<B: Bindings>(alloc: Global) -> Result<B, Memory>
 
 /// A pair whose first part is a number.
 pub(crate) fn after_number(alloc: Global, number: i128, rest: Term) -> Result<Term, Memory> {
-    Term::pair(alloc, Term::Num(number), rest)
+    let number = Term::number(alloc, number)?;
+    Term::pair(alloc, number, rest)
 }
 
 /// The list of the numbers from 0 on, with an end.
 pub(crate) fn numbers(alloc: Global, count: u64, end: Term) -> Result<Term, Memory> {
     let mut list = end;
     for at in 0..count {
-        list = Term::pair(alloc, Term::Num(i128::from(count - 1 - at)), list)?;
+        list = after_number(alloc, i128::from(count - 1 - at), list)?;
     }
     Ok(list)
 }
@@ -39,7 +40,10 @@ pub(crate) fn high_in_firsts(alloc: Global, height: u64, inner: Term) -> Result<
 
 /// Whether a term is there and is the number.
 pub(crate) fn is_number(term: Option<&Term>, number: i128) -> bool {
-    matches!(term, Some(Term::Num(found)) if *found == number)
+    match term {
+        Some(found) => found.is_number(number),
+        None => false,
+    }
 }
 
 /// Whether a pair is there, of a variable and a number.

@@ -3,7 +3,7 @@
 ghost use Rattle.std.specs.Prelude.{◌<◌, IfOk, IfSome};
 ghost use Rattle.unify_core.specs.Cycles.{HasNoCycle};
 
-use crate::cases::{binds, high_in_firsts, is_number, none_bound, numbers};
+use crate::cases::{after_number, binds, high_in_firsts, is_number, none_bound, numbers};
 use kan_subst::{ListBindings, TreeBindings};
 use kan_terms::{Bindings, Memory, Term};
 use std::alloc::Global;
@@ -59,6 +59,18 @@ fn tells_atoms_apart<B: Bindings>(alloc: Global) -> Result<bool, Memory> {
     Ok(true)
 }
 
+// Whether numbers of more than 64 bits are told apart by their values.
+fn compares_large_numbers<B: Bindings>(alloc: Global) -> Result<bool, Memory> {
+    let bindings = none_bound::<B>(alloc)?;
+    let greatest = Term::number(alloc, i128::MAX)?;
+    let again = Term::number(alloc, i128::MAX)?;
+    let least = Term::number(alloc, i128::MIN)?;
+    let same = unify(alloc, &greatest, &again, &bindings)?;
+    let apart = unify(alloc, &greatest, &least, &bindings)?;
+    let from_small = unify(alloc, &Term::Num(-1), &greatest, &bindings)?;
+    Ok(same.is_some() && apart.is_none() && from_small.is_none())
+}
+
 // Whether equal lists add nothing, and a longer one has no unifier with them.
 fn compares_lists<B: Bindings>(alloc: Global, count: u64) -> Result<bool, Memory>
     requires { count < 1000000 }
@@ -97,7 +109,7 @@ fn bind_list<B: Bindings>(alloc: Global, count: u64) -> Result<Option<B>, Memory
 {
     let mut bindings = none_bound::<B>(alloc)?;
     for at in 0..count {
-        let cell = Term::pair(alloc, Term::Num(i128::from(at)), Term::Var(at + 1))?;
+        let cell = after_number(alloc, i128::from(at), Term::Var(at + 1))?;
         let Some(made) = unify(alloc, &Term::Var(at), &cell, &bindings)? else {
             return Ok(None);
         };
@@ -147,6 +159,13 @@ fn left_variables_are_bound(rt: HostRuntime) -> Result<(), Fail> {
 fn atoms_are_told_apart(rt: HostRuntime) -> Result<(), Fail> {
     assert!(rt; tells_atoms_apart::<ListBindings>(rt.alloc())?);
     assert!(rt; tells_atoms_apart::<TreeBindings>(rt.alloc())?);
+    Ok(())
+}
+
+#[test]
+fn large_numbers_are_compared(rt: HostRuntime) -> Result<(), Fail> {
+    assert!(rt; compares_large_numbers::<ListBindings>(rt.alloc())?);
+    assert!(rt; compares_large_numbers::<TreeBindings>(rt.alloc())?);
     Ok(())
 }
 

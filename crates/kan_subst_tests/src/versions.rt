@@ -13,7 +13,7 @@ fn bind_own<B: Bindings>(bindings: &B, var: u64) -> Result<B, Memory> {
     if bindings.get(var).is_some() {
         return bindings.again();
     }
-    bindings.bind(var, &Term::Num(i128::from(var)))
+    bindings.bind(var, &Term::Num(var as i64))
 }
 
 // The same by value.
@@ -21,7 +21,7 @@ fn bind_own_in_place<B: Bindings>(bindings: B, var: u64) -> Result<B, Memory> {
     if bindings.get(var).is_some() {
         return Ok(bindings);
     }
-    bindings.bind_owned(var, &Term::Num(i128::from(var)))
+    bindings.bind_owned(var, &Term::Num(var as i64))
 }
 
 // All versions of bindings, to which the variables below a count were added one after the other.

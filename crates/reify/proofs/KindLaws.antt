@@ -1,57 +1,16 @@
 -- A variable of a kept store has one type at most, and the variables of its answer stand for themselves.
-use Rattle.std.proofs.Common.{◌≡◌, ℕ, Bool, true, false, List, [], ◌∷◌, Option, Some, None, sym, subst, refl, ◌∙◌, ap, inl, inr, unwrap_or}
+use Rattle.std.proofs.Common.{◌≡◌, ℕ, Bool, true, false, [], Option, Some, None, sym, subst, refl, ◌∙◌, ap, unwrap_or}
 use Rattle.std.specs.Prelude.{if◌then◌else◌}
-use Rattle.std.specs.List.{list_all, list_any}
-use Rattle.std.proofs.lemmas.Bool.{and_parts, or_cases, eqb-true, both_ways, not-true, true≢false}
-use Rattle.kan_terms.specs.Tree.{Tree, Tm}
-use Rattle.kan_model.specs.Programs.Goals.{Primitive}
+use Rattle.std.specs.List.{list_all}
+use Rattle.std.proofs.lemmas.Bool.{and_parts, both_ways, true≢false}
 use Rattle.kan_model.specs.Stores.Store.{Store}
-use Rattle.kan_model.specs.Stores.Solve.{Replacement, apply, solve_store}
-use Rattle.kan_model.specs.Stores.Kept.{allows, is_variable, gives_type, has_type, lacks_type, gives_one_type, holds_under, holds_with, is_kept}
+use Rattle.kan_model.specs.Stores.Solve.{Replacement, solve_store}
+use Rattle.kan_model.specs.Stores.Kept.{allows, has_type, gives_one_type, holds_under, holds_with, is_kept}
 use Rattle.kan_model.specs.Stores.Calls.{answer, kind_at}
+use Rattle.kan_model.proofs.Answering.AnswerLaws.{symbol_alone, string_alone, where_given}
 use Rattle.reify.specs.Typing.{kind_test}
 use Rattle.kan_model.specs.declared.prims.Kind.{Kind}
 use Rattle.kan_model.specs.declared.prims.Kind.TheVariants.{Symbol, Number, Text}
-
--- a variable that has a type has no other one
-module _ (s : Replacement) (ps : List (Primitive Tm)) (v : ℕ) where
-  without_type : (kind : Kind) (t : Tm) → lacks_type kind s ps t ≡ true → is_variable v t ≡ true → has_type kind s ps v ≡ false
-  without_type kind (Tree.leaf w) h k = subst (λ x. has_type kind s ps x ≡ false) (sym (eqb-true v w k)) (not-true (has_type kind s ps w) h)
-  without_type kind (Tree.sym r) h k = absurd (true≢false (sym k))
-  without_type kind (Tree.str r) h k = absurd (true≢false (sym k))
-  without_type kind (Tree.num n) h k = absurd (true≢false (sym k))
-  without_type kind (Tree.truth b) h k = absurd (true≢false (sym k))
-  without_type kind Tree.nil h k = absurd (true≢false (sym k))
-  without_type kind (Tree.pair a b) h k = absurd (true≢false (sym k))
-
-  symbol_alone : (q : Primitive Tm) → gives_one_type s ps q ≡ true → gives_type Symbol s v q ≡ true → (has_type Number s ps v ≡ false) × (has_type Text s ps v ≡ false)
-  symbol_alone (Primitive.symbol a) h k =
-      let (number, string) = and_parts (lacks_type Number s ps (apply s a)) (lacks_type Text s ps (apply s a)) h in
-      (without_type Number (apply s a) number k, without_type Text (apply s a) string k)
-  symbol_alone (Primitive.same a b) h k = absurd (true≢false (sym k))
-  symbol_alone (Primitive.differ a b) h k = absurd (true≢false (sym k))
-  symbol_alone (Primitive.number a) h k = absurd (true≢false (sym k))
-  symbol_alone (Primitive.text a) h k = absurd (true≢false (sym k))
-  symbol_alone (Primitive.absent t a) h k = absurd (true≢false (sym k))
-
-  string_alone : (q : Primitive Tm) → gives_one_type s ps q ≡ true → gives_type Text s v q ≡ true → has_type Number s ps v ≡ false
-  string_alone (Primitive.text a) h k = without_type Number (apply s a) h k
-  string_alone (Primitive.same a b) h k = absurd (true≢false (sym k))
-  string_alone (Primitive.differ a b) h k = absurd (true≢false (sym k))
-  string_alone (Primitive.symbol a) h k = absurd (true≢false (sym k))
-  string_alone (Primitive.number a) h k = absurd (true≢false (sym k))
-  string_alone (Primitive.absent t a) h k = absurd (true≢false (sym k))
-
-  -- what follows from each primitive that gives a type follows where one does
-  where_given : (kind : Kind) (P : Type 0) → ((q : Primitive Tm) → gives_one_type s ps q ≡ true → gives_type kind s v q ≡ true → P) →
-      (qs : List (Primitive Tm)) → list_all (gives_one_type s ps) qs ≡ true → list_any (gives_type kind s v) qs ≡ true → P
-  where_given kind P follows [] h k = absurd (true≢false (sym k))
-  where_given kind P follows (q ∷ qs) h k =
-      let (first, rest) = and_parts (gives_one_type s ps q) (list_all (gives_one_type s ps) qs) h in
-      elim (or_cases (gives_type kind s v q) (list_any (gives_type kind s v) qs) k) [
-        | inl here ↦ follows q first here
-        | inr later ↦ where_given kind P follows qs rest later
-      ]
 
 -- the constraints of a kept store hold under its answer
 pub answer_holds : (st : Store) → is_kept st ≡ true → (solve_store st ≡ Some (answer st)) × (holds_under st.prims (answer st) ≡ true)

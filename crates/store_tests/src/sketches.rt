@@ -25,7 +25,7 @@ pub(crate) enum Atom {
     /// A string.
     Str(u32),
     /// A number.
-    Num(i128),
+    Num(i64),
     /// The empty list.
     Nil,
 }

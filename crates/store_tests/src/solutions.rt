@@ -60,7 +60,7 @@ fn value_of(term: Sketch, values: Values) -> Option<Value> {
         Sketch::Of(Atom::W) => Some(values.w),
         Sketch::Of(Atom::Sym(name)) => Some(Value::Sym(name)),
         Sketch::Of(Atom::Str(text)) => Some(Value::Str(text)),
-        Sketch::Of(Atom::Num(number)) => Some(Value::Num(number)),
+        Sketch::Of(Atom::Num(number)) => Some(Value::Num(i128::from(number))),
         Sketch::Of(Atom::Nil) => Some(Value::Nil),
         Sketch::Pair(_, _) => None,
     }

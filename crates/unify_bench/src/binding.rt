@@ -8,7 +8,7 @@ fn bind_number<B: Bindings>(bindings: &B, var: u64) -> Result<B, Memory> {
     if bindings.get(var).is_some() {
         return bindings.again();
     }
-    bindings.bind(var, &Term::Num(i128::from(var)))
+    bindings.bind(var, &Term::Num(var as i64))
 }
 
 /// Binds so many variables, keeps all versions, and says how many there are.

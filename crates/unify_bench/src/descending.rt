@@ -30,7 +30,8 @@ fn unified<B: Bindings>(alloc: Global, left: &Term, right: &Term, bindings: B) -
 fn numbers(alloc: Global, count: u64) -> Result<Term, Memory> {
     let mut list = Term::Nil;
     for at in 0..count {
-        list = Term::pair(alloc, Term::Num(i128::from(count - 1 - at)), list)?;
+        let number = Term::number(alloc, i128::from(count - 1 - at))?;
+        list = Term::pair(alloc, number, list)?;
     }
     Ok(list)
 }

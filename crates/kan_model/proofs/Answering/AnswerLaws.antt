@@ -126,7 +126,7 @@ module _ (s : Replacement) (ps : List (Primitive Tm)) (v : ℕ) where
   without_type kind Tree.nil h k = absurd (true≢false (sym k))
   without_type kind (Tree.pair a b) h k = absurd (true≢false (sym k))
 
-  symbol_alone : (q : Primitive Tm) → gives_one_type s ps q ≡ true → gives_type Symbol s v q ≡ true → (has_type Number s ps v ≡ false) × (has_type Text s ps v ≡ false)
+  pub symbol_alone : (q : Primitive Tm) → gives_one_type s ps q ≡ true → gives_type Symbol s v q ≡ true → (has_type Number s ps v ≡ false) × (has_type Text s ps v ≡ false)
   symbol_alone (Primitive.symbol a) h k =
       let (number, string) = and_parts (lacks_type Number s ps (apply s a)) (lacks_type Text s ps (apply s a)) h in
       (without_type Number (apply s a) number k, without_type Text (apply s a) string k)
@@ -136,7 +136,7 @@ module _ (s : Replacement) (ps : List (Primitive Tm)) (v : ℕ) where
   symbol_alone (Primitive.text a) h k = absurd (true≢false (sym k))
   symbol_alone (Primitive.absent t a) h k = absurd (true≢false (sym k))
 
-  string_alone : (q : Primitive Tm) → gives_one_type s ps q ≡ true → gives_type Text s v q ≡ true → has_type Number s ps v ≡ false
+  pub string_alone : (q : Primitive Tm) → gives_one_type s ps q ≡ true → gives_type Text s v q ≡ true → has_type Number s ps v ≡ false
   string_alone (Primitive.text a) h k = without_type Number (apply s a) h k
   string_alone (Primitive.same a b) h k = absurd (true≢false (sym k))
   string_alone (Primitive.differ a b) h k = absurd (true≢false (sym k))
@@ -145,7 +145,7 @@ module _ (s : Replacement) (ps : List (Primitive Tm)) (v : ℕ) where
   string_alone (Primitive.absent t a) h k = absurd (true≢false (sym k))
 
   -- what follows from each primitive that gives a type follows where one does
-  where_given : (kind : Kind) (P : Type 0) → ((q : Primitive Tm) → gives_one_type s ps q ≡ true → gives_type kind s v q ≡ true → P) →
+  pub where_given : (kind : Kind) (P : Type 0) → ((q : Primitive Tm) → gives_one_type s ps q ≡ true → gives_type kind s v q ≡ true → P) →
       (qs : List (Primitive Tm)) → list_all (gives_one_type s ps) qs ≡ true → list_any (gives_type kind s v) qs ≡ true → P
   where_given kind P follows [] h k = absurd (true≢false (sym k))
   where_given kind P follows (q ∷ qs) h k =

@@ -8,4 +8,4 @@ use Rattle.kan_model.proofs.letters.put_on_stack.Goals as goal
 pub returns-in_ok-push-in-Some : goal.returns-in_ok-push-in-Some
 returns-in_ok-push-in-Some c =
     puts_atom _ _ _ _ c.in_ok-push-in-Some.ensures.items
-        (subst (λ made. IsAtomOf c.args.letter (option_map tree made)) c.in-Some.is c.in_ok-atom.ensures)
+    (subst (λ made. IsAtomOf c.args.letter (option_map tree made)) c.in-Some.is c.in_ok-atom.ensures)
