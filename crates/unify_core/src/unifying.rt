@@ -348,9 +348,8 @@ fn added_by_ends<B: Bindings>(
     )
 }
 
-/// What unification of two terms would add to bindings; None where there is no unifier. It makes no
-/// bindings.
-pub fn added_by<B: Bindings>(
+// What unification of two terms would add to bindings.
+fn added_by<B: Bindings>(
     alloc: Global,
     left: &Term,
     right: &Term,
@@ -366,9 +365,8 @@ pub fn added_by<B: Bindings>(
     added_by_ends(alloc, left_end, right_end, bindings)
 }
 
-/// Bindings with all that unification adds to them, one after the other: in place where nobody else
-/// holds them.
-pub fn bind_added<B: Bindings>(bindings: B, added: &[TermPair]) -> Result<B, Memory>
+// Binds what unification added, one after the other.
+fn bind_all<B: Bindings>(bindings: B, added: &[TermPair]) -> Result<B, Memory>
     requires { (new : Pairs) × AddedTo (B.pairs bindings) (map sides added.now) new }
     ensures { IfOk result
         (λ made. AddedTo (B.pairs bindings) (map sides added.now) (B.pairs made)) }
@@ -409,7 +407,7 @@ pub fn unify_owned<B: Bindings>(
     match added_by(alloc, left, right, &bindings)? {
         None => Ok(None),
         Some(added) => {
-            let bindings = bind_added(bindings, added.items())?;
+            let bindings = bind_all(bindings, added.items())?;
             Ok(Some(Unified { bindings, added }))
         }
     }

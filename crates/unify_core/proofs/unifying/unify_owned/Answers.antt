@@ -4,8 +4,8 @@ use Rattle.unify_core.specs.Solutions.{equation}
 use Rattle.unify_core.proofs.Steps.UnifyClauses.{puts, puts_no_cycle, puts_solutions, puts_some, puts_none}
 use Rattle.unify_core.proofs.unifying.unify_owned.Goals as goal
 
-pub bind_added-requires : goal.bind_added-requires
-bind_added-requires g c =
+pub bind_all-requires : goal.bind_all-requires
+bind_all-requires g c =
     puts (g.B.Bindings.pairs c.args.bindings) c.requires (equation (tree c.args.left.now) (tree c.args.right.now) ∷ []) (map sides c.items.result.now)
     (rw c.items.ensures (rw c.in-Some.is at c.in_ok-added_by.ensures))
 
