@@ -10,7 +10,7 @@ pub mod GoalsLeft
 pub mod StackSteps
 pub mod FormsBuilt
 pub mod CallsThere
-pub mod LowTemplates
+pub mod TemplateHeights
 pub mod InContext
 pub mod WorkDone
 pub mod GoalAdded

@@ -74,7 +74,8 @@ impl Draft {
     fn are_bodies_in_scope(&self) -> bool
         ensures { result
             ≡ list_all (λ r. nat_lt r.body (length (drafts.tables self.now).goals)
-            && in_scope r.params (goal_at (drafts.goals self.now) r.body)) self.now.relations.items }
+            && in_scope r.params (goal_at (drafts.goals self.now) r.body))
+            self.now.relations.items }
     {
         self.relations
             .iter()

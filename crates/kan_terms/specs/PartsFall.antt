@@ -2,7 +2,8 @@
 use Rattle.std.specs.Prelude.{◌≤◌, ◌+◌, max}
 use Rattle.std.proofs.Common.{arith}
 use Rattle.kan_terms.specs.declared.terms.Term.{Term}
-use Rattle.kan_terms.specs.declared.terms.Term.TheVariants.{Var, Sym, Str, Num, Large, Truth, Nil, Pair}
+use Rattle.kan_terms.specs.declared.terms.Term.TheVariants.{Var, Sym, Str, Num, Large, Truth}
+use Rattle.kan_terms.specs.declared.terms.Term.TheVariants.{Nil, Pair}
 use Rattle.kan_terms.specs.declared.terms.PairParts.TheDeep.{deep-Term}
 use Rattle.kan_terms.specs.Tree.{size}
 use Rattle.kan_terms.specs.Terms.{tree}

@@ -3,7 +3,8 @@ use Rattle.std.specs.Arc.{arc_value}
 use Rattle.kan_terms.specs.Tree.{Tree, Tm}
 use Rattle.kan_terms.specs.declared.terms.Term.{Term}
 use Rattle.kan_terms.specs.declared.terms.TermPair.{TermPair}
-use Rattle.kan_terms.specs.declared.terms.Term.TheVariants.{Var, Sym, Str, Num, Large, Truth, Nil, Pair}
+use Rattle.kan_terms.specs.declared.terms.Term.TheVariants.{Var, Sym, Str, Num, Large, Truth}
+use Rattle.kan_terms.specs.declared.terms.Term.TheVariants.{Nil, Pair}
 
 -- the tree of a term, whose pairs and large numbers lie behind pointers
 abbrev pub tree : Term → Tm

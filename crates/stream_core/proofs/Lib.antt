@@ -6,7 +6,7 @@ pub mod StreamLaws
 pub mod TableLaws
 pub mod TableKinds
 pub mod CounterLaws
-pub mod Ways
+pub mod Paths
 pub mod ClosedLaws
 pub mod FitLaws
 pub mod TaskLaws

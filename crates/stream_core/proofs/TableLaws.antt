@@ -5,7 +5,7 @@ use Rattle.kan_model.specs.declared.program.Program as code
 use Rattle.kan_model.specs.Stores.Store as facts
 use Rattle.stream_core.specs.CodeTasks.{stack}
 use Rattle.stream_core.specs.Tables.{Told, Table, BothTold, InnerStays, KeepsSame, KeepsAll, KeepsMore, KeepsWay, GrowsBy, OnlyAdds, Grows, IsTableOf, IsKept}
-use Rattle.stream_core.specs.WaysDown.{Leads, EndsWay}
+use Rattle.stream_core.specs.PathDown.{Leads, EndsPath}
 use Rattle.stream_core.specs.declared.streams.Stream.{Stream}
 use Rattle.stream_core.proofs.StackLaws.{stack-pop}
 use Rattle.stream_core.proofs.StreamLaws.{stays-twice}
@@ -140,9 +140,9 @@ module _ {I : Type 0} where
   none-or-last None last h = h
   none-or-last (Some told) last h = inr h
 
-  way-end : {St : Type 0} (means : St → facts.Store) (t : Table I) (last : I) (found : Option (Stream I St)) → EndsWay t means last found → IfSome t.told (λ told. (told.kept last ≡ true) ⊎ (told.inner last ≡ None))
-  way-end means t last None end = none-or-last t.told last end.1
-  way-end means t last (Some s) end = kept-or-last t.told last end.1
+  path-end : {St : Type 0} (means : St → facts.Store) (t : Table I) (last : I) (found : Option (Stream I St)) → EndsPath t means last found → IfSome t.told (λ told. (told.kept last ≡ true) ⊎ (told.inner last ≡ None))
+  path-end means t last None end = none-or-last t.told last end.1
+  path-end means t last (Some s) end = kept-or-last t.told last end.1
 
   both-last : (whole last : I) (ids : List I) (belonged : I → Type 0) (was is : Option (Told I)) → IfSome was (λ told. Leads told.inner whole ids last) →
       IfSome was (λ told. (told.kept last ≡ true) ⊎ (told.inner last ≡ None)) → BothTold (KeepsMore last) was is → BothTold (KeptUpTo belonged whole ids) was is
@@ -151,10 +151,10 @@ module _ {I : Type 0} where
   both-last whole last ids belonged None (Some b) leads end more = more
   both-last whole last ids belonged (Some a) None leads end more = more
 
-  pub kept-last : {St : Type 0} (means : St → facts.Store) (whole last : I) (ids : List I) (t u : Table I) (found : Option (Stream I St)) → EndsWay t means last found →
+  pub kept-last : {St : Type 0} (means : St → facts.Store) (whole last : I) (ids : List I) (t u : Table I) (found : Option (Stream I St)) → EndsPath t means last found →
       IfSome t.told (λ told. Leads told.inner whole (stack (λ (i : I). i) ids) last) → GrowsBy (KeepsMore last) t u → BothTold (KeptUpTo t.belongs whole (stack (λ (i : I). i) ids)) t.told u.told
   kept-last means whole last ids t u found end leads more =
-      both-last whole last (stack (λ (i : I). i) ids) t.belongs t.told u.told leads (way-end means t last found end) more.kept
+      both-last whole last (stack (λ (i : I). i) ids) t.belongs t.told u.told leads (path-end means t last found end) more.kept
 
   -- a stream that was found is kept already
   kept-twice : (last : I) (told : Told I) → told.kept last ≡ true → KeepsMore last told told

@@ -6,7 +6,7 @@ pub mod CodeTasks
 pub mod CallArguments
 pub mod CounterBounds
 pub mod InnerSuspensions
-pub mod WaysDown
+pub mod PathDown
 pub mod Surroundings
 pub mod CodeSurroundings
 pub mod TableKinds

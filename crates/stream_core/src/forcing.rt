@@ -13,7 +13,7 @@ ghost use Rattle.stream_core.specs.Tables.{IsTableOf, OnlyAdds, Grows, GrowsBy, 
 ghost use Rattle.stream_core.specs.Tables.{KeepsWay, BothTold, HasStream, HasThunk, stream_in};
 ghost use Rattle.stream_core.specs.Tables.{thunk_in, IsForce};
 ghost use Rattle.stream_core.specs.CodeTasks.{stack};
-ghost use Rattle.stream_core.specs.WaysDown.{IsWayFrom, IsNext, EndsWay, Leads};
+ghost use Rattle.stream_core.specs.PathDown.{IsPathFrom, IsNext, EndsPath, Leads};
 
 use crate::appending::append;
 use crate::copies::thunk_again;
@@ -159,38 +159,38 @@ fn inner_again<N: Nodes<St>, St: Store>(nodes: &N, id: &N::Id) -> Result<Option<
     }
 }
 
-// A way down from a suspension: the ids of those that have one inside, each inside the one before
+// A path down from a suspension: the ids of those that have one inside, each inside the one before
 // it, then the last one, and its stream, where that was found. Where it wasn't, the last one has
 // none inside.
 #[derive(Drop)]
-struct Way<I, St> {
+struct Path<I, St> {
     above: Vec<I>,
     last: I,
     found: Option<Stream<I, St>>,
 }
 
-// The way down from a suspension to the first whose stream is found, or to the one that has none
+// The path down from a suspension to the first whose stream is found, or to the one that has none
 // inside.
-fn way_down<N: Nodes<St>, St: Store>(
+fn path_down<N: Nodes<St>, St: Store>(
     alloc: Global,
     nodes: &N,
     id: &N::Id,
-) -> Result<Way<N::Id, St>, Memory>
+) -> Result<Path<N::Id, St>, Memory>
     requires belongs { (N.table nodes.now).belongs id.now }
     requires may { MayForce (N.table nodes.now).program ((N.table nodes.now).tree id.now) }
-    ensures above { IfOk result (λ way. IsWayFrom (N.table nodes.now)
-        ((N.table nodes.now).tree id.now) way.above.items) }
-    ensures last { IfOk result (λ way. IsNext (N.table nodes.now) ((N.table nodes.now).tree id.now)
-        way.above.items way.last) }
-    ensures end { IfOk result (λ way. EndsWay (N.table nodes.now) St.meaning way.last way.found) }
-    ensures leads { IfOk result (λ way. IfSome (N.table nodes.now).told
-        (λ told. Leads told.inner id.now (stack (λ at. at) way.above.items) way.last)) }
+    ensures above { IfOk result (λ path. IsPathFrom (N.table nodes.now)
+        ((N.table nodes.now).tree id.now) path.above.items) }
+    ensures last { IfOk result (λ path. IsNext (N.table nodes.now) ((N.table nodes.now).tree id.now)
+        path.above.items path.last) }
+    ensures end { IfOk result (λ path. EndsPath (N.table nodes.now) St.meaning path.last path.found) }
+    ensures leads { IfOk result (λ path. IfSome (N.table nodes.now).told
+        (λ told. Leads told.inner id.now (stack (λ at. at) path.above.items) path.last)) }
 {
     let mut above = Vec::new(alloc);
     let mut last = nodes.again(id)?;
     'down: loop {
         if let Some(stream) = nodes.found(alloc, &last)? {
-            return Ok(Way {
+            return Ok(Path {
                 above,
                 last,
                 found: Some(stream),
@@ -202,7 +202,7 @@ fn way_down<N: Nodes<St>, St: Store>(
                 last = inside;
             }
             None => {
-                return Ok(Way {
+                return Ok(Path {
                     above,
                     last,
                     found: None,
@@ -212,7 +212,7 @@ fn way_down<N: Nodes<St>, St: Store>(
     }
 }
 
-// The force of the last id on a way: the one that was found, or else one call or pause is expanded,
+// The force of the last id on a path: the one that was found, or else one call or pause is expanded,
 // and the stream kept.
 fn force_last<N: Nodes<St>, St: Store>(
     alloc: Global,
@@ -224,7 +224,7 @@ fn force_last<N: Nodes<St>, St: Store>(
     requires table { IsTableOf program.now (N.table nodes.old) }
     requires belongs { (N.table nodes.old).belongs last.now }
     requires may { MayForce (N.table nodes.old).program ((N.table nodes.old).tree last.now) }
-    requires end { EndsWay (N.table nodes.old) St.meaning last.now found }
+    requires end { EndsPath (N.table nodes.old) St.meaning last.now found }
     ensures force { IfOk result (IsForce (N.table nodes.new) St.meaning
         ((N.table nodes.old).tree last.now)) }
     ensures kept { OnOk result (GrowsBy (KeepsMore last.now) (N.table nodes.old)
@@ -242,7 +242,7 @@ fn force_last<N: Nodes<St>, St: Store>(
     }
 }
 
-// The force of an id on a way, where that of the one inside is there. It is kept.
+// The force of an id on a path, where that of the one inside is there. It is kept.
 fn force_around<N: Nodes<St>, St: Store>(
     alloc: Global,
     program: &Program,
@@ -288,12 +288,12 @@ pub fn force<N: Nodes<St>, St: Store>(
         (N.table nodes.old).told (N.table nodes.new).told) }
     ensures grows { Grows (N.table nodes.old) (N.table nodes.new) }
 {
-    let way = way_down(alloc, nodes, id)?;
-    let Way {
+    let path = path_down(alloc, nodes, id)?;
+    let Path {
         mut above,
         last,
         found,
-    } = way;
+    } = path;
     let mut stream = force_last(alloc, program, &last, found, nodes)?;
     while let Some(at) = above.pop() {
         stream = force_around(alloc, program, &at, stream, nodes)?;

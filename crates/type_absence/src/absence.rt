@@ -10,7 +10,7 @@ ghost use Rattle.type_absence.specs.Types.{made_if};
 ghost use Rattle.type_absence.specs.Tags.{has_any, with_tags};
 ghost use Rattle.type_absence.specs.Waiting.{names_one, put_on, Tagged};
 ghost use Rattle.unify_core.specs.Cycles.{HasNoCycle};
-ghost use Rattle.unify_core.specs.Lent.{parts_of, waiting_trees};
+ghost use Rattle.unify_core.specs.LentBindings.{parts_of, waiting_trees};
 ghost use Rattle.unify_core.specs.Walking.{full, walk};
 
 use crate::tags::{copied, lists, lists_all, put_all};

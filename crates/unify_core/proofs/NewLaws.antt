@@ -4,8 +4,8 @@ use Rattle.std.proofs.lemmas.Bool.{eqb-true, or_cases, false_from_ne_true}
 use Rattle.kan_terms.specs.Tree.{Tree, Tm, occurs}
 use Rattle.kan_terms.specs.Greatest.{greater, greatest_in, greatest_bound}
 use Rattle.kan_terms.proofs.TreeLaws.{occurs-fill}
-use Rattle.unify_core.specs.declared.walking.Lent.{Lent}
-use Rattle.unify_core.specs.Lent.{AllAbove, lent_pair, with_lent}
+use Rattle.unify_core.specs.declared.walking.LentBinding.{LentBinding}
+use Rattle.unify_core.specs.LentBindings.{AllAbove, lent_pair, with_lent}
 use Rattle.unify_core.specs.Walking.{Pairs, ends, full}
 use Rattle.unify_core.proofs.Grown.{full-newest, replace_absent}
 
@@ -71,18 +71,18 @@ full_up_to low (p ∷ older) (own, all) t h y inside =
     by z false e below of_term = omega (arith, eqb-true y z e, below)
 
 -- a new variable in front changes nothing
-new_same : (low : ℕ) (one : Lent) (bound : Pairs) (t : Tm) → UpTo low (full bound t) → low < one.var → full (lent_pair one ∷ bound) t ≡ full bound t
+new_same : (low : ℕ) (one : LentBinding) (bound : Pairs) (t : Tm) → UpTo low (full bound t) → low < one.var → full (lent_pair one ∷ bound) t ≡ full bound t
 new_same low one bound t h new =
     full-newest (lent_pair one) bound t
     ∙ replace_absent one.var _ (full bound t) (false_from_ne_true (occurs one.var (full bound t)) (λ inside. absurd (omega (arith, new, h one.var inside))))
 
-lent_up_to : (low : ℕ) (lent : List Lent) (bound : Pairs) (t : Tm) → UpTo low (full bound t) → AllAbove low lent → UpTo low (full (with_lent lent bound) t)
+lent_up_to : (low : ℕ) (lent : List LentBinding) (bound : Pairs) (t : Tm) → UpTo low (full bound t) → AllAbove low lent → UpTo low (full (with_lent lent bound) t)
 lent_up_to low [] bound t h above = h
 lent_up_to low (one ∷ more) bound t h (new, above) =
     lent_up_to low more (lent_pair one ∷ bound) t (subst (UpTo low) (sym (new_same low one bound t h new)) h) above
 
 -- a new variable doesn't stand in a term with old variables alone, where all that were lent are new too
-pub new_apart : (bound : Pairs) (lent : List Lent) (x : ℕ) (t : Tm) (low g : ℕ) → greatest_bound bound ≡ Some low → greatest_in t ≡ Some g → g ≤ low → low < x → AllAbove low lent →
+pub new_apart : (bound : Pairs) (lent : List LentBinding) (x : ℕ) (t : Tm) (low g : ℕ) → greatest_bound bound ≡ Some low → greatest_in t ≡ Some g → g ≤ low → low < x → AllAbove low lent →
     occurs x (full (with_lent lent bound) t) ≡ false
 new_apart bound lent x t low g old greatest le new above =
     false_from_ne_true (occurs x (full (with_lent lent bound) t)) (λ inside. absurd (omega (arith, new, below x inside)))

@@ -4,4 +4,4 @@ pub mod UnifyClauses
 pub mod OccursSteps
 pub mod WalkSteps
 pub mod LoadLaws
-pub mod LentLaws
+pub mod LentBindingLaws

@@ -1,6 +1,6 @@
 pub mod Cycles
 pub mod Laws
-pub mod Lent
+pub mod LentBindings
 pub mod Solutions
 pub mod Unifying
 pub mod Walking

@@ -5,10 +5,10 @@ ghost use Rattle.kan_model.specs.Stores.Kept as kept;
 ghost use Rattle.kan_terms.specs.Terms.{tree};
 ghost use Rattle.kan_terms.specs.Tree as trees;
 ghost use Rattle.unify_core.specs.Cycles.{HasNoCycle};
-ghost use Rattle.unify_core.specs.Lent.{AllAbove, open_parts, waiting_trees, with_lent};
+ghost use Rattle.unify_core.specs.LentBindings.{AllAbove, open_parts, waiting_trees, with_lent};
 ghost use Rattle.unify_core.specs.Walking.{IsOtherEnd, full, walk};
 
-use crate::walking::{Lent, walk_on};
+use crate::walking::{LentBinding, walk_on};
 use kan_terms::{Bindings, Memory, Term};
 use std::alloc::Global;
 
@@ -43,7 +43,7 @@ fn look_at<'a, B: Bindings>(
     var: u64,
     term: &'a Term,
     bindings: &'a B,
-    lent: &[Lent<'a>],
+    lent: &[LentBinding<'a>],
     waiting: &mut Vec<&'a Term>,
 ) -> Result<bool, Memory>
     requires { HasNoCycle (with_lent lent.now (B.pairs bindings.now)) }
@@ -68,7 +68,7 @@ pub fn occurs_on<'a, B: Bindings>(
     var: u64,
     term: &'a Term,
     bindings: &'a B,
-    lent: &[Lent<'a>],
+    lent: &[LentBinding<'a>],
 ) -> Result<bool, Memory>
     requires { HasNoCycle (with_lent lent.now (B.pairs bindings.now)) }
     ensures { IfOk result
@@ -88,7 +88,7 @@ pub fn occurs_on<'a, B: Bindings>(
 }
 
 // Whether all lent variables are above a number.
-fn all_above<'a>(low: u64, lent: &[Lent<'a>]) -> bool
+fn all_above<'a>(low: u64, lent: &[LentBinding<'a>]) -> bool
     ensures { IsTrue result → AllAbove low lent.now }
 {
     for one in lent {
@@ -101,7 +101,7 @@ fn all_above<'a>(low: u64, lent: &[Lent<'a>]) -> bool
 
 // Whether it is known without a look that the variable doesn't stand in the term: the term has no
 // variable, or it has old ones alone, and the variable and all that were lent are new.
-fn is_apart<'a, B: Bindings>(var: u64, term: &Term, bindings: &B, lent: &[Lent<'a>]) -> bool
+fn is_apart<'a, B: Bindings>(var: u64, term: &Term, bindings: &B, lent: &[LentBinding<'a>]) -> bool
     ensures { IsTrue result →
         trees.occurs var (full (with_lent lent.now (B.pairs bindings.now)) (tree term.now)) ≡
         false }
@@ -128,7 +128,7 @@ pub fn is_inside<'a, B: Bindings>(
     var: u64,
     term: &'a Term,
     bindings: &'a B,
-    lent: &[Lent<'a>],
+    lent: &[LentBinding<'a>],
 ) -> Result<bool, Memory>
     requires no_cycle { HasNoCycle (with_lent lent.now (B.pairs bindings.now)) }
     requires other { IsOtherEnd (with_lent lent.now (B.pairs bindings.now)) var (tree term.now) }

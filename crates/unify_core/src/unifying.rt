@@ -7,9 +7,9 @@ ghost use Rattle.kan_model.specs.Stores.Solve as solver;
 ghost use Rattle.kan_terms.specs.Terms.{sides, tree};
 ghost use Rattle.kan_terms.specs.Tree.{Gd, fill};
 ghost use Rattle.unify_core.specs.Cycles.{HasNoCycle};
-ghost use Rattle.unify_core.specs.Lent.{Binds, MeetsTo, StepTo, equation_of, equations_ahead};
-ghost use Rattle.unify_core.specs.Lent.{left_by, lent_sides, waiting_equations, with_lent};
-ghost use Rattle.unify_core.specs.Lent.{with_next};
+ghost use Rattle.unify_core.specs.LentBindings.{Binds, MeetsTo, StepTo, equation_of, equations_ahead};
+ghost use Rattle.unify_core.specs.LentBindings.{left_by, lent_sides, waiting_equations, with_lent};
+ghost use Rattle.unify_core.specs.LentBindings.{with_next};
 ghost use Rattle.unify_core.specs.Solutions.{AddedTo, IsSolution, bindings_solved, equation};
 ghost use Rattle.unify_core.specs.Unifying.{Adds, AddsBinding, Unifying, meeting, met};
 ghost use Rattle.unify_core.specs.Unifying.{same_atoms, taken_apart};
@@ -17,7 +17,7 @@ ghost use Rattle.unify_core.specs.Walking as walking;
 ghost use Rattle.unify_core.specs.Walking.{IsOtherEnd, Pairs};
 
 use crate::occurring::{is_inside, is_variable};
-use crate::walking::{Lent, walk, walk_on};
+use crate::walking::{LentBinding, walk, walk_on};
 use kan_terms::{Bindings, Memory, Term, TermPair, TermPairs};
 use std::alloc::Global;
 
@@ -95,7 +95,7 @@ fn bind_unless_inside<'a, B: Bindings>(
     var: u64,
     term: &'a Term,
     bindings: &'a B,
-    lent: &mut Vec<Lent<'a>>,
+    lent: &mut Vec<LentBinding<'a>>,
 ) -> Result<Met<'a>, Memory>
     requires no_cycle { HasNoCycle (with_lent lent.old.items (B.pairs bindings.now)) }
     requires other { IsOtherEnd (with_lent lent.old.items (B.pairs bindings.now)) var
@@ -107,7 +107,7 @@ fn bind_unless_inside<'a, B: Bindings>(
     if is_inside(alloc, var, term, bindings, lent)? {
         return Ok(Met::Clash);
     }
-    lent.push(Lent { var, term })?;
+    lent.push(LentBinding { var, term })?;
     Ok(Met::Same)
 }
 
@@ -117,7 +117,7 @@ fn meet<'a, B: Bindings>(
     alloc: Global,
     next: Sides<'a>,
     bindings: &'a B,
-    lent: &mut Vec<Lent<'a>>,
+    lent: &mut Vec<LentBinding<'a>>,
 ) -> Result<Met<'a>, Memory>
     requires { HasNoCycle (with_lent lent.old.items (B.pairs bindings.now)) }
     ensures { IfOk result
@@ -176,7 +176,7 @@ fn step<'a, B: Bindings>(
     alloc: Global,
     next: Sides<'a>,
     bindings: &'a B,
-    lent: &mut Vec<Lent<'a>>,
+    lent: &mut Vec<LentBinding<'a>>,
     ahead: &mut Ahead<'a>,
 ) -> Result<Option<Option<Sides<'a>>>, Memory>
     requires { HasNoCycle (with_lent lent.old.items (B.pairs bindings.now)) }
@@ -203,7 +203,7 @@ fn lend_bindings<'a, B: Bindings>(
     first: Option<Sides<'a>>,
     waiting: Vec<Sides<'a>>,
     bindings: &'a B,
-) -> Result<Option<Vec<Lent<'a>>>, Memory>
+) -> Result<Option<Vec<LentBinding<'a>>>, Memory>
     requires { HasNoCycle (B.pairs bindings.now) }
     ensures { IfOk result
         (λ found. Unifying (B.pairs bindings.now)
@@ -225,8 +225,8 @@ fn lend_bindings<'a, B: Bindings>(
     Ok(Some(lent))
 }
 
-// Lent bindings as pairs of terms.
-fn owned<'a>(alloc: Global, lent: &[Lent<'a>]) -> Result<TermPairs, Memory>
+// LentBinding bindings as pairs of terms.
+fn owned<'a>(alloc: Global, lent: &[LentBinding<'a>]) -> Result<TermPairs, Memory>
     ensures { IfOk result (λ made. map sides made ≡ lent_sides lent.now) }
 {
     let mut made = Vec::with_capacity(alloc, lent.len())?;

@@ -5,7 +5,7 @@ ghost use Rattle.std.specs.Option.{option_map};
 ghost use Rattle.kan_terms.specs.Bound.{bound_to};
 ghost use Rattle.kan_terms.specs.Terms.{tree};
 ghost use Rattle.unify_core.specs.Cycles.{HasNoCycle};
-ghost use Rattle.unify_core.specs.Lent.{with_lent};
+ghost use Rattle.unify_core.specs.LentBindings.{with_lent};
 ghost use Rattle.unify_core.specs.Walking.{walk};
 
 use kan_terms::{Bindings, Term};
@@ -13,7 +13,7 @@ use kan_terms::{Bindings, Term};
 /// A variable that a unification has bound, with its term, which is lent by the sides or by the
 /// bindings.
 #[derive(Clone, Copy)]
-pub struct Lent<'a> {
+pub struct LentBinding<'a> {
     /// The variable.
     pub var: u64,
     /// What it is bound to.
@@ -21,7 +21,7 @@ pub struct Lent<'a> {
 }
 
 // The term that a variable is bound to, looked for in the lent bindings first, the last one first.
-fn find<'a, B: Bindings>(var: u64, bindings: &'a B, lent: &[Lent<'a>]) -> Option<&'a Term>
+fn find<'a, B: Bindings>(var: u64, bindings: &'a B, lent: &[LentBinding<'a>]) -> Option<&'a Term>
     ensures { option_map (λ term. tree term.now) result ≡
         bound_to var (with_lent lent.now (B.pairs bindings.now)) }
 {
@@ -37,7 +37,11 @@ fn find<'a, B: Bindings>(var: u64, bindings: &'a B, lent: &[Lent<'a>]) -> Option
 }
 
 /// What a term walks to under bindings with lent ones in front of them.
-pub fn walk_on<'a, B: Bindings>(term: &'a Term, bindings: &'a B, lent: &[Lent<'a>]) -> &'a Term
+pub fn walk_on<'a, B: Bindings>(
+    term: &'a Term,
+    bindings: &'a B,
+    lent: &[LentBinding<'a>],
+) -> &'a Term
     requires { HasNoCycle (with_lent lent.now (B.pairs bindings.now)) }
     ensures { tree result.now ≡ walk (with_lent lent.now (B.pairs bindings.now)) (tree term.now) }
 {

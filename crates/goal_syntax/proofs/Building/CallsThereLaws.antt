@@ -17,7 +17,7 @@ use Rattle.kan_model.specs.Programs.Tables.{RelationEntry, Tables, templates_of}
 use Rattle.kan_grammar.specs.Texts.TopForms.{Defined, form}
 use Rattle.goal_syntax.specs.Building.FormsBuilt.{asked_equation, asked_fresh}
 use Rattle.goal_syntax.specs.Building.CallsThere.{calls_named, bodies_named, queries_named, all_named, are_there, KeepsClosed}
-use Rattle.goal_syntax.specs.Building.LowTemplates.{KeepsLow}
+use Rattle.goal_syntax.specs.Building.TemplateHeights.{KeepsLow}
 use Rattle.goal_forms.specs.Parts.{site_at}
 use Rattle.goal_syntax.proofs.Building.TermHeightLaws.{low_on, low_same}
 use Rattle.goal_syntax.proofs.Compiling.CompilingLaws.{flat_next}

@@ -19,7 +19,7 @@ use Rattle.goal_forms.specs.Places.{are_below}
 use Rattle.kan_grammar.specs.Texts.ProgramText.{slot_list}
 use Rattle.goal_syntax.specs.Building.TermHeights.{all_low, WorksLow}
 use Rattle.goal_forms.specs.Heights.{AreLow}
-use Rattle.goal_syntax.specs.Building.LowTemplates.{KeepsLow}
+use Rattle.goal_syntax.specs.Building.TemplateHeights.{KeepsLow}
 use Rattle.goal_forms.specs.Parts.{site_at}
 use Rattle.goal_forms.specs.TermSteps.{task_form}
 use Rattle.goal_forms.specs.declared.term.Task.{Task}

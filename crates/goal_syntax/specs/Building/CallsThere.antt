@@ -5,7 +5,7 @@ use Rattle.kan_model.specs.Programs.Goals.{Goal, Relation, Query}
 use Rattle.kan_model.specs.Programs.Calls.{call_there, entry_takes}
 use Rattle.kan_grammar.specs.Texts.Sited.{Sited}
 use Rattle.kan_model.specs.Programs.Tables.{GoalEntry, RelationEntry, Tables}
-use Rattle.goal_syntax.specs.Building.LowTemplates.{KeepsLow}
+use Rattle.goal_syntax.specs.Building.TemplateHeights.{KeepsLow}
 
 -- each call in a goal names a relation of these entries and has as many arguments as that takes
 abbrev pub calls_named : List RelationEntry → Goal → Bool

@@ -26,7 +26,7 @@ use Rattle.goal_syntax.specs.Building.Named.{Lacks, data_unnamed}
 use Rattle.goal_syntax.specs.Building.Widths.{goals_width, forms_width}
 use Rattle.goal_syntax.specs.Building.TermsLeft as TermsLeft
 use Rattle.goal_syntax.specs.Building.Entries.{goals_size, forms_size}
-use Rattle.goal_syntax.specs.Building.LowTemplates.{KeepsLow}
+use Rattle.goal_syntax.specs.Building.TemplateHeights.{KeepsLow}
 use Rattle.goal_syntax.specs.declared.build_goal.Work.{Work}
 use Rattle.goal_syntax.specs.declared.build_term.Work as terms
 

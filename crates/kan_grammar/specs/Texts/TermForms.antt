@@ -24,8 +24,8 @@ quote_form at (Sited.pair _ d (Sited.nil _)) = constant d
 quote_form at _ = bad_term at
 
 -- a symbol is a variable, another atom is itself, and a list is what its head says of the parts
--- after it. A template is a constant but for the terms that are unquoted in it; no other pair of it begins
--- with unquote, and none with quasiquote
+-- after it. A template is a constant but for the terms that are unquoted in it; no other pair of it
+-- begins with unquote, and none with quasiquote
 abbrev mutual
   pub term_form : Table → Sited → TermForm
   term_form t (Sited.name at s) = Tree.leaf (Use.variable at s)

@@ -21,7 +21,7 @@ use Rattle.stream_core.specs.declared.nodes.Parted.{Parted}
 use Rattle.stream_core.specs.declared.nodes.Closed.{Closed}
 use Rattle.stream_core.specs.declared.nodes.Closed.TheVariants as ways
 use Rattle.stream_core.specs.declared.linked_ids.Level.TheVariants as levels
-use Rattle.stream_core.proofs.Ways.AroundLaws.{within-fits, all-fits, made-force}
+use Rattle.stream_core.proofs.Paths.AroundLaws.{within-fits, all-fits, made-force}
 use Rattle.stream_core.proofs.ClosedLaws.{ProgramIsClosed}
 use Rattle.stream_core.proofs.FitLaws.{force-fits}
 use Rattle.stream_core.specs.Surroundings as outer

@@ -10,7 +10,7 @@ use Rattle.kan_terms.proofs.TreeLaws.{size-positive}
 use Rattle.kan_model.specs.Stores.Kept.{is_variable}
 use Rattle.unify_core.specs.Walking.{Pairs, walk, full}
 use Rattle.unify_core.specs.Cycles.{HasNoCycle}
-use Rattle.unify_core.specs.Lent.{waiting_trees, parts_of, open_parts}
+use Rattle.unify_core.specs.LentBindings.{waiting_trees, parts_of, open_parts}
 use Rattle.unify_core.proofs.Grown.{ends-unbound}
 use Rattle.unify_core.proofs.CycleLaws.{grown}
 use Rattle.unify_core.proofs.WalkLaws.{full-walk, walk-end}

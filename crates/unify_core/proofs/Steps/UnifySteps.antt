@@ -7,15 +7,15 @@ use Rattle.kan_terms.specs.Terms.{tree}
 use Rattle.kan_terms.specs.declared.terms.TermPair.{TermPair}
 use Rattle.kan_model.specs.Stores.Prims.{equation as pair_equation}
 use Rattle.kan_model.specs.Stores.Store.{Equation}
-use Rattle.unify_core.specs.declared.walking.Lent.{Lent}
+use Rattle.unify_core.specs.declared.walking.LentBinding.{LentBinding}
 use Rattle.unify_core.specs.declared.unifying.Sides.{Sides}
 use Rattle.unify_core.specs.declared.unifying.Met.{Met}
 use Rattle.unify_core.specs.Walking.{Pairs}
 use Rattle.unify_core.specs.Cycles.{HasNoCycle}
-use Rattle.unify_core.specs.Lent.{lent_pair, with_lent, lent_sides, equation_of, waiting_equations, with_top, with_next, MeetsTo, StepTo}
+use Rattle.unify_core.specs.LentBindings.{lent_pair, with_lent, lent_sides, equation_of, waiting_equations, with_top, with_next, MeetsTo, StepTo}
 use Rattle.unify_core.specs.Unifying.{Meeting, met, Unifying}
 use Rattle.unify_core.proofs.CycleLaws.{grown, no_cycle}
-use Rattle.unify_core.proofs.Steps.LentLaws.{with_lent-push}
+use Rattle.unify_core.proofs.Steps.LentBindingLaws.{with_lent-push}
 use Rattle.unify_core.proofs.Steps.LoadLaws.{left_over, falls_same, falls_parts, falls_binding}
 use Rattle.unify_core.proofs.Relation.UnifyingLaws.{binding_grows}
 
@@ -39,13 +39,13 @@ popped old new None split none = ap waiting_equations (sym (none refl))
 popped old new (Some s) split none = sym (ap waiting_equations split ∙ equations-push new s)
 
 -- a step by what two terms leave that were met
-pub step_same : (bound : Pairs) (lent lent' : List Lent) (behind left : List Equation) (m : Meeting) → MeetsTo bound lent Met.Same lent' m → left ≡ behind → StepTo bound lent behind (Some left) lent' m
+pub step_same : (bound : Pairs) (lent lent' : List LentBinding) (behind left : List Equation) (m : Meeting) → MeetsTo bound lent Met.Same lent' m → left ≡ behind → StepTo bound lent behind (Some left) lent' m
 step_same bound lent lent' behind left Meeting.nothing (same, asks) e = (same, ap Some e)
 step_same bound lent lent' behind left (Meeting.parts first rest) (same, asks) e = cc
 step_same bound lent lent' behind left (Meeting.binding x t) binds e = (binds, e)
 step_same bound lent lent' behind left Meeting.clash (same, asks) e = cc
 
-pub step_parts : (bound : Pairs) (lent lent' : List Lent) (behind left : List Equation) (one other : Sides) (m : Meeting) → MeetsTo bound lent (Met.Parts one other) lent' m →
+pub step_parts : (bound : Pairs) (lent lent' : List LentBinding) (behind left : List Equation) (one other : Sides) (m : Meeting) → MeetsTo bound lent (Met.Parts one other) lent' m →
     left ≡ equation_of one ∷ equation_of other ∷ behind → StepTo bound lent behind (Some left) lent' m
 step_parts bound lent lent' behind left one other Meeting.nothing (same, asks) e = cc
 step_parts bound lent lent' behind left one other (Meeting.parts first rest) (same, asks) e =
@@ -55,14 +55,14 @@ step_parts bound lent lent' behind left one other (Meeting.parts first rest) (sa
 step_parts bound lent lent' behind left one other (Meeting.binding x t) never e = absurd never
 step_parts bound lent lent' behind left one other Meeting.clash (same, asks) e = cc
 
-pub step_clash : (bound : Pairs) (lent lent' : List Lent) (behind : List Equation) (m : Meeting) → MeetsTo bound lent Met.Clash lent' m → StepTo bound lent behind None lent' m
+pub step_clash : (bound : Pairs) (lent lent' : List LentBinding) (behind : List Equation) (m : Meeting) → MeetsTo bound lent Met.Clash lent' m → StepTo bound lent behind None lent' m
 step_clash bound lent lent' behind Meeting.nothing (same, asks) = cc
 step_clash bound lent lent' behind (Meeting.parts first rest) (same, asks) = cc
 step_clash bound lent lent' behind (Meeting.binding x t) inside = inside
 step_clash bound lent lent' behind Meeting.clash (same, asks) = refl
 
 -- whatever the equations that are left add stands behind what was lent so far, and all together is what the whole equations add
-abbrev pub Leads : Pairs → List Equation → List Lent → List Equation → Type 0
+abbrev pub Leads : Pairs → List Equation → List LentBinding → List Equation → Type 0
 Leads bound whole lent es = (r : Option (List (Tm × Tm))) → Unifying (with_lent lent bound) es r → Unifying bound whole (option_map (λ more. lent_sides lent ++ more) r)
 
 nothing_before : (r : Option (List (Tm × Tm))) → r ≡ option_map (λ more. [] ++ more) r
@@ -73,7 +73,7 @@ leads_whole : (bound : Pairs) (whole : List Equation) → Leads bound whole [] w
 leads_whole bound whole r d = subst (Unifying bound whole) (nothing_before r) d
 
 -- one more lent binding
-one_more : (lent lent' : List Lent) (one : Lent) (x : ℕ) (t : Tm) → lent_pair one ≡ (x, t) → lent' ≡ lent ++ one ∷ [] → (r : Option (List (Tm × Tm))) →
+one_more : (lent lent' : List LentBinding) (one : LentBinding) (x : ℕ) (t : Tm) → lent_pair one ≡ (x, t) → lent' ≡ lent ++ one ∷ [] → (r : Option (List (Tm × Tm))) →
     option_map (λ more. lent_sides lent ++ more) (option_map (λ more. (Tree.leaf x, t) ∷ more) r) ≡ option_map (λ more. lent_sides lent' ++ more) r
 one_more lent lent' one x t is put None = refl
 one_more lent lent' one x t is put (Some more) =
@@ -81,11 +81,11 @@ one_more lent lent' one x t is put (Some more) =
     ∙ ap Some (sym (append_assoc (lent_sides lent) ((Tree.leaf one.var, tree one.term.now) ∷ []) more)
     ∙ ap (λ xs. xs ++ more) (sym (map_push (λ l. (Tree.leaf l.var, tree l.term.now)) lent one) ∙ ap lent_sides (sym put)))
 
-lent_more : (bound : Pairs) (lent lent' : List Lent) (one : Lent) (x : ℕ) (t : Tm) → lent_pair one ≡ (x, t) → lent' ≡ lent ++ one ∷ [] → (x, t) ∷ with_lent lent bound ≡ with_lent lent' bound
+lent_more : (bound : Pairs) (lent lent' : List LentBinding) (one : LentBinding) (x : ℕ) (t : Tm) → lent_pair one ≡ (x, t) → lent' ≡ lent ++ one ∷ [] → (x, t) ∷ with_lent lent bound ≡ with_lent lent' bound
 lent_more bound lent lent' one x t is put =
     ap (λ p. p ∷ with_lent lent bound) (sym is) ∙ sym (with_lent-push lent one bound) ∙ ap (λ ls. with_lent ls bound) (sym put)
 
-module _ (bound : Pairs) (whole : List Equation) (e : Equation) (es : List Equation) (lent lent' : List Lent) where
+module _ (bound : Pairs) (whole : List Equation) (e : Equation) (es : List Equation) (lent lent' : List LentBinding) where
   -- what holds after a step that goes on
   abbrev pub AfterStep : List Equation → Type 0
   AfterStep es' = Leads bound whole lent' es' × HasNoCycle (with_lent lent' bound) × (left_over (with_lent lent' bound) es' < left_over (with_lent lent bound) (e ∷ es))
@@ -121,7 +121,7 @@ module _ (bound : Pairs) (whole : List Equation) (e : Equation) (es : List Equat
       by Meeting.clash asks stopped = leads None (Unifying.apart asks)
 
 -- one turn of the loop: what was next, and what a step left
-pub turn_on : (bound : Pairs) (whole : List Equation) (behind : List Equation) (next : Option Sides) (s : Sides) (lent lent' : List Lent) (left : Option (List Equation)) (es' : List Equation) →
+pub turn_on : (bound : Pairs) (whole : List Equation) (behind : List Equation) (next : Option Sides) (s : Sides) (lent lent' : List LentBinding) (left : Option (List Equation)) (es' : List Equation) →
     next ≡ Some s → Leads bound whole lent (with_next next behind) → HasNoCycle (with_lent lent bound) →
     StepTo bound lent behind left lent' (met (with_lent lent bound) (equation_of s)) → left ≡ Some es' →
     Leads bound whole lent' es' × HasNoCycle (with_lent lent' bound)
@@ -131,7 +131,7 @@ turn_on bound whole behind next s lent lent' left es' is leads h moved goes_on =
     (subst (λ l. StepTo bound lent behind l lent' (met (with_lent lent bound) (equation_of s))) goes_on moved) in
     (leads', h', subst (λ n. left_over (with_lent lent' bound) es' < left_over (with_lent lent bound) (with_next n behind)) (sym is) less)
 
-pub turn_off : (bound : Pairs) (whole : List Equation) (behind : List Equation) (next : Option Sides) (s : Sides) (lent lent' : List Lent) (left : Option (List Equation)) →
+pub turn_off : (bound : Pairs) (whole : List Equation) (behind : List Equation) (next : Option Sides) (s : Sides) (lent lent' : List LentBinding) (left : Option (List Equation)) →
     next ≡ Some s → Leads bound whole lent (with_next next behind) →
     StepTo bound lent behind left lent' (met (with_lent lent bound) (equation_of s)) → left ≡ None → Unifying bound whole None
 turn_off bound whole behind next s lent lent' left is leads moved stops =
@@ -139,12 +139,12 @@ turn_off bound whole behind next s lent lent' left is leads moved stops =
     (subst (λ l. StepTo bound lent behind l lent' (met (with_lent lent bound) (equation_of s))) stops moved)
 
 -- before the first turn nothing is lent
-pub starts : (bound : Pairs) (whole : List Equation) (lent : List Lent) → lent ≡ [] → HasNoCycle bound → Leads bound whole lent whole × HasNoCycle (with_lent lent bound)
+pub starts : (bound : Pairs) (whole : List Equation) (lent : List LentBinding) → lent ≡ [] → HasNoCycle bound → Leads bound whole lent whole × HasNoCycle (with_lent lent bound)
 starts bound whole lent nothing h =
     (subst (λ ls. Leads bound whole ls whole) (sym nothing) (leads_whole bound whole), subst (λ ls. HasNoCycle (with_lent ls bound)) (sym nothing) h)
 
 -- the loop ends where nothing is next
-pub turns_end : (bound : Pairs) (whole behind : List Equation) (next : Option Sides) (lent : List Lent) → next ≡ None → Leads bound whole lent (with_next next behind) →
+pub turns_end : (bound : Pairs) (whole behind : List Equation) (next : Option Sides) (lent : List LentBinding) → next ≡ None → Leads bound whole lent (with_next next behind) →
     Unifying bound whole (Some (lent_sides lent))
 turns_end bound whole behind next lent none leads =
     subst (λ xs. Unifying bound whole (Some xs)) (append-nil (lent_sides lent))

@@ -6,7 +6,7 @@ use Rattle.kan_model.specs.Streams.Running as running
 use Rattle.kan_model.specs.Programs.Environments.{terms_of}
 use Rattle.kan_model.specs.Programs.Closed as programs
 use Rattle.stream_core.proofs.ClosedLaws.{program-closed, goal-there}
-use Rattle.stream_core.proofs.Ways.ForceLaws.{relation-found, body-placed, body-slots}
+use Rattle.stream_core.proofs.Paths.ForceLaws.{relation-found, body-placed, body-slots}
 use Rattle.stream_core.proofs.forcing.enter_call.Goals as goal
 
 pub run_with-requires-clause-is : goal.run_with-requires-clause-is

@@ -1,4 +1,4 @@
-use Rattle.stream_core.proofs.Ways.ForceLaws.{call-may, called-force, pause-may, paused-force, no-leaf}
+use Rattle.stream_core.proofs.Paths.ForceLaws.{call-may, called-force, pause-may, paused-force, no-leaf}
 use Rattle.stream_core.proofs.forcing.expand.Goals as goal
 
 pub enter_call-requires-clause-may : goal.enter_call-requires-clause-may

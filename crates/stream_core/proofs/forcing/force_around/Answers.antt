@@ -1,7 +1,7 @@
 use Rattle.std.proofs.Common.{◌≡◌, true, sym, subst}
 use Rattle.stream_core.specs.InnerSuspensions.{MayForce, has_inner, inner_of}
 use Rattle.stream_core.specs.Tables.{IsForce}
-use Rattle.stream_core.proofs.Ways.ForceLaws.{made-force, force-same}
+use Rattle.stream_core.proofs.Paths.ForceLaws.{made-force, force-same}
 use Rattle.stream_core.proofs.TableLaws.{adds_more}
 use Rattle.stream_core.proofs.forcing.force_around.Goals as goal
 

@@ -1,7 +1,7 @@
 use Rattle.std.proofs.Common.{◌≡◌, false, sym, subst}
 use Rattle.stream_core.specs.InnerSuspensions.{MayForce, has_inner}
-use Rattle.stream_core.specs.WaysDown.{EndsWay}
-use Rattle.stream_core.proofs.Ways.ForceLaws.{made-force, force-same}
+use Rattle.stream_core.specs.PathDown.{EndsPath}
+use Rattle.stream_core.proofs.Paths.ForceLaws.{made-force, force-same}
 use Rattle.stream_core.proofs.TableLaws.{adds_more, found-more}
 use Rattle.stream_core.proofs.forcing.force_last.Goals as goal
 
@@ -11,7 +11,7 @@ expand-requires-clause-may g c = subst (MayForce (g.N.Nodes.table c.args.nodes.n
 pub expand-requires-clause-last : goal.expand-requires-clause-last
 expand-requires-clause-last g c =
     let t = g.N.Nodes.table c.args.nodes.now in
-    let end = subst (EndsWay t g.St.Store.meaning c.args.last.now) c.in-None.is c.requires.end in
+    let end = subst (EndsPath t g.St.Store.meaning c.args.last.now) c.in-None.is c.requires.end in
     subst (λ x. has_inner x ≡ false) (sym c.in_ok-thunk-in-None.ensures.stands) end.0
 
 pub keep-requires-clause-belongs : goal.keep-requires-clause-belongs
@@ -24,12 +24,12 @@ keep-requires-clause-force g c =
 
 pub returns-in-Some-clause-force : goal.returns-in-Some-clause-force
 returns-in-Some-clause-force g c =
-    (subst (EndsWay (g.N.Nodes.table c.args.nodes.now) g.St.Store.meaning c.args.last.now) c.in-Some.is c.requires.end).0
+    (subst (EndsPath (g.N.Nodes.table c.args.nodes.now) g.St.Store.meaning c.args.last.now) c.in-Some.is c.requires.end).0
 
 pub returns-in-Some-clause-kept : goal.returns-in-Some-clause-kept
 returns-in-Some-clause-kept g c =
     let t = g.N.Nodes.table c.args.nodes.now in
-    found-more t c.args.last.now (subst (EndsWay t g.St.Store.meaning c.args.last.now) c.in-Some.is c.requires.end).1
+    found-more t c.args.last.now (subst (EndsPath t g.St.Store.meaning c.args.last.now) c.in-Some.is c.requires.end).1
 
 pub returns-in_ok-kept-in-None-clause-force : goal.returns-in_ok-kept-in-None-clause-force
 returns-in_ok-kept-in-None-clause-force g c =

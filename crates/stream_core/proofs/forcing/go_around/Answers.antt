@@ -1,4 +1,4 @@
-use Rattle.stream_core.proofs.Ways.ForceLaws.{around-binds, bound-force, swapped-force, no-around}
+use Rattle.stream_core.proofs.Paths.ForceLaws.{around-binds, bound-force, swapped-force, no-around}
 use Rattle.stream_core.proofs.forcing.go_around.Goals as goal
 
 pub bind_later-requires-clause-is : goal.bind_later-requires-clause-is

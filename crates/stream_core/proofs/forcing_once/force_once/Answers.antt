@@ -6,7 +6,7 @@ use Rattle.kan_model.specs.Streams.Running.{force}
 use Rattle.stream_core.specs.CodeSurroundings.{StandsClosed}
 use Rattle.stream_core.specs.InnerSuspensions.{MayForce}
 use Rattle.stream_core.specs.Surroundings.{within_all}
-use Rattle.stream_core.proofs.Ways.AroundLaws.{parted-may, bound-inside, bound-force}
+use Rattle.stream_core.proofs.Paths.AroundLaws.{parted-may, bound-inside, bound-force}
 use Rattle.stream_core.proofs.ClosedLaws.{program-closed}
 use Rattle.stream_core.proofs.FitLaws.{force-fits, fits-moved}
 use Rattle.stream_core.proofs.TableLaws.{adds_grow, grow_twice, table_stays}

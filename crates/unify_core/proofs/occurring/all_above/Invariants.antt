@@ -1,5 +1,5 @@
 use Rattle.std.proofs.Common.{drop}
-use Rattle.unify_core.specs.Lent.{AllAbove}
+use Rattle.unify_core.specs.LentBindings.{AllAbove}
 use Rattle.unify_core.proofs.occurring.all_above.Given as goal
 
 -- all are, if those that are left are

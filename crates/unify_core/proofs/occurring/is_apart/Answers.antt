@@ -1,6 +1,6 @@
 use Rattle.std.proofs.Common.{sym, arith}
 use Rattle.kan_terms.specs.Terms.{tree}
-use Rattle.unify_core.specs.Lent.{with_lent}
+use Rattle.unify_core.specs.LentBindings.{with_lent}
 use Rattle.unify_core.proofs.NewLaws.{none_in_full, new_apart}
 use Rattle.unify_core.proofs.occurring.is_apart.Goals as goal
 

@@ -1,6 +1,6 @@
 use Rattle.std.proofs.Common.{ap}
 use Rattle.kan_terms.specs.Terms.{tree}
-use Rattle.unify_core.specs.Lent.{with_lent}
+use Rattle.unify_core.specs.LentBindings.{with_lent}
 use Rattle.unify_core.proofs.Steps.WalkSteps.{end_apart}
 use Rattle.unify_core.proofs.occurring.is_inside.Goals as goal
 

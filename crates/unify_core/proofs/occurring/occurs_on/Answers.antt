@@ -1,6 +1,6 @@
 use Rattle.std.proofs.Common.{sym, refl, ◌∙◌}
 use Rattle.kan_terms.specs.Terms.{tree}
-use Rattle.unify_core.specs.Lent.{with_lent}
+use Rattle.unify_core.specs.LentBindings.{with_lent}
 use Rattle.unify_core.specs.Walking.{walk}
 use Rattle.unify_core.proofs.Steps.OccursSteps.{first_finds, first_keeps, turn_finds, turn_keeps, turn_falls}
 use Rattle.unify_core.proofs.occurring.occurs_on.Goals as goal

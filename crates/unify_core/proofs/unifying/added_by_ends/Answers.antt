@@ -1,7 +1,7 @@
 use Rattle.std.proofs.Common.{◌∷◌, map, option_map, subst, rules}
 use Rattle.std.proofs.lemmas.Result.{IfOk-weaker}
 use Rattle.kan_terms.specs.Terms.{sides, tree}
-use Rattle.unify_core.specs.Lent.{waiting_equations}
+use Rattle.unify_core.specs.LentBindings.{waiting_equations}
 use Rattle.unify_core.specs.Solutions.{equation}
 use Rattle.unify_core.specs.Unifying.{Unifying}
 use Rattle.unify_core.proofs.Relation.OneEquation.{same_adds, ends_add}

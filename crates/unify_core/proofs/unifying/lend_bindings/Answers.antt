@@ -1,5 +1,5 @@
 use Rattle.std.proofs.Common.{ap, option_map}
-use Rattle.unify_core.specs.Lent.{waiting_equations, equations_ahead, with_next}
+use Rattle.unify_core.specs.LentBindings.{waiting_equations, equations_ahead, with_next}
 use Rattle.unify_core.proofs.Steps.UnifySteps.{turn_on, turn_off, turns_end}
 use Rattle.unify_core.proofs.unifying.lend_bindings.Goals as goal
 

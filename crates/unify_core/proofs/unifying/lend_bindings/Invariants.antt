@@ -1,5 +1,5 @@
 use Rattle.unify_core.specs.Cycles.{HasNoCycle}
-use Rattle.unify_core.specs.Lent.{with_lent, waiting_equations, equations_ahead, with_next}
+use Rattle.unify_core.specs.LentBindings.{with_lent, waiting_equations, equations_ahead, with_next}
 use Rattle.unify_core.proofs.Steps.LoadLaws.{left_over}
 use Rattle.unify_core.proofs.Steps.UnifySteps.{Leads}
 use Rattle.unify_core.proofs.unifying.lend_bindings.Given as goal

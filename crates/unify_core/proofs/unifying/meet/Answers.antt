@@ -1,6 +1,6 @@
 use Rattle.std.proofs.Common.{rules}
 use Rattle.kan_terms.specs.Terms.{tree}
-use Rattle.unify_core.specs.Lent.{with_lent}
+use Rattle.unify_core.specs.LentBindings.{with_lent}
 use Rattle.unify_core.proofs.Steps.WalkSteps.{walked_end, no_variable}
 use Rattle.unify_core.proofs.unifying.meet.Goals as goal
 

@@ -1,7 +1,7 @@
 use Rattle.std.proofs.Common.{◌≡◌, ◌≤◌, map, take, length}
 use Rattle.std.specs.Vec.{vec_len, vec_capacity}
 use Rattle.kan_terms.specs.Terms.{sides}
-use Rattle.unify_core.specs.Lent.{lent_sides}
+use Rattle.unify_core.specs.LentBindings.{lent_sides}
 use Rattle.unify_core.proofs.unifying.owned.Given as goal
 
 -- so many are made, and there is room for all

@@ -1,5 +1,5 @@
 use Rattle.std.proofs.Common.{◌∷◌, ◌∙◌, ap}
-use Rattle.unify_core.specs.Lent.{equation_of, waiting_equations}
+use Rattle.unify_core.specs.LentBindings.{equation_of, waiting_equations}
 use Rattle.unify_core.proofs.Steps.UnifySteps.{put_first, put_over}
 use Rattle.unify_core.proofs.unifying.put_ahead.Goals as goal
 use Rattle.unify_core.proofs.unifying.put_ahead.Goals.{in-Some+in_ok-push, in_default}

@@ -1,6 +1,6 @@
 use Rattle.std.proofs.Common.{ap, sym, ◌∙◌, arith}
 use Rattle.std.proofs.lemmas.List.{nil_from_length}
-use Rattle.unify_core.specs.Lent.{with_top, with_next, waiting_equations}
+use Rattle.unify_core.specs.LentBindings.{with_top, with_next, waiting_equations}
 use Rattle.unify_core.proofs.Steps.UnifySteps.{popped}
 use Rattle.unify_core.proofs.unifying.take_ahead.Goals as goal
 

@@ -1,6 +1,6 @@
 use Rattle.std.proofs.Common.{◌≡◌, ◌≤◌, map, drop, length}
 use Rattle.kan_model.specs.Stores.Prims.{equation as pair_equation}
-use Rattle.unify_core.specs.Lent.{waiting_equations}
+use Rattle.unify_core.specs.LentBindings.{waiting_equations}
 use Rattle.unify_core.proofs.unifying.wait_for_pairs.Given as goal
 
 -- the pairs from an index on are waiting

@@ -1,6 +1,6 @@
 use Rattle.std.proofs.Common.{◌∙◌, ap, arith}
 use Rattle.kan_terms.specs.Bound.{bound_to}
-use Rattle.unify_core.proofs.Steps.LentLaws.{up_to-all, lent_here, lent_further}
+use Rattle.unify_core.proofs.Steps.LentBindingLaws.{up_to-all, lent_here, lent_further}
 use Rattle.unify_core.proofs.walking.find.Goals as goal
 
 pub loop-left-init : goal.loop-left-init

@@ -1,7 +1,7 @@
 use Rattle.std.proofs.Common.{◌≡◌, ◌≤◌, length}
 use Rattle.kan_terms.specs.Bound.{bound_to}
-use Rattle.unify_core.specs.Lent.{with_lent}
-use Rattle.unify_core.proofs.Steps.LentLaws.{up_to}
+use Rattle.unify_core.specs.LentBindings.{with_lent}
+use Rattle.unify_core.proofs.Steps.LentBindingLaws.{up_to}
 use Rattle.unify_core.proofs.walking.find.Given as goal
 
 -- the variable's term is that in the bindings which are left

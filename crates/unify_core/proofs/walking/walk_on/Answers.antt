@@ -1,6 +1,6 @@
 use Rattle.std.proofs.Common.{ap}
 use Rattle.kan_terms.specs.Terms.{tree}
-use Rattle.unify_core.specs.Lent.{with_lent}
+use Rattle.unify_core.specs.LentBindings.{with_lent}
 use Rattle.unify_core.proofs.Steps.WalkSteps.{way_falls, walk_keeps, walk_ends, walk_stops}
 use Rattle.unify_core.proofs.walking.walk_on.Goals as goal
 

@@ -1,6 +1,6 @@
 use Rattle.std.proofs.Common.{◌≡◌}
 use Rattle.kan_terms.specs.Terms.{tree}
-use Rattle.unify_core.specs.Lent.{with_lent}
+use Rattle.unify_core.specs.LentBindings.{with_lent}
 use Rattle.unify_core.specs.Walking.{walk}
 use Rattle.unify_core.proofs.WalkLaws.{way}
 use Rattle.unify_core.proofs.walking.walk_on.Given as goal

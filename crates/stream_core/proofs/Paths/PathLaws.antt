@@ -1,4 +1,4 @@
--- Steps on the way down from a suspension and up again.
+-- Steps on the path down from a suspension and up again.
 use Rattle.std.proofs.Common.{◌≡◌, true, List, [], ◌∷◌, ◌++◌, refl, sym, ◌∙◌, ap, ap₂, subst}
 use Rattle.std.specs.Prelude.{Option, Some, None, IfSome}
 use Rattle.kan_model.specs.Stores.Store as facts
@@ -7,19 +7,19 @@ use Rattle.stream_core.specs.Tasks.{Each}
 use Rattle.stream_core.specs.InnerSuspensions.{MayForce, InnerId, has_inner, inner_of}
 use Rattle.stream_core.specs.Tables.{Told, Table, GrowsBy, IsForce}
 use Rattle.stream_core.specs.CodeTasks.{stack}
-use Rattle.stream_core.specs.WaysDown.{next, IsWay, Leads, MayForceAround, IsWayFrom, IsNext}
+use Rattle.stream_core.specs.PathDown.{next, IsPath, Leads, MayForceAround, IsPathFrom, IsNext}
 use Rattle.stream_core.specs.declared.streams.Stream.{Stream}
-use Rattle.stream_core.proofs.Ways.ForceLaws.{inner-may}
+use Rattle.stream_core.proofs.Paths.ForceLaws.{inner-may}
 use Rattle.stream_core.proofs.StackLaws.{stack-pop}
 use Rattle.stream_core.proofs.StreamLaws.{Each-last, Each-front}
 
 module _ {I : Type 0} where
-  -- the id that was reached put on the way
-  pub way-longer : (t : Table I) (whole : Thunk) (ids longer : List I) (last : I) → longer ≡ ids ++ last ∷ [] → IsNext t whole ids last → has_inner (t.tree last) ≡ true → IsWayFrom t whole ids →
-      IsWayFrom t whole longer
-  way-longer t whole ids longer last grown comes holds way = record {
-    way = subst (IsWay whole) (sym (stack-pop t.tree longer ids last grown)) (comes.is, way.way);
-    each = subst (Each (MayForceAround t)) (sym grown) (Each-last (MayForceAround t) ids last way.each (comes.belongs, comes.may, holds));
+  -- the id that was reached put on the path
+  pub path-longer : (t : Table I) (whole : Thunk) (ids longer : List I) (last : I) → longer ≡ ids ++ last ∷ [] → IsNext t whole ids last → has_inner (t.tree last) ≡ true → IsPathFrom t whole ids →
+      IsPathFrom t whole longer
+  path-longer t whole ids longer last grown comes holds path = record {
+    path = subst (IsPath whole) (sym (stack-pop t.tree longer ids last grown)) (comes.is, path.path);
+    each = subst (Each (MayForceAround t)) (sym grown) (Each-last (MayForceAround t) ids last path.each (comes.belongs, comes.may, holds));
   }
 
   -- what comes next is what is inside it
@@ -39,9 +39,9 @@ module _ {I : Type 0} where
   leads-longer whole last inside ids longer (Some told) grown inner leads =
       subst (λ xs. Leads told.inner whole xs inside) (sym (stack-pop (λ (i : I). i) longer ids last grown)) (inner, leads)
 
-  -- where a way begins
-  pub way-begins : (t : Table I) (whole : Thunk) (ids : List I) → ids ≡ [] → IsWayFrom t whole ids
-  way-begins t whole ids none = rw none (record { way = tt; each = tt })
+  -- where a path begins
+  pub path-begins : (t : Table I) (whole : Thunk) (ids : List I) → ids ≡ [] → IsPathFrom t whole ids
+  path-begins t whole ids none = rw none (record { path = tt; each = tt })
 
   pub next-begins : (t : Table I) (id last : I) (ids : List I) → ids ≡ [] → MayForce t.program (t.tree id) → t.belongs last × (t.tree last ≡ t.tree id) → IsNext t (t.tree id) ids last
   next-begins t id last ids none may (there, same) = rw none (record { belongs = there; may = subst (MayForce t.program) (sym same) may; is = same })
@@ -54,9 +54,9 @@ module _ {I : Type 0} where
   pub force-end : {St : Type 0} (t : Table I) (means : St → facts.Store) (whole : Thunk) (ids : List I) (made : Stream I St) → ids ≡ [] → IsForce t means (next whole (stack t.tree ids)) made → IsForce t means whole made
   force-end t means whole ids made none forced = subst (λ xs. IsForce t means (next whole (stack t.tree xs)) made) none forced
 
-  -- the last id of a way
-  pub last-around : (t : Table I) (whole : Thunk) (ids rest : List I) (at : I) → IsWayFrom t whole ids → ids ≡ rest ++ at ∷ [] → MayForceAround t at
-  last-around t whole ids rest at way split = (Each-front (MayForceAround t) ids rest at split way.each).1
+  -- the last id of a path
+  pub last-around : (t : Table I) (whole : Thunk) (ids rest : List I) (at : I) → IsPathFrom t whole ids → ids ≡ rest ++ at ∷ [] → MayForceAround t at
+  last-around t whole ids rest at path split = (Each-front (MayForceAround t) ids rest at split path.each).1
 
   -- ids stand for what they stood for
   module _ (R : Told I → Told I → Type 0) (t u : Table I) (grew : GrowsBy R t u) where
@@ -76,28 +76,28 @@ module _ {I : Type 0} where
           each-stays ids hs,
         )
 
-    -- a way while the table grows
-    pub way-stays : (whole : Thunk) (ids : List I) → IsWayFrom t whole ids → IsWayFrom u whole ids
-    way-stays whole ids way = record {
-      way = subst (IsWay whole) (sym (trees-stay ids way.each)) way.way;
-      each = each-stays ids way.each;
+    -- a path while the table grows
+    pub path-stays : (whole : Thunk) (ids : List I) → IsPathFrom t whole ids → IsPathFrom u whole ids
+    path-stays whole ids path = record {
+      path = subst (IsPath whole) (sym (trees-stay ids path.each)) path.path;
+      each = each-stays ids path.each;
     }
 
     -- one step up
-    pub way-up : (whole : Thunk) (ids rest : List I) (at : I) → ids ≡ rest ++ at ∷ [] → IsWayFrom t whole ids → IsWayFrom u whole rest
-    way-up whole ids rest at split way =
-        let (all, last) = Each-front (MayForceAround t) ids rest at split way.each in
-        way-stays whole rest (record { way = (subst (IsWay whole) (stack-pop t.tree ids rest at split) way.way).1; each = all })
+    pub path-up : (whole : Thunk) (ids rest : List I) (at : I) → ids ≡ rest ++ at ∷ [] → IsPathFrom t whole ids → IsPathFrom u whole rest
+    path-up whole ids rest at split path =
+        let (all, last) = Each-front (MayForceAround t) ids rest at split path.each in
+        path-stays whole rest (record { path = (subst (IsPath whole) (stack-pop t.tree ids rest at split) path.path).1; each = all })
 
     -- the force of what came next is that of what comes next
-    pub force-next : {St : Type 0} (means : St → facts.Store) (whole : Thunk) (ids : List I) (last : I) (made : Stream I St) → IsWayFrom t whole ids → t.tree last ≡ next whole (stack t.tree ids) →
+    pub force-next : {St : Type 0} (means : St → facts.Store) (whole : Thunk) (ids : List I) (last : I) (made : Stream I St) → IsPathFrom t whole ids → t.tree last ≡ next whole (stack t.tree ids) →
         IsForce u means (t.tree last) made → IsForce u means (next whole (stack u.tree ids)) made
-    force-next means whole ids last made way is forced =
-        subst (λ x. IsForce u means x made) (is ∙ ap (next whole) (sym (trees-stay ids way.each))) forced
+    force-next means whole ids last made path is forced =
+        subst (λ x. IsForce u means x made) (is ∙ ap (next whole) (sym (trees-stay ids path.each))) forced
 
-    pub force-up : {St : Type 0} (means : St → facts.Store) (whole : Thunk) (ids rest : List I) (at : I) (made : Stream I St) → ids ≡ rest ++ at ∷ [] → IsWayFrom t whole ids →
+    pub force-up : {St : Type 0} (means : St → facts.Store) (whole : Thunk) (ids rest : List I) (at : I) (made : Stream I St) → ids ≡ rest ++ at ∷ [] → IsPathFrom t whole ids →
         IsForce u means (t.tree at) made → IsForce u means (next whole (stack u.tree rest)) made
-    force-up means whole ids rest at made split way forced =
-        let (all, last) = Each-front (MayForceAround t) ids rest at split way.each in
-        let down = subst (IsWay whole) (stack-pop t.tree ids rest at split) way.way in
+    force-up means whole ids rest at made split path forced =
+        let (all, last) = Each-front (MayForceAround t) ids rest at split path.each in
+        let down = subst (IsPath whole) (stack-pop t.tree ids rest at split) path.path in
         subst (λ x. IsForce u means x made) (down.0 ∙ ap (next whole) (sym (trees-stay rest all))) forced

@@ -19,7 +19,7 @@ use Rattle.stream_core.specs.Tables.{Table, OnlyAdds, IsTableOf, HasStream, stre
 use Rattle.stream_core.specs.declared.nodes.Innermost.{Innermost}
 use Rattle.stream_core.specs.declared.nodes.Innermost.TheVariants.{Last, Shared}
 use Rattle.stream_core.specs.declared.streams.Stream.{Stream}
-use Rattle.stream_core.proofs.Ways.ForceLaws.{swap-inner, bind-inner, climb-binds, MayBindForce}
+use Rattle.stream_core.proofs.Paths.ForceLaws.{swap-inner, bind-inner, climb-binds, MayBindForce}
 use Rattle.stream_core.proofs.ClosedLaws.{program-closed}
 use Rattle.stream_core.proofs.StreamLaws.{heads-going}
 

@@ -1,4 +1,4 @@
 -- The way down to the suspension that is forced, and back up.
 pub mod AroundLaws
-pub mod WayLaws
+pub mod PathLaws
 pub mod ForceLaws
