@@ -1,18 +1,10 @@
 //! What given values ask for.
 
 ghost use Rattle.std.specs.Prelude.{◌≡◌, ◌≤◌, ◌<◌, ◌^◌, option_map, is_some};
-ghost use Rattle.kan_grammar.specs.Data.Words.{all_digits};
 ghost use Rattle.command_line.specs.Lines as lines;
 ghost use Rattle.command_line.specs.CodeValues.{text_of};
 
-use kan_grammar::Dialect;
-
-// Whether all bytes are digits.
-fn all_digits(bytes: &[u8]) -> bool
-    ensures { result ≡ all_digits bytes.now }
-{
-    bytes.iter().all(|byte| byte.is_ascii_digit())
-}
+use kan_grammar::{Dialect, all_digits};
 
 // A number that lies in a range.
 fn in_range(low: u32, high: u32, number: u32) -> Option<u32>

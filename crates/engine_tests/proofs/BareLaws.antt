@@ -13,7 +13,8 @@ use Rattle.kan_model.specs.declared.program.Program as code
 use Rattle.stream_core.specs.CounterBounds.{Between, TailFits, RestFits, FitsAsBoth, FitsAsBound}
 use Rattle.stream_core.specs.Suspensions.{going_on}
 use Rattle.stream_core.specs.Tables.{Table, Grows, OnlyAdds, IsTableOf, HasStream, stream_in}
-use Rattle.stream_core.specs.Tasks.{Each, IsOf, AreBelow, AreBelowRest}
+use Rattle.stream_core.specs.Tasks.{IsOf, AreBelow, AreBelowRest}
+use Rattle.kan_model.specs.Each.{Each}
 use Rattle.stream_core.specs.declared.streams.Stream.{Stream}
 use Rattle.stream_core.proofs.ClosedLaws.{goal-there}
 use Rattle.stream_core.proofs.FitLaws.{fits-moved, fits-wider}

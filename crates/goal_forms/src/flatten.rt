@@ -18,7 +18,6 @@ ghost use Rattle.goal_forms.specs.Flattening.{AreNumbered, finish, meaning, work
 ghost use Rattle.goal_forms.specs.Sizes.{parts_in, work_parts, works_parts};
 ghost use Rattle.goal_forms.specs.TermSteps.{site_size};
 ghost use Rattle.goal_forms.specs.declared.flatten.Work.TheVariants as works_of;
-ghost use Rattle.std.specs.Option.{option_copied};
 ghost use Rattle.goal_forms.specs.Places.{are_below, stack_sites, pair_of_last_two, prefixed_last};
 ghost use Rattle.goal_forms.specs.Unnamed.{AreNamed, site_unnamed, sites_unnamed};
 ghost use Rattle.goal_forms.specs.Unnamed.{symbol_unnamed, work_unnamed, works_unnamed};
@@ -26,8 +25,7 @@ ghost use Rattle.goal_forms.specs.Unnamed.{symbol_unnamed, work_unnamed, works_u
 use crate::flat_data::{FlatData, FlatPart, Part};
 use crate::prefixes::Prefixes;
 use kan_terms::{Memory, Names};
-use sexpr::{Datum, DatumKind, Prefix};
-use sqlite_items::Boxed;
+use sexpr::{Datum, DatumKind, Prefix, last_datum};
 use std::alloc::Global;
 
 /// What is left to be turned.
@@ -161,16 +159,6 @@ fn make(at: u32, part: Part, table: &mut FlatData, places: &mut Vec<u32>) -> Res
     Ok(())
 }
 
-// The datum after a dot, lent.
-fn lent(last: &Option<Boxed<Datum>>) -> Option<&Datum>
-    ensures { option_copied result ≡ last.now }
-{
-    match last {
-        Some(datum) => Some(datum.get()),
-        None => None,
-    }
-}
-
 // The number of the symbol that a prefix stands for.
 fn prefix_symbol(prefixes: &Prefixes, prefix: Prefix) -> u32
     ensures number { (names : Table) → AreNumbered names prefixes.now →
@@ -228,7 +216,7 @@ fn turn_datum<'a>(
         DatumKind::Truth(truth) => make(datum.at, Part::Truth(*truth), table, places)?,
         DatumKind::List(items, last) => works.push(Work::Rest(
             items.as_slice(),
-            lent(last),
+            last_datum(last),
             datum.at,
         ))?,
         DatumKind::Prefixed(prefix, inner) => {

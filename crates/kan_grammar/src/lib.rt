@@ -3,6 +3,8 @@
 #![tactic(auto)]
 
 mod dialect;
+mod digits;
 pub mod reading_laws;
 
 pub use dialect::Dialect;
+pub use digits::all_digits;

@@ -7,7 +7,8 @@ use Rattle.kan_terms.specs.Tree.{Tm, Gd, leaves}
 use Rattle.kan_terms.specs.Valuations.{value_at}
 use Rattle.kan_model.specs.Answers.Answer.{named_variables, names_where}
 use Rattle.kan_model.specs.Answers.Order.{each_once, put_in_order, in_order, place_of, stands_in}
-use Rattle.kan_model.proofs.ListLaws.{Each, Each-like, list_all-from_Each}
+use Rattle.kan_model.proofs.ListLaws.{Each-like, list_all-from_Each}
+use Rattle.kan_model.specs.Each.{Each}
 use Rattle.pull_bounds.proofs.Longer.{value_at-next}
 
 module _ {X : Type 0} where

@@ -17,7 +17,8 @@ use Rattle.kan_model.specs.Stores.Solve.{Replacement, image, apply, left_first, 
 use Rattle.kan_model.specs.Stores.Store.{Store, equations}
 use Rattle.kan_model.specs.Stores.Unifiers.{Factors}
 use Rattle.kan_model.specs.declared.prims.Kind.TheVariants.{Symbol, Number, Text}
-use Rattle.kan_model.proofs.ListLaws.{Each, Each-all, Each-map, Each-filter, Each-each_once, Each-in_order, list_all-from_Each, Each-from_list_all}
+use Rattle.kan_model.proofs.ListLaws.{Each-all, Each-map, Each-filter, Each-each_once, Each-in_order, list_all-from_Each, Each-from_list_all}
+use Rattle.kan_model.specs.Each.{Each}
 use Rattle.kan_model.proofs.Solving.UnifierLaws.{factors_unify}
 use Rattle.store_laws.proofs.OneForm.{through_answer}
 use Rattle.kan_meaning.specs.Instances.{SolutionsAreCovered}

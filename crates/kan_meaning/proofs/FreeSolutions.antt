@@ -13,7 +13,7 @@ use Rattle.kan_model.specs.Stores.Kept.{may_be, allows, is_variable, gives_type,
 use Rattle.kan_model.specs.Stores.Solve.{Replacement, image, apply}
 use Rattle.kan_model.specs.declared.prims.Kind.{Kind}
 use Rattle.kan_model.specs.declared.prims.Kind.TheVariants.{Symbol, Number, Text}
-use Rattle.kan_model.proofs.ListLaws.{Each}
+use Rattle.kan_model.specs.Each.{Each}
 use Rattle.kan_meaning.proofs.Grounds.{ground_same, same_ground, is_of, below_occurs}
 use Rattle.kan_meaning.proofs.Instances.OwnValues.{first_values, first_at}
 use Rattle.kan_meaning.proofs.Instances.SolvedLaws.{EqualSides}

@@ -10,7 +10,8 @@ use Rattle.kan_model.specs.Stores.Kept.{is_kept}
 use Rattle.kan_model.specs.Stores.Store.{Store, bare, with_prim, with_fresh}
 use Rattle.kan_model.specs.Streams.Running.{Arguments, and_value, assert, variables, instance, instances, name_pairs, named_store, run, enter, force, start}
 use Rattle.kan_model.specs.Streams.Stream.{Stream, Thunk, one, empty, append, append_each, bind_all}
-use Rattle.kan_model.proofs.ListLaws.{Each, Each-like}
+use Rattle.kan_model.proofs.ListLaws.{Each-like}
+use Rattle.kan_model.specs.Each.{Each}
 use Rattle.kan_model.proofs.Solving.FreshLaws.{fresh_is_kept}
 use Rattle.pull_bounds.proofs.Longer.{below-more, all-below_more, sides-below_instance, below-instances, below-variables}
 use Rattle.pull_bounds.proofs.NamedArguments.{counted-fresh, counted-with}

@@ -14,7 +14,7 @@ use Rattle.kan_model.specs.Stores.Store.{Store, bare, with_prim, with_fresh}
 use Rattle.kan_model.specs.Streams.Running.{Arguments, assert, variables, instance, instances, name_pairs, named_store, run, enter, force, start}
 use Rattle.kan_model.specs.Streams.Stream.{Stream, Thunk, one, empty, append, append_each, bind_all}
 use Rattle.kan_model.specs.Streams.Taking.{take_query}
-use Rattle.kan_model.proofs.ListLaws.{Each}
+use Rattle.kan_model.specs.Each.{Each}
 use Rattle.kan_model.proofs.Meaning.DerivationLaws.{test_from-Derives}
 use Rattle.pull_bounds.proofs.Longer.{values-instances, holds-instance}
 use Rattle.kan_meaning.proofs.Grounds.{same_ground}

@@ -5,7 +5,7 @@ use Rattle.kan_model.specs.Stores.Store.{Store}
 use Rattle.kan_model.specs.Streams.Running.{force}
 use Rattle.kan_model.specs.Streams.Stream.{Stream, Thunk}
 use Rattle.kan_model.specs.Streams.Taking.{Taken, Ending, nothing_more, with_pull, give, take}
-use Rattle.kan_model.proofs.ListLaws.{Each}
+use Rattle.kan_model.specs.Each.{Each}
 
 -- what holds of each store holds of one of them
 pub one_of_each : (P : Store → Type 0) (hs : List Store) (st : Store) → Each P hs → Contains hs st → P st

@@ -6,7 +6,7 @@ use Rattle.kan_terms.specs.Tree.{Tree, Gd, fill, term_eq}
 use Rattle.kan_terms.proofs.TreeLaws.{eq-term_eq, term_eq-true}
 use Rattle.kan_model.specs.Answers.Answer.{implies, is_weaker}
 use Rattle.kan_model.specs.Stores.Solve.{Replacement, image, apply}
-use Rattle.kan_model.proofs.ListLaws.{Each}
+use Rattle.kan_model.specs.Each.{Each}
 use Rattle.kan_model.proofs.Solving.UnifierLaws.{fill-apply}
 use Rattle.kan_meaning.proofs.Instances.NamedValues.{PairHolds, holding_factors}
 

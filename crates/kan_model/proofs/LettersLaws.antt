@@ -13,6 +13,7 @@ use Rattle.kan_model.specs.Stores.Solve.{Replacement, image, apply}
 use Rattle.std.specs.Borrow.{Bor}
 use Rattle.kan_terms.specs.Tree.{Tree, Tm}
 use Rattle.kan_terms.specs.Terms.{tree}
+use Rattle.kan_terms.specs.Waiting.{waiting_trees, parts_of}
 use Rattle.kan_terms.specs.declared.terms.Term.{Term}
 use Rattle.kan_model.specs.declared.letters.Letter.{Letter}
 use Rattle.kan_model.specs.declared.letters.Letter.TheVariants.{Pair, Var, Sym, Str, Num, Truth, Nil}
@@ -38,12 +39,33 @@ fewer_wait old rest new t split parts =
     let same : length (letter_of (tree t.now) ∷ waiting_spelling new) ≡ length (waiting_spelling old) = ap length (parts ∙ sym (waiting-push rest t) ∙ ap waiting_spelling (sym split)) in
     omega (arith, same)
 
--- the two parts of a pair put on the stack
-pub parts_wait : (old middle new : List (Bor Term)) (a b : Bor Term) (t : Tm) →
-    middle ≡ old ++ b ∷ [] → new ≡ middle ++ a ∷ [] → t ≡ Tree.pair (tree a.now) (tree b.now) →
+-- the letters of some terms, one after the other
+abbrev spelled_all : List Tm → List Letter
+spelled_all [] = []
+spelled_all (t ∷ ts) = spelling t ++ spelled_all ts
+
+spelled_all-last : (ts : List Tm) (t : Tm) → spelled_all (ts ++ t ∷ []) ≡ spelled_all ts ++ spelling t
+spelled_all-last [] t = append-nil (spelling t)
+spelled_all-last (u ∷ ts) t = ap (λ l. spelling u ++ l) (spelled_all-last ts t) ∙ sym (append_assoc (spelling u) (spelled_all ts) (spelling t))
+
+waiting-spelled_all : (ts : List (Bor Term)) → waiting_spelling ts ≡ spelled_all (waiting_trees ts)
+waiting-spelled_all [] = refl
+waiting-spelled_all (t ∷ ts) = ap (λ l. l ++ spelling (tree t.now)) (waiting-spelled_all ts) ∙ sym (spelled_all-last (waiting_trees ts) (tree t.now))
+
+-- the parts of a term put on the stack, and its own letter, spell the term
+pub parts_spelled : (old new : List (Bor Term)) (t : Tm) → waiting_trees new ≡ parts_of t ++ waiting_trees old →
     letter_of t ∷ waiting_spelling new ≡ spelling t ++ waiting_spelling old
-parts_wait old middle new a b t first second pair =
-    rw (pair, second, waiting-push, first, waiting-push, append_assoc)
+parts_spelled old new t wait =
+    ap (λ l. letter_of t ∷ l) (waiting-spelled_all new ∙ ap spelled_all wait) ∙ by t ∙ ap (λ l. spelling t ++ l) (sym (waiting-spelled_all old))
+  where
+    by : (u : Tm) → letter_of u ∷ spelled_all (parts_of u ++ waiting_trees old) ≡ spelling u ++ spelled_all (waiting_trees old)
+    by (Tree.leaf v) = refl
+    by (Tree.sym s) = refl
+    by (Tree.str s) = refl
+    by (Tree.num n) = refl
+    by (Tree.truth b) = refl
+    by Tree.nil = refl
+    by (Tree.pair a b) = ap (λ l. letter_of (Tree.pair a b) ∷ l) (sym (append_assoc (spelling a) (spelling b) (spelled_all (waiting_trees old))))
 
 -- the top of a stack comes first
 pub stack-push : (ts : List Term) (t : Term) → stack_terms (ts ++ t ∷ []) ≡ tree t ∷ stack_terms ts

@@ -1,14 +1,10 @@
 -- What holds of each element of a list, and of each two, also after sorting, choosing and taking each element once.
-use Rattle.std.proofs.Common.{◌≡◌, Bool, true, false, not, cond, List, [], ◌∷◌, map, filter, refl, if◌then◌else◌}
+use Rattle.std.proofs.Common.{◌≡◌, Bool, true, false, not, cond, List, [], ◌∷◌, ◌++◌, subst, map, filter, refl, if◌then◌else◌}
 use Rattle.std.specs.List.{list_all, list_any}
 use Rattle.std.proofs.lemmas.Bool.{and_from, and_parts, or_from, or_parts, not-true}
+use Rattle.kan_model.specs.Each.{Each}
 use Rattle.kan_model.specs.Answers.Order.{put_in_order, in_order, each_once}
 use Rattle.kan_model.specs.Answers.InForm.{ascends}
-
--- a fact of each element
-abbrev pub Each : {X : Type 0} → (X → Type 0) → List X → Type 0
-Each P [] = Unit {0}
-Each P (x ∷ xs) = P x × Each P xs
 
 -- a fact of each element with each one behind it
 abbrev pub EachTwo : {X : Type 0} → (X → X → Type 0) → List X → Type 0
@@ -35,6 +31,21 @@ module _ {X : Type 0} where
   pub Each-like : (P Q : X → Type 0) → ((x : X) → P x → Q x) → (xs : List X) → Each P xs → Each Q xs
   Each-like P Q f [] h = tt
   Each-like P Q f (x ∷ xs) (h, hs) = (f x h, Each-like P Q f xs hs)
+
+  pub Each-append : (P : X → Type 0) (xs ys : List X) → Each P xs → Each P ys → Each P (xs ++ ys)
+  Each-append P [] ys h k = k
+  Each-append P (x ∷ xs) ys (h, hs) k = (h, Each-append P xs ys hs k)
+
+  pub Each-last : (P : X → Type 0) (xs : List X) (x : X) → Each P xs → P x → Each P (xs ++ x ∷ [])
+  Each-last P [] x h k = (k, tt)
+  Each-last P (y ∷ xs) x (h, hs) k = (h, Each-last P xs x hs k)
+
+  pub Each-front : (P : X → Type 0) (xs rest : List X) (x : X) → xs ≡ rest ++ x ∷ [] → Each P xs → Each P rest × P x
+  Each-front P xs rest x split h = go rest (subst (Each P) split h)
+    where
+      go : (ys : List X) → Each P (ys ++ x ∷ []) → Each P ys × P x
+      go [] (k, end) = (tt, k)
+      go (y ∷ ys) (k, ks) = let (more, last) = go ys ks in ((k, more), last)
 
   pub Each-both : (P Q : X → Type 0) (xs : List X) → Each P xs → Each Q xs → Each (λ x. P x × Q x) xs
   Each-both P Q [] h k = tt

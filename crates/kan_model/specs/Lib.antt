@@ -1,3 +1,4 @@
+pub mod Each
 pub mod Programs
 pub mod Terms
 pub mod Stores

@@ -6,11 +6,11 @@ ghost use Rattle.std.specs.Prelude.{IsTrue, ◌↔◌};
 ghost use Rattle.std.specs.List.{list_any};
 ghost use Rattle.kan_terms.specs.Tree.{term_eq, occurs};
 ghost use Rattle.kan_terms.specs.Terms.{tree};
-ghost use Rattle.kan_model.specs.Terms.Letters.{spelling, letter_of, waiting_spelling, IsAtomOf};
+ghost use Rattle.kan_model.specs.Terms.Letters.{spelling, letter_of, IsAtomOf};
 ghost use Rattle.kan_model.specs.Terms.Letters.{join_two, stack_terms, put_letter, term_of};
 ghost use Rattle.kan_model.specs.Terms.Letters.{is_letter_of, letter_eq};
 
-use kan_terms::{Memory, Term};
+use kan_terms::{Memory, Term, wait_for_parts};
 use std::alloc::Global;
 
 /// A letter of a term: its letters in preorder spell it.
@@ -46,18 +46,6 @@ pub fn first_letter(term: &Term) -> Letter
         Term::Nil => Letter::Nil,
         Term::Pair(_) => Letter::Pair,
     }
-}
-
-// Puts the parts of a pair on a stack of waiting terms, the first part on top.
-fn wait_for_parts<'a>(term: &'a Term, waiting: &mut Vec<&'a Term>) -> Result<(), Memory>
-    ensures { OnOk result (letter_of (tree term.now) ∷ waiting_spelling waiting.new.items
-        ≡ spelling (tree term.now) ++ waiting_spelling waiting.old.items) }
-{
-    if let Term::Pair(parts) = term {
-        waiting.push(&parts.rest)?;
-        waiting.push(&parts.first)?;
-    }
-    Ok(())
 }
 
 /// The letters of a term.

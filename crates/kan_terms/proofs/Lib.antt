@@ -4,3 +4,4 @@ pub mod SpellingLaws
 pub mod TableLaws
 pub mod TreeLaws
 pub mod ValuationLaws
+pub mod WaitingLaws

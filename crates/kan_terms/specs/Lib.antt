@@ -11,3 +11,4 @@ pub mod TermCode
 pub mod Tree
 pub mod Terms
 pub mod Valuations
+pub mod Waiting

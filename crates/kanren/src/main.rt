@@ -4,18 +4,8 @@
 
 use command_line::{WordsFault, process_words};
 use kan_base::{Status, StdSink, StdSource};
-use kanren_run::{complaint, kanren_alone};
-use std::alloc::{AllocError, Global};
+use kanren_run::{complaint, kanren_alone, lent_words};
 use std::process::ExitCode;
-
-// The words as they are lent to the call.
-fn lent(alloc: Global, words: &[String]) -> Result<Vec<&str>, AllocError> {
-    let mut lent = Vec::new(alloc);
-    for word in words {
-        lent.push(word.as_str())?;
-    }
-    Ok(lent)
-}
 
 // Runs the text that the words ask for.
 fn run(rt: &HostRuntime, words: &[&str]) -> Status {
@@ -26,7 +16,7 @@ fn run(rt: &HostRuntime, words: &[&str]) -> Status {
 
 // Runs the program with these words.
 fn run_words(rt: &HostRuntime, words: &[String]) -> Status {
-    match lent(rt.alloc(), words) {
+    match lent_words(rt.alloc(), words) {
         Ok(lent) => run(rt, &lent),
         Err(_) => Status::Memory,
     }

@@ -11,7 +11,7 @@ use crate::table::{Line, Misfit, Written};
 use crate::value::{add_each, text_of};
 use kan_base::{MemorySink, MemorySource, Source, Status};
 use kan_plain::PlainStore;
-use kanren_run::{kanren_alone, kanren_over};
+use kanren_run::{kanren_alone, kanren_over, lent_words};
 use std::alloc::{AllocError, Global};
 
 /// What came of a call.
@@ -30,15 +30,6 @@ pub(crate) enum Verdict {
     Passed,
     /// Something else came, where `{each}` is this word.
     Differs(String, Case, Seen),
-}
-
-// The words as they are lent to the call.
-fn lent(alloc: Global, words: &[String]) -> Result<Vec<&str>, AllocError> {
-    let mut lent = Vec::new(alloc);
-    for word in words {
-        lent.push(word.as_str())?;
-    }
-    Ok(lent)
 }
 
 // Copies of files.
@@ -108,7 +99,7 @@ fn answer(
 fn see(alloc: Global, solver: Solver, case: &Case) -> Result<Seen, Fault> {
     let mut source = source_of(alloc, case)?;
     let mut sink = sink_of(alloc, case)?;
-    let words = lent(alloc, &case.words)?;
+    let words = lent_words(alloc, &case.words)?;
     let status = answer(alloc, solver, &words, &mut source, &mut sink);
     let output = sink.put().to_vec(alloc)?;
     Ok(Seen { output, status })

@@ -14,7 +14,8 @@ use Rattle.kan_grammar.specs.Texts.Reply.{Reply}
 use Rattle.kan_meaning.proofs.StandingStores.{Stands, StreamStands, force_stands, start_stands}
 use Rattle.kan_meaning.proofs.Taking.{one_of_each, take_each}
 use Rattle.kanren_run.specs.Answers.{AreInForm}
-use Rattle.kanren_run.specs.Tags.{HasNames, Each, is_body_named, is_query_named}
+use Rattle.kanren_run.specs.Tags.{HasNames, is_body_named, is_query_named}
+use Rattle.kan_model.specs.Each.{Each}
 use Rattle.kanren_run.proofs.RunLaws.{taken-has}
 
 -- a store that is taken is kept

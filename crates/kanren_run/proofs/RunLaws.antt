@@ -15,7 +15,8 @@ use Rattle.kan_terms.specs.Table.{Table}
 use Rattle.kan_model.specs.Answers.Output.{runs_output, taken_text}
 use Rattle.kan_grammar.specs.Texts.Reply.{is_spent}
 use Rattle.kanren_run.specs.Answers.{spends}
-use Rattle.kanren_run.specs.Tags.{HasNames, Each, is_named, are_named, is_body_named}
+use Rattle.kanren_run.specs.Tags.{HasNames, is_named, are_named, is_body_named}
+use Rattle.kan_model.specs.Each.{Each}
 
 -- forcing asks a program for its relations alone
 force-same : (p q : Program) → p.relations ≡ q.relations → (t : Thunk) → force p t ≡ force q t

@@ -31,7 +31,8 @@ use Rattle.kanren_run.specs.declared.writing.Stop.{Stop}
 use Rattle.kanren_run.specs.declared.writing.Stop.TheVariants.{Fault, Memory}
 use Rattle.kan_grammar.specs.Texts.Reply.{is_spent}
 use Rattle.kanren_run.specs.Answers.{spends}
-use Rattle.kanren_run.specs.Tags.{HasNames, Each, is_query_named}
+use Rattle.kanren_run.specs.Tags.{HasNames, is_query_named}
+use Rattle.kan_model.specs.Each.{Each}
 
 -- the lines of the answers so far, and of one more
 pub lines_more : {X : Type 0} (table : Table) (means : X → Store) (xs : List X) (i : ℕ) (d : X) → i < length xs →

@@ -36,8 +36,3 @@ is_query_named table q = are_named table q.goal
 -- all tags whose absence a store asks for have names
 abbrev pub HasNames : Table → Store → Type 0
 HasNames table st = list_all (λ tag. nat_lt tag (length table.symbols)) (tags_of st.prims) ≡ true
-
--- a fact of each element
-abbrev pub Each : {X : Type 0} → (X → Type 0) → List X → Type 0
-Each P [] = Unit {0}
-Each P (x ∷ xs) = P x × Each P xs

@@ -21,7 +21,8 @@ use Rattle.kan_model.specs.Answers.Order.{in_order, each_once, stands_in, put_in
 use Rattle.kan_model.specs.Answers.Text.{symbol_text}
 use Rattle.kan_model.specs.Answers.InForm.{TextsDiffer}
 use Rattle.kan_model.specs.Answers.Answer.{Absence, keeps_out, has_absence, may_have_tag, tags_of, absence_of, has_names, tag_le, absences_of, names_where}
-use Rattle.kan_model.proofs.ListLaws.{Each, EachTwo, Each-like, Each-both, EachTwo-like, Each-filter, Each-each_once, Each-in_order, EachTwo-filter, EachTwo-in_order, each_once_apart, Each-from_list_all}
+use Rattle.kan_model.proofs.ListLaws.{EachTwo, Each-like, Each-both, EachTwo-like, Each-filter, Each-each_once, Each-in_order, EachTwo-filter, EachTwo-in_order, each_once_apart, Each-from_list_all}
+use Rattle.kan_model.specs.Each.{Each}
 use Rattle.kan_model.proofs.Answering.ByteOrder.{bytes_le-total, bytes_le-both}
 use Rattle.reify.specs.Typing.{kind_test, here}
 use Rattle.reify.specs.Ordering.{symbols_rise}

@@ -14,7 +14,8 @@ use Rattle.kan_model.specs.Stores.Solve as model
 use Rattle.kan_model.specs.Answers.Order.{bytes_le, each_once, in_order, put_in_order}
 use Rattle.kan_model.specs.Answers.Answer.{same_pair, same_form, is_weaker, form_in_names, in_names}
 use Rattle.kan_model.specs.Answers.AnswerText.{difference_le}
-use Rattle.kan_model.proofs.ListLaws.{Each, Each-in_order}
+use Rattle.kan_model.proofs.ListLaws.{Each-in_order}
+use Rattle.kan_model.specs.Each.{Each}
 use Rattle.kan_solving.specs.Solving.{replaced_by}
 use Rattle.kan_solving.specs.declared.solving.Replaced.{Replaced}
 use Rattle.reify.specs.declared.shaping.Shape.{Shape}

@@ -16,7 +16,8 @@ use Rattle.std.proofs.lemmas.List.Folds.{list_any-append}
 use Rattle.kan_model.specs.declared.prims.Kind.{Kind}
 use Rattle.kan_model.specs.declared.prims.Kind.TheVariants.{Symbol, Number, Text}
 use Rattle.kan_model.specs.Answers.Answer.{keeps_out, has_absence, tags_of, is_no_difference}
-use Rattle.kan_model.proofs.ListLaws.{Each, Each-like, Each-both, Each-filter, filter_passed, Each-from_list_all, list_all-from_Each}
+use Rattle.kan_model.proofs.ListLaws.{Each-like, Each-both, Each-filter, filter_passed, Each-from_list_all, list_all-from_Each}
+use Rattle.kan_model.specs.Each.{Each}
 use Rattle.kan_model.proofs.Solving.CompositionLaws.{compose_is_both}
 use Rattle.kan_model.proofs.Solving.ReplacedLaws.{applied_twice}
 use Rattle.kan_model.proofs.Solving.SolveLaws.{solve_by-Solves}

@@ -9,12 +9,9 @@ use Rattle.kan_model.specs.Stores.Kept.{is_kept}
 use Rattle.kan_model.specs.Stores.Calls.{answer, IsFree}
 use Rattle.kan_model.specs.Answers.Answer.{named_variables}
 use Rattle.kan_model.proofs.Solving.ReplacedLaws.{applied_twice}
-use Rattle.kan_model.proofs.ListLaws.{Each, Each-each_once}
+use Rattle.kan_model.proofs.ListLaws.{Each-append, Each-each_once}
+use Rattle.kan_model.specs.Each.{Each}
 use Rattle.reify.proofs.KindLaws.{answer_holds}
-
-Each-append : {X : Type 0} (P : X → Type 0) (xs ys : List X) → Each P xs → Each P ys → Each P (xs ++ ys)
-Each-append P [] ys h k = k
-Each-append P (x ∷ xs) ys (h, hs) k = (h, Each-append P xs ys hs k)
 
 pub All-from_Each : {X : Type 0} (P : X → Type 0) (xs : List X) → Each P xs → All P xs
 All-from_Each P [] h = All-nil P

@@ -1,8 +1,9 @@
 -- What the letters of a walked term are, and of the terms that wait on a stack.
-use Rattle.std.proofs.Common.{◌≡◌, ◌<◌, true, false, List, [], ◌∷◌, ◌++◌, length, sym, ◌∙◌, ap, append_assoc, append-nil, arith}
+use Rattle.std.proofs.Common.{◌≡◌, ◌<◌, true, false, List, [], ◌∷◌, ◌++◌, length, refl, sym, ◌∙◌, ap, append_assoc, append-nil, arith}
 use Rattle.std.specs.Borrow.{Bor}
 use Rattle.kan_terms.specs.Tree.{Tree, Tm}
 use Rattle.kan_terms.specs.Terms.{tree}
+use Rattle.kan_terms.specs.Waiting.{waiting_trees, parts_of}
 use Rattle.kan_terms.specs.declared.terms.Term.{Term}
 use Rattle.kan_model.specs.Stores.Solve.{Replacement, apply, image}
 use Rattle.kan_model.specs.Stores.Calls.{WalksTo, IsFoundFor}
@@ -15,12 +16,33 @@ waiting_under-push : (s : Replacement) (ts : List (Bor Term)) (t : Bor Term) →
 waiting_under-push s [] t = sym (append-nil (spelling (apply s (tree t.now))))
 waiting_under-push s (u ∷ ts) t = rw (waiting_under-push s ts t) (append_assoc (spelling (apply s (tree t.now))) (waiting_under s ts) (spelling (apply s (tree u.now))))
 
--- the two parts of a pair put on the stack
-pub parts_wait : (s : Replacement) (old middle new : List (Bor Term)) (a b : Bor Term) (t : Tm) →
-    middle ≡ old ++ b ∷ [] → new ≡ middle ++ a ∷ [] → t ≡ Tree.pair (tree a.now) (tree b.now) →
+-- the letters of some terms under a replacement, one after the other
+abbrev all_under : Replacement → List Tm → List Letter
+all_under s [] = []
+all_under s (t ∷ ts) = spelling (apply s t) ++ all_under s ts
+
+all_under-last : (s : Replacement) (ts : List Tm) (t : Tm) → all_under s (ts ++ t ∷ []) ≡ all_under s ts ++ spelling (apply s t)
+all_under-last s [] t = append-nil (spelling (apply s t))
+all_under-last s (u ∷ ts) t = ap (λ l. spelling (apply s u) ++ l) (all_under-last s ts t) ∙ sym (append_assoc (spelling (apply s u)) (all_under s ts) (spelling (apply s t)))
+
+waiting-all_under : (s : Replacement) (ts : List (Bor Term)) → waiting_under s ts ≡ all_under s (waiting_trees ts)
+waiting-all_under s [] = refl
+waiting-all_under s (t ∷ ts) = ap (λ l. l ++ spelling (apply s (tree t.now))) (waiting-all_under s ts) ∙ sym (all_under-last s (waiting_trees ts) (tree t.now))
+
+-- the parts of a term put on the stack, and its own letter, spell the term
+pub parts_spelled : (s : Replacement) (old new : List (Bor Term)) (t : Tm) → waiting_trees new ≡ parts_of t ++ waiting_trees old →
     letter_of t ∷ waiting_under s new ≡ spelled_under s t ++ waiting_under s old
-parts_wait s old middle new a b t first second pair =
-    rw (pair, second, waiting_under-push, first, waiting_under-push, append_assoc)
+parts_spelled s old new t wait =
+    ap (λ l. letter_of t ∷ l) (waiting-all_under s new ∙ ap (all_under s) wait) ∙ by t ∙ ap (λ l. spelled_under s t ++ l) (sym (waiting-all_under s old))
+  where
+    by : (u : Tm) → letter_of u ∷ all_under s (parts_of u ++ waiting_trees old) ≡ spelled_under s u ++ all_under s (waiting_trees old)
+    by (Tree.leaf v) = refl
+    by (Tree.sym x) = refl
+    by (Tree.str x) = refl
+    by (Tree.num n) = refl
+    by (Tree.truth b) = refl
+    by Tree.nil = refl
+    by (Tree.pair a b) = ap (λ l. letter_of (Tree.pair a b) ∷ l) (sym (append_assoc (spelling (apply s a)) (spelling (apply s b)) (all_under s (waiting_trees old))))
 
 -- what was found for an image spells it
 found_spells : (s : Replacement) (u w : Tm) → IsFoundFor s u w → spelled_under s w ≡ spelling u

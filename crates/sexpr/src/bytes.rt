@@ -2,7 +2,7 @@
 
 ghost use Rattle.std.specs.Prelude.{◌≡◌, ◌≤◌, length};
 ghost use Rattle.std.specs.List.{prefix_len};
-ghost use Rattle.kan_grammar.specs.Data.Words.{is_word_byte, all_digits};
+ghost use Rattle.kan_grammar.specs.Data.Words.{is_word_byte};
 ghost use Rattle.kan_grammar.specs.Data.Tokens.{comment_length, start};
 ghost use Rattle.sexpr.specs.Meaning.{start_of};
 
@@ -89,11 +89,4 @@ pub(crate) fn comment_length(bytes: &[u8]) -> usize
     ensures within { result ≤ length bytes.now }
 {
     bytes.iter().take_while(|byte| **byte != b'\n').count()
-}
-
-/// Whether all bytes are digits.
-pub fn all_digits(bytes: &[u8]) -> bool
-    ensures { result ≡ all_digits bytes.now }
-{
-    bytes.iter().all(|byte| byte.is_ascii_digit())
 }

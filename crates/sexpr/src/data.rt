@@ -1,6 +1,7 @@
 //! Data as they are read.
 
 ghost use Rattle.std.specs.Prelude.{◌≡◌};
+ghost use Rattle.std.specs.Option.{option_copied};
 ghost use Rattle.sexpr.specs.Reads.{memory_wanted};
 
 use kan_terms::Memory;
@@ -56,6 +57,16 @@ pub enum ReadError {
     Fault(u32, u8),
     /// Want of memory.
     Memory,
+}
+
+/// The datum after a dot, lent.
+pub fn last_datum(last: &Option<Boxed<Datum>>) -> Option<&Datum>
+    ensures { option_copied result ≡ last.now }
+{
+    match last {
+        Some(datum) => Some(datum.get()),
+        None => None,
+    }
 }
 
 impl From<AllocError> for ReadError {

@@ -13,8 +13,8 @@ mod strings;
 mod token;
 mod word;
 
-pub use bytes::{all_digits, is_word_byte, word_length};
-pub use data::{Data, Datum, DatumKind, Prefix, ReadError};
+pub use bytes::{is_word_byte, word_length};
+pub use data::{Data, Datum, DatumKind, Prefix, ReadError, last_datum};
 pub use printer::print;
 pub use reader::read;
 pub use strings::print_string;

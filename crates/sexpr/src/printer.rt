@@ -1,7 +1,6 @@
 //! The text of a datum.
 
 ghost use Rattle.std.specs.Prelude.{◌≡◌, ◌+◌, ◌<◌, ◌++◌, OnOk, IfOk, codes, string_bytes};
-ghost use Rattle.std.specs.Option.{option_copied};
 ghost use Rattle.kan_grammar.specs.Data.Printed.{datum_text, named_text, pairs, pairs_within};
 ghost use Rattle.kan_grammar.specs.Data.Printed.{prefix_name};
 ghost use Rattle.sexpr.specs.Meaning.{prefix_of};
@@ -13,10 +12,9 @@ ghost use Rattle.sexpr.specs.Printing.{string_atom_text, within, Falls, Prints, 
 ghost use Rattle.sexpr.specs.Printing.{cost_within, work_text, work_cost};
 ghost use Rattle.sexpr.specs.declared.printer.Work.TheVariants as work_variants;
 
-use crate::data::{Datum, DatumKind, Prefix};
+use crate::data::{Datum, DatumKind, Prefix, last_datum};
 use crate::strings::print_string;
 use kan_terms::{Memory, Names};
-use sqlite_items::Boxed;
 use std::alloc::Global;
 
 /// What is left to print.
@@ -91,7 +89,7 @@ fn print_datum<'a>(
         DatumKind::Truth(truth) => text.push_str(truth_name(*truth))?,
         DatumKind::List(items, last) => return print_list(
             items.as_slice(),
-            lent(last),
+            last_datum(last),
             names,
             text,
             works,
@@ -203,7 +201,7 @@ fn print_tail<'a>(
         (work_cost names.now (work_variants.Tail datum.entry))) }
 {
     match &datum.kind {
-        DatumKind::List(items, last) => works.push(Work::Rest(items.as_slice(), lent(last)))?,
+        DatumKind::List(items, last) => works.push(Work::Rest(items.as_slice(), last_datum(last)))?,
         DatumKind::Prefixed(prefix, inner) => {
             text.push(' ')?;
             text.push_str(name_of(*prefix))?;
@@ -236,16 +234,6 @@ fn print_last<'a>(
     text.push_str(" . ")?;
     works.push(Work::Datum(datum))?;
     Ok(())
-}
-
-/// The datum after a dot, lent.
-fn lent(last: &Option<Boxed<Datum>>) -> Option<&Datum>
-    ensures { option_copied result ≡ last.now }
-{
-    match last {
-        Some(datum) => Some(datum.get()),
-        None => None,
-    }
 }
 
 /// The symbol that a prefix stands for.

@@ -7,8 +7,8 @@ ghost use Rattle.kan_grammar.specs.Data.Words.{looks_like_number, is_dot, is_res
 ghost use Rattle.kan_grammar.specs.Data.Words.{number_token, word_token};
 ghost use Rattle.sexpr.specs.Meaning.{token_of};
 
-use crate::bytes::all_digits;
 use crate::token::{Atom, Token};
+use kan_grammar::all_digits;
 
 /// The token of a word.
 #[tactic(auto, unfolding(kan_grammar::specs::Data::Words::word_token))]

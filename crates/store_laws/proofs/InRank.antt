@@ -8,7 +8,8 @@ use Rattle.kan_model.specs.Answers.Order.{put_in_order, in_order, stands_in}
 use Rattle.kan_model.specs.Stores.Solve.{Replaced, Replacement, image, Solves, solve_by}
 use Rattle.kan_model.specs.Stores.Composition.{apply_sides}
 use Rattle.kan_model.specs.Answers.Answer.{rank, ranks_lower, in_rank}
-use Rattle.kan_model.proofs.ListLaws.{Each, EachTwo, Each-like, Each-put, Each-in_order}
+use Rattle.kan_model.proofs.ListLaws.{EachTwo, Each-like, Each-put, Each-in_order}
+use Rattle.kan_model.specs.Each.{Each}
 use Rattle.kan_model.proofs.Solving.SolveLaws.{solve_by-Solves}
 use Rattle.kan_model.proofs.Answering.SolvedForms.{Rises, Rising, Once, Solves-once, rank-one}
 use Rattle.store_laws.specs.SolvedForms.{RanksApart, SameImages, OneFormInRank, DifferenceInRank, NamedInRank}

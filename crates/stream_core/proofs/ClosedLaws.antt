@@ -17,8 +17,8 @@ use Rattle.kan_model.specs.declared.nodes.GoalNode.{GoalNode}
 use Rattle.kan_model.specs.declared.nodes.GoalNode.TheVariants.{Succeed, Fail, Same, Differ, Symbol, Number, Text, Absent, Both, Either, Fresh, Later, Call}
 use Rattle.stream_core.specs.AtomicGoals.{is_atomic, ends_at_once}
 use Rattle.stream_core.specs.CallArguments.{ArgumentsPlaced}
-use Rattle.stream_core.specs.Tasks.{Each}
-use Rattle.stream_core.proofs.HeadLaws.{Each-like, Each-append}
+use Rattle.kan_model.specs.Each.{Each}
+use Rattle.kan_model.proofs.ListLaws.{Each-like, Each-append}
 
 -- the parts of a goal are goals of the list
 abbrev pub PartsIn : List Goal → Goal → Type 0

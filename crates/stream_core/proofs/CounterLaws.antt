@@ -4,8 +4,8 @@ use Rattle.kan_model.specs.Stores.Store.{Store}
 use Rattle.kan_model.specs.Streams.Stream.{Stream, heads}
 use Rattle.kan_model.specs.Streams.Bounds.{top, floor, stream_top, stream_floor, highest, lowest}
 use Rattle.stream_core.specs.CounterBounds.{Between}
-use Rattle.stream_core.specs.Tasks.{Each}
-use Rattle.stream_core.proofs.HeadLaws.{Each-like}
+use Rattle.kan_model.specs.Each.{Each}
+use Rattle.kan_model.proofs.ListLaws.{Each-like}
 
 -- heads lie between the least and the greatest of their counters
 all-between : (hs : List Store) (m n : ℕ) → Each (Between (lowest hs m) (highest hs n)) hs

@@ -15,9 +15,10 @@ use Rattle.kan_model.specs.Streams.Running.{Arguments, run, force, enter, variab
 use Rattle.kan_model.specs.Programs.Scope.{width, all_below, in_scope, takes}
 use Rattle.kan_model.specs.Streams.Bounds.{Fits, StreamFits, top, floor, stream_top, stream_floor, highest, lowest}
 use Rattle.stream_core.specs.CounterBounds.{Between, RestFits, TailFits}
-use Rattle.stream_core.specs.Tasks.{Each}
+use Rattle.kan_model.specs.Each.{Each}
 use Rattle.stream_core.specs.CallArguments.{NamesFirst}
-use Rattle.stream_core.proofs.HeadLaws.{Each-like, Each-append, below-more, env-more, variables-below}
+use Rattle.stream_core.proofs.HeadLaws.{below-more, env-more, variables-below}
+use Rattle.kan_model.proofs.ListLaws.{Each-like, Each-append}
 use Rattle.stream_core.proofs.ArgumentLaws.{instance-below, names-itself, names-all}
 use Rattle.stream_core.proofs.CounterLaws.{stream-floor-below, stream-top-above, stream-between, lowest-below, highest-above}
 use Rattle.stream_core.proofs.ClosedLaws.{ProgramIsClosed}

@@ -9,16 +9,9 @@ use Rattle.kan_model.specs.Stores.Kept.{is_kept}
 use Rattle.kan_model.specs.Streams.Stream.{Stream, Thunk, heads, append, append_each, bind_all, empty, one}
 use Rattle.kan_model.specs.Streams.Running.{run, variables, instance}
 use Rattle.kan_model.specs.Programs.Scope.{width, all_below}
+use Rattle.kan_model.proofs.ListLaws.{Each-like, Each-append}
 use Rattle.stream_core.specs.CounterBounds.{Between}
-use Rattle.stream_core.specs.Tasks.{Each}
-
-pub Each-like : {X : Type 0} (P Q : X → Type 0) → ((x : X) → P x → Q x) → (xs : List X) → Each P xs → Each Q xs
-Each-like P Q f [] h = tt
-Each-like P Q f (x ∷ xs) (h, hs) = (f x h, Each-like P Q f xs hs)
-
-pub Each-append : {X : Type 0} (P : X → Type 0) (xs ys : List X) → Each P xs → Each P ys → Each P (xs ++ ys)
-Each-append P [] ys h k = k
-Each-append P (x ∷ xs) ys (h, hs) k = (h, Each-append P xs ys hs k)
+use Rattle.kan_model.specs.Each.{Each}
 
 -- the stores of streams that are appended, and of a goal at each store
 pub heads-append : (P : Store → Type 0) (s t : Stream) → Each P (heads s) → Each P (heads t) → Each P (heads (append s t))

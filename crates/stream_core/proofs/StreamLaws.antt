@@ -7,7 +7,8 @@ use Rattle.kan_model.specs.Stores.Store as facts
 use Rattle.kan_model.specs.Streams.Stream as model
 use Rattle.kan_model.specs.Streams.Running.{run}
 use Rattle.stream_core.specs.Tasks as pending
-use Rattle.stream_core.specs.Tasks.{Becomes, Each, count, streams_after}
+use Rattle.stream_core.specs.Tasks.{Becomes, count, streams_after}
+use Rattle.kan_model.specs.Each.{Each}
 use Rattle.stream_core.specs.Suspensions.{Stays, StreamBelongs, stream, going_on}
 use Rattle.stream_core.specs.CodeTasks.{stack}
 use Rattle.stream_core.specs.declared.streams.Stream.{Stream}
@@ -37,17 +38,6 @@ pub all-belong : {I St : Type 0} (belonged belongs : I → Type 0) (was is : I �
     (ss : List (Stream I St)) → Each (StreamBelongs belonged) ss → Each (StreamBelongs belongs) ss
 all-belong belonged belongs was is grows [] h = tt
 all-belong belonged belongs was is grows (s ∷ ss) (h, hs) = (tail-belongs belonged belongs was is grows s.tail h, all-belong belonged belongs was is grows ss hs)
-
-pub Each-last : {X : Type 0} (P : X → Type 0) (xs : List X) (x : X) → Each P xs → P x → Each P (xs ++ x ∷ [])
-Each-last P [] x h k = (k, tt)
-Each-last P (y ∷ xs) x (h, hs) k = (h, Each-last P xs x hs k)
-
-pub Each-front : {X : Type 0} (P : X → Type 0) (xs rest : List X) (x : X) → xs ≡ rest ++ x ∷ [] → Each P xs → Each P rest × P x
-Each-front P xs rest x split h = go rest (subst (Each P) split h)
-  where
-    go : (ys : List _) → Each P (ys ++ x ∷ []) → Each P ys × P x
-    go [] (k, end) = (tt, k)
-    go (y ∷ ys) (k, ks) = let (more, last) = go ys ks in ((k, more), last)
 
 pub stays-twice : {I : Type 0} (b1 b2 b3 : I → Type 0) (t1 t2 t3 : I → model.Thunk) → Stays b1 t1 b2 t2 → Stays b2 t2 b3 t3 → Stays b1 t1 b3 t3
 stays-twice b1 b2 b3 t1 t2 t3 one two id h = let (there, same) = one id h in let (now, still) = two id there in (now, still ∙ same)

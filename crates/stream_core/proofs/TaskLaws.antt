@@ -12,8 +12,10 @@ use Rattle.kan_model.specs.Streams.Running.{run, variables}
 use Rattle.kan_model.specs.Programs.Scope.{width, all_below, in_scope}
 use Rattle.kan_model.specs.Streams.Bounds.{floor}
 use Rattle.stream_core.specs.CounterBounds.{Between, RestFits}
-use Rattle.stream_core.specs.Tasks.{Task, streams_after, Each, HasRoom, IsOf, AreBelowRest, AreReady, for_each, count, tasks_to_do, Becomes, run_each, bound_last}
-use Rattle.stream_core.proofs.HeadLaws.{Each-like, run-between, env-more, variables-below}
+use Rattle.stream_core.specs.Tasks.{Task, streams_after, HasRoom, IsOf, AreBelowRest, AreReady, for_each, count, tasks_to_do, Becomes, run_each, bound_last}
+use Rattle.kan_model.specs.Each.{Each}
+use Rattle.stream_core.proofs.HeadLaws.{run-between, env-more, variables-below}
+use Rattle.kan_model.proofs.ListLaws.{Each-like}
 use Rattle.stream_core.proofs.ClosedLaws.{ProgramIsClosed}
 use Rattle.stream_core.proofs.FitLaws.{run-fits, wider-slots}
 

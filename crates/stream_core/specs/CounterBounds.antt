@@ -8,7 +8,7 @@ use Rattle.kan_model.specs.Stores.Store.{Store}
 use Rattle.kan_model.specs.Streams.Stream.{Stream, heads}
 use Rattle.kan_model.specs.Programs.Scope.{width, all_below}
 use Rattle.kan_model.specs.Streams.Bounds.{Fits, top, floor}
-use Rattle.stream_core.specs.Tasks.{Each}
+use Rattle.kan_model.specs.Each.{Each}
 
 -- a counter between two numbers
 abbrev pub Between : ℕ → ℕ → Store → Type 0

@@ -2,7 +2,7 @@
 use Rattle.std.specs.Prelude.{◌≡◌, true, false, List, [], ◌∷◌, Option, Some, None}
 use Rattle.kan_model.specs.Stores.Store as facts
 use Rattle.kan_model.specs.Streams.Stream.{Thunk}
-use Rattle.stream_core.specs.Tasks.{Each}
+use Rattle.kan_model.specs.Each.{Each}
 use Rattle.stream_core.specs.InnerSuspensions.{MayForce, has_inner, inner_of}
 use Rattle.stream_core.specs.Tables.{Table, IsForce, IsKept, IsInner}
 use Rattle.stream_core.specs.CodeTasks.{stack}

@@ -4,6 +4,7 @@ use Rattle.std.specs.Prelude.{◌≡◌, ℕ, ◌+◌, ◌≤◌, ◌<◌, ◌^�
 use Rattle.std.specs.Prelude.{Contains}
 use Rattle.std.specs.List.{list_all}
 use Rattle.kan_terms.specs.Tree.{Tm}
+use Rattle.kan_model.specs.Each.{Each}
 use Rattle.kan_model.specs.Programs.Goals.{Goal, Program}
 use Rattle.kan_model.specs.Stores.Store.{Store, with_fresh}
 use Rattle.kan_model.specs.Streams.Stream.{Stream, Thunk, heads, append, bind_all, empty}
@@ -30,11 +31,6 @@ streams_after (Task.append_empty ∷ ts) [] = []
 streams_after (Task.bind_to g env ∷ ts) (s ∷ vs) =
     streams_after ts (bind_all (run g env) g env s ∷ vs)
 streams_after (Task.bind_to g env ∷ ts) [] = []
-
--- a fact of each element
-abbrev pub Each : {X : Type 0} → (X → Type 0) → List X → Type 0
-Each P [] = Unit {0}
-Each P (x ∷ xs) = P x × Each P xs
 
 -- the variables are there, and enough numbers are left for those that the goal takes
 abbrev pub HasRoom : Goal → List Tm → Store → Type 0

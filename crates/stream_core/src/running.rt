@@ -17,7 +17,8 @@ ghost use Rattle.stream_core.specs.SolutionsFound.{FindsSolutions, GivesFew};
 ghost use Rattle.stream_core.specs.Suspensions.{going_on};
 ghost use Rattle.stream_core.specs.Tables.{IsTableOf, OnlyAdds, HasStream, stream_in};
 ghost use Rattle.stream_core.specs.Tasks as pending;
-ghost use Rattle.stream_core.specs.Tasks.{Each, IsOf, MayRun, AreBelow, AreBelowRest, Becomes};
+ghost use Rattle.stream_core.specs.Tasks.{IsOf, MayRun, AreBelow, AreBelowRest, Becomes};
+ghost use Rattle.kan_model.specs.Each.{Each};
 ghost use Rattle.stream_core.specs.Tasks.{AreReady, bound_last, streams_after};
 ghost use Rattle.stream_core.specs.CodeTasks.{task, tasks_of, streams_of};
 

@@ -7,11 +7,12 @@ use Rattle.kan_terms.specs.declared.terms.Term.{Term}
 use Rattle.kan_terms.proofs.TreeLaws.{size-positive}
 use Rattle.unify_core.specs.Walking.{Pairs, walk, full}
 use Rattle.unify_core.specs.Cycles.{HasNoCycle}
-use Rattle.unify_core.specs.LentBindings.{waiting_trees, parts_of}
+use Rattle.kan_terms.specs.Waiting.{waiting_trees, parts_of}
 use Rattle.unify_core.proofs.Grown.{ends-unbound}
 use Rattle.unify_core.proofs.CycleLaws.{grown}
 use Rattle.unify_core.proofs.WalkLaws.{full-walk, walk-end}
-use Rattle.unify_core.proofs.Steps.OccursSteps.{waiting-push, stands_in, nodes}
+use Rattle.unify_core.proofs.Steps.OccursSteps.{stands_in, nodes}
+use Rattle.kan_terms.proofs.WaitingLaws.{waiting-push}
 use Rattle.type_absence.specs.Tags.{with_tags, has_any}
 use Rattle.type_absence.specs.Absent.{TagsOf}
 use Rattle.type_absence.specs.Waiting.{names_one, put_on, Tagged}
@@ -165,9 +166,3 @@ pub leads_end : (bound : Pairs) (more : List ℕ) (old made : TagsOf) (all : Tm)
 leads_end bound more old made all waiting none leads =
     let done : Leads bound more old all made [] = subst (λ ts. Leads bound more old all made (waiting_trees ts)) none leads in
     (sym done.any, done.put)
-
--- the two parts of a pair put on the stack
-pub parts_wait : (old middle new : List (Bor Term)) (a b : Bor Term) (t : Tm) → middle ≡ old ++ b ∷ [] → new ≡ middle ++ a ∷ [] → t ≡ Tree.pair (tree a.now) (tree b.now) →
-    waiting_trees new ≡ parts_of t ++ waiting_trees old
-parts_wait old middle new a b t one two is_pair =
-    ap waiting_trees two ∙ waiting-push middle a ∙ ap (λ us. tree a.now ∷ us) (ap waiting_trees one ∙ waiting-push old b) ∙ ap (λ u. parts_of u ++ waiting_trees old) (sym is_pair)

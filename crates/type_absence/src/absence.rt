@@ -10,11 +10,11 @@ ghost use Rattle.type_absence.specs.Types.{made_if};
 ghost use Rattle.type_absence.specs.Tags.{has_any, with_tags};
 ghost use Rattle.type_absence.specs.Waiting.{names_one, put_on, Tagged};
 ghost use Rattle.unify_core.specs.Cycles.{HasNoCycle};
-ghost use Rattle.unify_core.specs.LentBindings.{parts_of, waiting_trees};
+ghost use Rattle.kan_terms.specs.Waiting.{waiting_trees, parts_of};
 ghost use Rattle.unify_core.specs.Walking.{full, walk};
 
 use crate::tags::{copied, lists, lists_all, put_all};
-use kan_terms::{Bindings, Memory, Tags, Term};
+use kan_terms::{Bindings, Memory, Tags, Term, wait_for_parts};
 use kan_tree::VarTree;
 use std::alloc::Global;
 use std::sync::Arc;
@@ -28,18 +28,6 @@ fn is_one_of(symbols: &[u32], term: &Term) -> bool
         Term::Sym(name) => lists(symbols, *name),
         _ => false,
     }
-}
-
-// Puts the parts of a pair on a stack of waiting terms, the first part on top.
-fn wait_for_parts<'a>(term: &'a Term, waiting: &mut Vec<&'a Term>) -> Result<(), Memory>
-    ensures { OnOk result (waiting_trees waiting.new.items ≡ parts_of (tree term.now) ++
-        waiting_trees waiting.old.items) }
-{
-    if let Term::Pair(parts) = term {
-        waiting.push(&parts.rest)?;
-        waiting.push(&parts.first)?;
-    }
-    Ok(())
 }
 
 /// Tags that stand nowhere in variables. A variable that was bound keeps those that it had, which

@@ -1,12 +1,11 @@
 -- What the lent parts of a running unification stand for.
 use Rattle.std.specs.Prelude.{◌≡◌, ℕ, true, false, List, [], ◌∷◌, ◌++◌, ◌<◌, map}
 use Rattle.std.specs.Prelude.{Option, Some, None, is_some, if◌then◌else◌}
-use Rattle.std.specs.Borrow.{Bor}
 use Rattle.kan_terms.specs.Tree.{Tree, Tm, occurs}
 use Rattle.kan_terms.specs.Bound.{bound_to}
 use Rattle.kan_terms.specs.Greatest.{greatest_in}
 use Rattle.kan_terms.specs.Terms.{tree}
-use Rattle.kan_terms.specs.declared.terms.Term.{Term}
+use Rattle.kan_terms.specs.Waiting.{parts_of}
 use Rattle.kan_model.specs.Stores.Store.{Equation}
 use Rattle.unify_core.specs.Walking.{Pairs, full}
 use Rattle.unify_core.specs.Solutions.{equation}
@@ -24,16 +23,6 @@ lent_pair one = (one.var, tree one.term.now)
 abbrev pub with_lent : List LentBinding → Pairs → Pairs
 with_lent [] bound = bound
 with_lent (one ∷ more) bound = with_lent more (lent_pair one ∷ bound)
-
--- the terms on a stack, the top first
-abbrev pub waiting_trees : List (Bor Term) → List Tm
-waiting_trees [] = []
-waiting_trees (term ∷ above) = waiting_trees above ++ tree term.now ∷ []
-
--- the parts of a pair, and nothing of other terms
-abbrev pub parts_of : Tm → List Tm
-parts_of (Tree.pair a b) = a ∷ b ∷ []
-parts_of t = []
 
 -- the parts of a pair in which a variable stands, and nothing of other terms
 abbrev pub open_parts : Tm → List Tm

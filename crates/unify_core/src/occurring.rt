@@ -5,11 +5,12 @@ ghost use Rattle.kan_model.specs.Stores.Kept as kept;
 ghost use Rattle.kan_terms.specs.Terms.{tree};
 ghost use Rattle.kan_terms.specs.Tree as trees;
 ghost use Rattle.unify_core.specs.Cycles.{HasNoCycle};
-ghost use Rattle.unify_core.specs.LentBindings.{AllAbove, open_parts, waiting_trees, with_lent};
+ghost use Rattle.unify_core.specs.LentBindings.{AllAbove, open_parts, with_lent};
+ghost use Rattle.kan_terms.specs.Waiting.{waiting_trees};
 ghost use Rattle.unify_core.specs.Walking.{IsOtherEnd, full, walk};
 
 use crate::walking::{LentBinding, walk_on};
-use kan_terms::{Bindings, Memory, Term};
+use kan_terms::{Bindings, Memory, Term, wait_for_parts};
 use std::alloc::Global;
 
 /// Whether a term is the variable.
@@ -22,20 +23,15 @@ pub fn is_variable(term: &Term, var: u64) -> bool
     }
 }
 
-// Puts the parts of a pair on a stack of waiting terms, the first part on top, unless it has no
-// variable.
-fn wait_for_parts<'a>(term: &'a Term, waiting: &mut Vec<&'a Term>) -> Result<(), Memory>
+// Puts the parts of a pair on a stack of waiting terms, unless it has no variable.
+fn wait_for_open_parts<'a>(term: &'a Term, waiting: &mut Vec<&'a Term>) -> Result<(), Memory>
     ensures { OnOk result (waiting_trees waiting.new.items ≡ open_parts (tree term.now) ++
         waiting_trees waiting.old.items) }
 {
     if term.greatest_variable().is_none() {
         return Ok(());
     }
-    if let Term::Pair(parts) = term {
-        waiting.push(&parts.rest)?;
-        waiting.push(&parts.first)?;
-    }
-    Ok(())
+    wait_for_parts(term, waiting)
 }
 
 // Whether a term walks to the variable. Where it doesn't, the parts of what it walks to wait.
@@ -58,7 +54,7 @@ fn look_at<'a, B: Bindings>(
     if is_variable(reached, var) {
         return Ok(true);
     }
-    wait_for_parts(reached, waiting)?;
+    wait_for_open_parts(reached, waiting)?;
     Ok(false)
 }
 

@@ -14,7 +14,8 @@ use Rattle.kan_model.specs.Stores.Store.{Equation}
 use Rattle.kan_model.specs.declared.prims.Kind.{Kind}
 use Rattle.kan_model.specs.declared.prims.Kind.TheVariants.{Symbol}
 use Rattle.kan_model.proofs.Answering.SolvedForms.{rank-one}
-use Rattle.kan_model.proofs.ListLaws.{Each, Each-like, Each-filter, Each-each_once, list_all-from_Each, Each-from_list_all}
+use Rattle.kan_model.proofs.ListLaws.{Each-like, Each-filter, Each-each_once, list_all-from_Each, Each-from_list_all}
+use Rattle.kan_model.specs.Each.{Each}
 use Rattle.kan_model.proofs.Solving.UnifierLaws.{answer_most_general}
 use Rattle.store_laws.proofs.OneForm.{answer_rises}
 use Rattle.kan_meaning.specs.LeftOut.{NeverEqual, UnnamedCanDiffer, ExcludedDiffer, pair_holds, fails, WeakerSayNothing, EqualSayNothing}

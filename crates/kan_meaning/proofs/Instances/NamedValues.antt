@@ -10,7 +10,7 @@ use Rattle.kan_model.specs.Answers.Covers.{pair_met}
 use Rattle.kan_model.specs.Answers.Order.{place_of, stands_in}
 use Rattle.kan_model.specs.Stores.Solve.{Replaced, Replacement, image}
 use Rattle.kan_model.specs.Stores.Unifiers.{Factors}
-use Rattle.kan_model.proofs.ListLaws.{Each}
+use Rattle.kan_model.specs.Each.{Each}
 use Rattle.kan_meaning.proofs.Grounds.{ground_same, same_ground}
 
 -- a replaced variable has the value of its term

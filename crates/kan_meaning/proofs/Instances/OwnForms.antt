@@ -13,7 +13,8 @@ use Rattle.kan_model.specs.declared.prims.Kind.{Kind}
 use Rattle.kan_model.specs.declared.prims.Kind.TheVariants.{Symbol, Number, Text}
 use Rattle.kan_model.proofs.Answering.NameLaws.{place_below}
 use Rattle.kan_model.proofs.Answering.SolvedForms.{Rises, Rising, Once}
-use Rattle.kan_model.proofs.ListLaws.{Each, Each-like, Each-both}
+use Rattle.kan_model.proofs.ListLaws.{Each-like, Each-both}
+use Rattle.kan_model.specs.Each.{Each}
 use Rattle.kan_meaning.proofs.Instances.NamedValues.{PairHolds, pair_named}
 use Rattle.kan_meaning.proofs.Instances.OwnValues.{own_of, own, above_atoms}
 

@@ -20,7 +20,8 @@ use Rattle.kan_model.specs.Stores.Store.{Store, Equation, equations}
 use Rattle.kan_model.specs.declared.prims.Kind.{Kind}
 use Rattle.kan_model.specs.declared.prims.Kind.TheVariants.{Symbol, Number, Text}
 use Rattle.kan_model.proofs.Answering.SolvedForms.{rank-one, Once, Solves-once}
-use Rattle.kan_model.proofs.ListLaws.{Each, Each-like, Each-both, Each-in_order, Each-from_list_all}
+use Rattle.kan_model.proofs.ListLaws.{Each-like, Each-both, Each-in_order, Each-from_list_all}
+use Rattle.kan_model.specs.Each.{Each}
 use Rattle.kan_model.proofs.Solving.SolveLaws.{solve_by-Solves}
 use Rattle.kan_model.proofs.Solving.UnifierLaws.{answer_unifies, answer_most_general}
 use Rattle.pull_bounds.specs.Finding.{IsSolvedAt}

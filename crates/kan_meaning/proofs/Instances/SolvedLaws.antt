@@ -14,7 +14,7 @@ use Rattle.kan_model.specs.Stores.Store.{equations}
 use Rattle.kan_model.specs.Stores.Unifiers.{Unifies}
 use Rattle.kan_model.specs.declared.prims.Kind.{Kind}
 use Rattle.kan_model.specs.declared.prims.Kind.TheVariants.{Symbol, Number, Text}
-use Rattle.kan_model.proofs.ListLaws.{Each}
+use Rattle.kan_model.specs.Each.{Each}
 use Rattle.kan_meaning.proofs.Grounds.{ground_same, same_ground, below_occurs}
 use Rattle.kan_meaning.proofs.Instances.OwnValues.{own_of, own, above_atoms, separated, own_apart, first_values, first-length, first_at}
 

@@ -19,7 +19,8 @@ use Rattle.kan_model.specs.Answers.InForm.{counts_up, ascends, is_filled, differ
 use Rattle.kan_model.proofs.Solving.SolveLaws.{solve_by-Solves}
 use Rattle.kan_model.proofs.Solving.UnifierLaws.{answer_unifies}
 use Rattle.kan_model.proofs.Solving.ReplacedLaws.{apply-kept, answer_clean}
-use Rattle.kan_model.proofs.ListLaws.{Each, EachTwo, Each-like, Each-both, Each-all, EachTwo-like, EachTwo-with, Each-map, EachTwo-map, Each-filter, filter_passed, EachTwo-filter, Each-each_once, each_once_apart, Each-in_order, EachTwo-in_order, ascends-in_order, ascends_strictly, list_all-from_Each, Each-from_list_all, list_any_none-from_Each}
+use Rattle.kan_model.proofs.ListLaws.{EachTwo, Each-like, Each-both, Each-all, EachTwo-like, EachTwo-with, Each-map, EachTwo-map, Each-filter, filter_passed, EachTwo-filter, Each-each_once, each_once_apart, Each-in_order, EachTwo-in_order, ascends-in_order, ascends_strictly, list_all-from_Each, Each-from_list_all, list_any_none-from_Each}
+use Rattle.kan_model.specs.Each.{Each}
 use Rattle.kan_model.proofs.Answering.NameLaws.{names_count_up, name_count-in_names, names_where-in_form, names_where-apart, apart_both}
 use Rattle.kan_model.proofs.Answering.SolvedForms.{rank-one, Rising, Once, Solves-rises, Solves-once, entries_gone}
 use Rattle.kan_model.proofs.Answering.FormLaws.{Named, Named-from_test, IsSolved, form_is_in_form, form_is_named, form_in_names-one, equal_pairs-same}

@@ -10,7 +10,8 @@ use Rattle.kan_model.specs.Stores.Solve.{Replaced, Replacement}
 use Rattle.kan_model.specs.Answers.Answer.{NamedPair, in_names, in_rank, rank, ranks_lower, all_named, same_pair, same_form, form_in_names}
 use Rattle.kan_model.specs.Programs.Scope.{all_below}
 use Rattle.kan_model.specs.Answers.InForm.{ascends, replaces_lower, pair_in_form, is_replaced, name_before, is_filled, difference_in_form, equal_pairs}
-use Rattle.kan_model.proofs.ListLaws.{Each, Each-like, Each-both, Each-map, Each-in_order, EachTwo-in_order, list_all-from_Each, Each-from_list_all, ascends-in_order, ascends_strictly, ascends-map}
+use Rattle.kan_model.proofs.ListLaws.{Each-like, Each-both, Each-map, Each-in_order, EachTwo-in_order, list_all-from_Each, Each-from_list_all, ascends-in_order, ascends_strictly, ascends-map}
+use Rattle.kan_model.specs.Each.{Each}
 use Rattle.kan_model.proofs.Answering.NameLaws.{place_below, place_of-one, all_below-in_names}
 use Rattle.kan_model.proofs.Answering.SolvedForms.{rank-one, Rises, Rising, Once}
 

@@ -9,7 +9,8 @@ use Rattle.kan_model.specs.Answers.Order.{each_once, place_of, stands_in}
 use Rattle.kan_model.specs.Programs.Scope.{all_below}
 use Rattle.kan_model.specs.Answers.Answer.{named_variables, in_names, names_where}
 use Rattle.kan_model.specs.Answers.InForm.{counts_up, ascends, names_in_form, apart}
-use Rattle.kan_model.proofs.ListLaws.{Each, EachTwo, Each-like, each_once_apart}
+use Rattle.kan_model.proofs.ListLaws.{EachTwo, Each-like, each_once_apart}
+use Rattle.kan_model.specs.Each.{Each}
 
 eqb_turn : (a b : ℕ) (c : Bool) → eqb a b ≡ c → eqb b a ≡ c
 eqb_turn a b true e = eq-eqb b a (sym (eqb-true a b e))

@@ -12,7 +12,8 @@ use Rattle.kan_model.specs.Programs.Scope.{all_below}
 use Rattle.kan_model.specs.Answers.InForm.{ascends, replaces_lower, pair_in_form, is_replaced, name_before, is_filled, pair_equations, pair_replacement, FormIsSolved}
 use Rattle.kan_model.proofs.Solving.SolveLaws.{solve_by-Solves, Solves-one_answer}
 use Rattle.kan_model.proofs.Solving.ReplacedLaws.{apply-kept}
-use Rattle.kan_model.proofs.ListLaws.{Each, Each-like, Each-both, Each-from_list_all}
+use Rattle.kan_model.proofs.ListLaws.{Each-like, Each-both, Each-from_list_all}
+use Rattle.kan_model.specs.Each.{Each}
 
 -- the work on a pair in form is the replacement of its name
 abbrev AsPair : NamedPair → Equation

@@ -11,7 +11,8 @@ use Rattle.kan_model.specs.Answers.Answer.{rank}
 use Rattle.kan_model.proofs.Solving.WorkLaws.{work_explained}
 use Rattle.kan_model.proofs.Solving.VariableCount.{stands, replaced_gone}
 use Rattle.kan_model.proofs.Solving.ReplacedLaws.{Clean, Gone, Solves-clean}
-use Rattle.kan_model.proofs.ListLaws.{Each, EachTwo, Each-like, Each-both, Each-from_list_any_none}
+use Rattle.kan_model.proofs.ListLaws.{EachTwo, Each-like, Each-both, Each-from_list_any_none}
+use Rattle.kan_model.specs.Each.{Each}
 use Rattle.kan_model.proofs.Answering.NameLaws.{place_below, place_of-one}
 
 -- two variables of one rank are the same

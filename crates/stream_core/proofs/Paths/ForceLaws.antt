@@ -13,7 +13,8 @@ use Rattle.kan_model.specs.Programs.Tables.{Tables, RelationEntry, goal_at, goal
 use Rattle.kan_model.specs.Streams.Bounds.{Fits, top, floor}
 use Rattle.kan_model.proofs.Programs.TableLaws.{grown-parts, goals-length}
 use Rattle.stream_core.specs.CounterBounds.{Between}
-use Rattle.stream_core.specs.Tasks.{Each, IsOf, AreBelowRest}
+use Rattle.stream_core.specs.Tasks.{IsOf, AreBelowRest}
+use Rattle.kan_model.specs.Each.{Each}
 use Rattle.stream_core.specs.InnerSuspensions.{MayForce, has_inner, inner_of}
 use Rattle.stream_core.specs.Suspensions.{goal_in, listed}
 use Rattle.stream_core.specs.Tables.{Table, OnlyAdds, GrowsBy, Told, IsTableOf, HasStream, IsForce, stream_in, thunk_in}
@@ -24,7 +25,8 @@ use Rattle.kan_model.specs.Programs.Closed as programs
 use Rattle.kan_model.specs.Programs.Environments.{terms_of}
 use Rattle.kan_model.specs.declared.program.Program as code
 use Rattle.kan_model.specs.declared.environment.Env.{Env}
-use Rattle.stream_core.proofs.HeadLaws.{Each-like, env-more}
+use Rattle.stream_core.proofs.HeadLaws.{env-more}
+use Rattle.kan_model.proofs.ListLaws.{Each-like}
 use Rattle.stream_core.proofs.CounterLaws.{stream-top-above}
 use Rattle.stream_core.proofs.ClosedLaws.{ProgramIsClosed, all-at, program-closed}
 use Rattle.stream_core.proofs.StreamLaws.{heads-going}

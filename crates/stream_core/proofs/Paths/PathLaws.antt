@@ -3,7 +3,7 @@ use Rattle.std.proofs.Common.{◌≡◌, true, List, [], ◌∷◌, ◌++◌, re
 use Rattle.std.specs.Prelude.{Option, Some, None, IfSome}
 use Rattle.kan_model.specs.Stores.Store as facts
 use Rattle.kan_model.specs.Streams.Stream.{Thunk}
-use Rattle.stream_core.specs.Tasks.{Each}
+use Rattle.kan_model.specs.Each.{Each}
 use Rattle.stream_core.specs.InnerSuspensions.{MayForce, InnerId, has_inner, inner_of}
 use Rattle.stream_core.specs.Tables.{Told, Table, GrowsBy, IsForce}
 use Rattle.stream_core.specs.CodeTasks.{stack}
@@ -11,7 +11,7 @@ use Rattle.stream_core.specs.PathDown.{next, IsPath, Leads, MayForceAround, IsPa
 use Rattle.stream_core.specs.declared.streams.Stream.{Stream}
 use Rattle.stream_core.proofs.Paths.ForceLaws.{inner-may}
 use Rattle.stream_core.proofs.StackLaws.{stack-pop}
-use Rattle.stream_core.proofs.StreamLaws.{Each-last, Each-front}
+use Rattle.kan_model.proofs.ListLaws.{Each-last, Each-front}
 
 module _ {I : Type 0} where
   -- the id that was reached put on the path

@@ -7,19 +7,16 @@ use Rattle.kan_terms.specs.Tree.{Tree, Tm, occurs, size}
 use Rattle.kan_terms.specs.Terms.{tree}
 use Rattle.kan_terms.specs.declared.terms.Term.{Term}
 use Rattle.kan_terms.proofs.TreeLaws.{size-positive}
+use Rattle.kan_terms.proofs.WaitingLaws.{waiting-push}
 use Rattle.kan_model.specs.Stores.Kept.{is_variable}
 use Rattle.unify_core.specs.Walking.{Pairs, walk, full}
 use Rattle.unify_core.specs.Cycles.{HasNoCycle}
-use Rattle.unify_core.specs.LentBindings.{waiting_trees, parts_of, open_parts}
+use Rattle.unify_core.specs.LentBindings.{open_parts}
+use Rattle.kan_terms.specs.Waiting.{waiting_trees, parts_of}
 use Rattle.unify_core.proofs.Grown.{ends-unbound}
 use Rattle.unify_core.proofs.CycleLaws.{grown}
 use Rattle.unify_core.proofs.WalkLaws.{full-walk, walk-end}
 use Rattle.unify_core.proofs.NewLaws.{none_in_full}
-
--- the top of a stack comes first
-pub waiting-push : (ts : List (Bor Term)) (t : Bor Term) → waiting_trees (ts ++ t ∷ []) ≡ tree t.now ∷ waiting_trees ts
-waiting-push [] t = refl
-waiting-push (u ∷ ts) t = ap (λ us. us ++ tree u.now ∷ []) (waiting-push ts t)
 
 -- the parts of a term without variables don't wait
 pub none_open : (t : Tm) (o : Option ℕ) → o ≡ greatest_in t → o ≡ None → open_parts t ≡ []
@@ -28,13 +25,6 @@ none_open t o greatest none = ap (λ o. if is_some o then parts_of t else []) (s
 pub some_open : (t : Tm) (o : Option ℕ) → o ≡ greatest_in t → o ≢ None → open_parts t ≡ parts_of t
 some_open t None greatest some = absurd (some refl)
 some_open t (Some g) greatest some = ap (λ o. if is_some o then parts_of t else []) (sym greatest)
-
--- the two parts of a pair put on the stack
-pub parts_wait : (old middle new : List (Bor Term)) (a b : Bor Term) (t : Tm) → middle ≡ old ++ b ∷ [] → new ≡ middle ++ a ∷ [] → t ≡ Tree.pair (tree a.now) (tree b.now) → open_parts t ≡ parts_of t →
-    waiting_trees new ≡ open_parts t ++ waiting_trees old
-parts_wait old middle new a b t one two is_pair some =
-    ap waiting_trees two ∙ waiting-push middle a ∙ ap (λ us. tree a.now ∷ us) (ap waiting_trees one ∙ waiting-push old b) ∙ ap (λ u. parts_of u ++ waiting_trees old) (sym is_pair)
-    ∙ ap (λ us. us ++ waiting_trees old) (sym some)
 
 -- a variable stands in the full value of one of some terms
 abbrev pub stands_in : Pairs → ℕ → List Tm → Bool

@@ -1,6 +1,7 @@
 use Rattle.std.proofs.Common.{ap, ◌∙◌, ◌∷◌}
 use Rattle.stream_core.specs.Tables.{HasStream, stream_in}
-use Rattle.stream_core.proofs.StreamLaws.{becomes-top-closed, stack-stays, all-belong, Each-last, Each-front}
+use Rattle.stream_core.proofs.StreamLaws.{becomes-top-closed, stack-stays, all-belong}
+use Rattle.kan_model.proofs.ListLaws.{Each-last, Each-front}
 use Rattle.stream_core.proofs.StackLaws.{stack-pop, one-pop}
 use Rattle.stream_core.proofs.running.append_empty_to_top.Goals as goal
 

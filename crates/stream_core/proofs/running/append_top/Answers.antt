@@ -1,6 +1,7 @@
 use Rattle.std.proofs.Common.{ap, ◌∙◌, ◌∷◌, arith}
 use Rattle.stream_core.specs.Tables.{HasStream, stream_in}
-use Rattle.stream_core.proofs.StreamLaws.{becomes-top, stack-stays, all-belong, Each-last, Each-front}
+use Rattle.stream_core.proofs.StreamLaws.{becomes-top, stack-stays, all-belong}
+use Rattle.kan_model.proofs.ListLaws.{Each-last, Each-front}
 use Rattle.stream_core.proofs.StackLaws.{stack-pop, two-pops, one-pop}
 use Rattle.stream_core.proofs.running.append_top.Goals as goal
 

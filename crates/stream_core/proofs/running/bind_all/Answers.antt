@@ -4,7 +4,8 @@ use Rattle.kan_model.specs.Streams.Stream as model
 use Rattle.kan_model.specs.Programs.Environments.{terms_of}
 use Rattle.kan_model.specs.Programs.Closed as programs
 use Rattle.stream_core.specs.Tables.{stream_in}
-use Rattle.stream_core.specs.Tasks.{Each, IsOf, AreBelow, AreBelowRest}
+use Rattle.stream_core.specs.Tasks.{IsOf, AreBelow, AreBelowRest}
+use Rattle.kan_model.specs.Each.{Each}
 use Rattle.stream_core.proofs.ClosedLaws.{program-closed}
 use Rattle.stream_core.proofs.FitLaws.{bind-fits, fits-moved}
 use Rattle.stream_core.proofs.running.bind_all.Goals as goal

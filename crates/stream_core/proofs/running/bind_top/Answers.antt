@@ -4,7 +4,8 @@ use Rattle.kan_model.specs.Programs.Closed as programs
 use Rattle.kan_model.specs.Programs.Environments.{terms_of}
 use Rattle.stream_core.specs.CodeTasks.{tasks_of}
 use Rattle.stream_core.specs.Tables.{HasStream, stream_in}
-use Rattle.stream_core.proofs.StreamLaws.{becomes-bound-top, bound-going, below-going, top-may-bind, none-to-bind, heads-going, stack-stays, all-belong, Each-last, Each-front}
+use Rattle.stream_core.proofs.StreamLaws.{becomes-bound-top, bound-going, below-going, top-may-bind, none-to-bind, heads-going, stack-stays, all-belong}
+use Rattle.kan_model.proofs.ListLaws.{Each-last, Each-front}
 use Rattle.stream_core.proofs.StackLaws.{stack-pop, none-pop}
 use Rattle.stream_core.proofs.running.bind_top.Goals as goal
 

@@ -2,7 +2,8 @@ use Rattle.std.proofs.Common.{ap}
 use Rattle.kan_model.specs.Programs.Closed as programs
 use Rattle.stream_core.specs.Tables.{HasStream, stream_in}
 use Rattle.stream_core.specs.CodeTasks.{task, stack}
-use Rattle.stream_core.proofs.StreamLaws.{first-ready, step-streams_after, step-fewer, top-is, none-streams_after, Each-front}
+use Rattle.stream_core.proofs.StreamLaws.{first-ready, step-streams_after, step-fewer, top-is, none-streams_after}
+use Rattle.kan_model.proofs.ListLaws.{Each-front}
 use Rattle.stream_core.proofs.StackLaws.{stack-pop, none-left, none-pop, not-some}
 use Rattle.stream_core.proofs.TableLaws.{adds_twice, table_stays}
 use Rattle.stream_core.proofs.running.finish.Goals as goal

@@ -1,6 +1,7 @@
 use Rattle.std.proofs.Common.{◌≡◌}
 use Rattle.kan_model.specs.Programs.Closed as programs
-use Rattle.stream_core.specs.Tasks.{AreReady, Each, streams_after, tasks_to_do}
+use Rattle.stream_core.specs.Tasks.{AreReady, streams_after, tasks_to_do}
+use Rattle.kan_model.specs.Each.{Each}
 use Rattle.stream_core.specs.Tables.{HasStream, OnlyAdds, IsTableOf}
 use Rattle.stream_core.specs.CodeTasks.{tasks_of, streams_of}
 use Rattle.stream_core.proofs.running.finish.Given as goal

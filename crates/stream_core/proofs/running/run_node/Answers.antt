@@ -8,7 +8,8 @@ use Rattle.stream_core.specs.Tasks.{IsOf, MayRun}
 use Rattle.stream_core.specs.Suspensions as standing
 use Rattle.stream_core.proofs.TaskLaws.{becomes-either, becomes-fresh}
 use Rattle.stream_core.proofs.ClosedLaws.{program-closed, is-atomic}
-use Rattle.stream_core.proofs.StreamLaws.{on-ok, becomes-goal, becomes-given, stack-stays, all-belong, Each-last}
+use Rattle.stream_core.proofs.StreamLaws.{on-ok, becomes-goal, becomes-given, stack-stays, all-belong}
+use Rattle.kan_model.proofs.ListLaws.{Each-last}
 use Rattle.stream_core.proofs.StackLaws.{stack-pop}
 use Rattle.stream_core.proofs.running.run_node.Goals as goal
 

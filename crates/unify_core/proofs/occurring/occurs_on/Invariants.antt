@@ -1,7 +1,8 @@
 use Rattle.std.proofs.Common.{◌≡◌}
 use Rattle.kan_terms.specs.Terms.{tree}
 use Rattle.kan_terms.specs.Tree.{occurs}
-use Rattle.unify_core.specs.LentBindings.{waiting_trees, with_lent}
+use Rattle.unify_core.specs.LentBindings.{with_lent}
+use Rattle.kan_terms.specs.Waiting.{waiting_trees}
 use Rattle.unify_core.specs.Walking.{full}
 use Rattle.unify_core.proofs.Steps.OccursSteps.{stands_in, nodes}
 use Rattle.unify_core.proofs.occurring.occurs_on.Given as goal

@@ -1,5 +1,5 @@
 use Rattle.kan_terms.specs.Terms.{tree}
-use Rattle.unify_core.specs.LentBindings.{waiting_trees}
+use Rattle.kan_terms.specs.Waiting.{waiting_trees}
 use Rattle.unify_core.specs.Walking.{full}
 use Rattle.unify_core.proofs.Steps.OccursSteps.{nodes}
 use Rattle.type_absence.specs.Seen.{tags}

@@ -5,7 +5,7 @@ use Rattle.std.specs.Char.{is_ascii_digit}
 use Rattle.std.proofs.lemmas.Iterator.{YieldsList-from_slice}
 use Rattle.std.proofs.lemmas.Iterator.Search.{all_from_yields_List}
 use Rattle.kan_grammar.specs.Data.Words.{all_digits}
-use Rattle.command_line.proofs.values.all_digits.Goals as goal
+use Rattle.kan_grammar.proofs.digits.all_digits.Goals as goal
 
 same : (bs : List ℕ) → list_all is_ascii_digit bs ≡ all_digits bs
 same [] = refl
