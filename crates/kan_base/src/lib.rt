@@ -15,6 +15,7 @@ mod std_source;
 mod std_streams;
 mod steady_source;
 mod text;
+mod words;
 
 pub use count_sink::CountSink;
 pub use faults::Failed;
@@ -27,3 +28,4 @@ pub use std_sink::StdSink;
 pub use std_source::StdSource;
 pub use steady_source::SteadySource;
 pub use text::{GREATEST_TEXT, TextStop, take_text};
+pub use words::lent_words;

@@ -3,8 +3,8 @@
 #![tactic(auto)]
 
 use command_line::{WordsFault, process_words};
-use kan_base::{Status, StdSink, StdSource};
-use kanren_run::{complaint, kanren_alone, lent_words};
+use kan_base::{Status, StdSink, StdSource, lent_words};
+use kanren_run::{complaint, kanren_alone};
 use std::process::ExitCode;
 
 // Runs the text that the words ask for.

@@ -9,9 +9,9 @@ use crate::fault::Fault;
 use crate::keyword::Keyword;
 use crate::table::{Line, Misfit, Written};
 use crate::value::{add_each, text_of};
-use kan_base::{MemorySink, MemorySource, Source, Status};
+use kan_base::{MemorySink, MemorySource, Source, Status, lent_words};
 use kan_plain::PlainStore;
-use kanren_run::{kanren_alone, kanren_over, lent_words};
+use kanren_run::{kanren_alone, kanren_over};
 use std::alloc::{AllocError, Global};
 
 /// What came of a call.

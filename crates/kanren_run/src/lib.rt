@@ -7,9 +7,7 @@ mod refusal;
 mod settings;
 mod text;
 mod top;
-mod words;
 mod writing;
 
 pub use complaints::complaint;
 pub use top::{kanren_alone, kanren_over};
-pub use words::lent_words;
