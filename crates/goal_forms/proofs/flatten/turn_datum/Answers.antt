@@ -8,7 +8,7 @@ use Rattle.goal_forms.proofs.flatten.turn_datum.Goals as goal
 
 pub returns-in_ok-push-in-List-clause-falls : goal.returns-in_ok-push-in-List-clause-falls
 returns-in_ok-push-in-List-clause-falls c =
-    list_falls c.args.names.now c.args.datum.now c.in-List.items c.in-List.last c.as_slice.result c.lent.result _ c.args.works.now.items _ c.in-List.is c.as_slice.ensures c.lent.ensures c.in_ok-push-in-List.ensures.items
+    list_falls c.args.names.now c.args.datum.now c.in-List.items c.in-List.last c.as_slice.result c.last_datum.result _ c.args.works.now.items _ c.in-List.is c.as_slice.ensures c.last_datum.ensures c.in_ok-push-in-List.ensures.items
 
 pub returns-in_ok-push-in-Prefixed-2-clause-made : goal.returns-in_ok-push-in-Prefixed-2-clause-made
 returns-in_ok-push-in-Prefixed-2-clause-made c =
@@ -22,7 +22,7 @@ returns-in_ok-push-in-Prefixed-2-clause-falls c =
 
 pub returns-in_ok-push-in-List-clause-low : goal.returns-in_ok-push-in-List-clause-low
 returns-in_ok-push-in-List-clause-low c = λ low.
-    list_low c.args.names.now c.args.datum.now c.in-List.items c.in-List.last c.as_slice.result c.lent.result c.args.works.now.items _ _ _ c.in-List.is c.as_slice.ensures c.lent.ensures c.in_ok-push-in-List.ensures.items low.left low.there
+    list_low c.args.names.now c.args.datum.now c.in-List.items c.in-List.last c.as_slice.result c.last_datum.result c.args.works.now.items _ _ _ c.in-List.is c.as_slice.ensures c.last_datum.ensures c.in_ok-push-in-List.ensures.items low.left low.there
 
 pub returns-in_ok-push-in-Prefixed-2-clause-low : goal.returns-in_ok-push-in-Prefixed-2-clause-low
 returns-in_ok-push-in-Prefixed-2-clause-low c = λ low.
@@ -31,7 +31,7 @@ returns-in_ok-push-in-Prefixed-2-clause-low c = λ low.
 
 pub returns-in_ok-push-in-List-clause-parts : goal.returns-in_ok-push-in-List-clause-parts
 returns-in_ok-push-in-List-clause-parts c =
-    let same = list_parts c.args.names.now c.args.datum.now c.in-List.items c.in-List.last c.as_slice.result c.lent.result c.args.works.now.items _ c.in-List.is c.as_slice.ensures c.lent.ensures c.in_ok-push-in-List.ensures.items in omega (arith, same)
+    let same = list_parts c.args.names.now c.args.datum.now c.in-List.items c.in-List.last c.as_slice.result c.last_datum.result c.args.works.now.items _ c.in-List.is c.as_slice.ensures c.last_datum.ensures c.in_ok-push-in-List.ensures.items in omega (arith, same)
 
 pub returns-in_ok-push-in-Prefixed-2-clause-parts : goal.returns-in_ok-push-in-Prefixed-2-clause-parts
 returns-in_ok-push-in-Prefixed-2-clause-parts c =
@@ -39,7 +39,7 @@ returns-in_ok-push-in-Prefixed-2-clause-parts c =
     c.in-Prefixed.is c.get.ensures c.in_ok-push-in-Prefixed.ensures.items c.in_ok-push-in-Prefixed-2.ensures.items in omega (arith, fewer)
 
 pub returns-in_ok-push-in-List-clause-named : goal.returns-in_ok-push-in-List-clause-named
-returns-in_ok-push-in-List-clause-named c = omega (arith, pushed_unnamed c.args.names.now c.args.works.now.items _ (works.Rest c.as_slice.result c.lent.result c.args.datum.now.at) c.in_ok-push-in-List.ensures.items)
+returns-in_ok-push-in-List-clause-named c = omega (arith, pushed_unnamed c.args.names.now c.args.works.now.items _ (works.Rest c.as_slice.result c.last_datum.result c.args.datum.now.at) c.in_ok-push-in-List.ensures.items)
 
 pub returns-in_ok-push-in-Prefixed-2-clause-named : goal.returns-in_ok-push-in-Prefixed-2-clause-named
 returns-in_ok-push-in-Prefixed-2-clause-named c =

@@ -4,10 +4,10 @@ use Rattle.sexpr.proofs.PrintLaws.{list_tail, list_tail_falls, prefix_goes_on, p
 use Rattle.sexpr.proofs.printer.print_tail.Goals as goal
 
 pub returns-in_ok-push-in-List-clause-printed : goal.returns-in_ok-push-in-List-clause-printed
-returns-in_ok-push-in-List-clause-printed c = list_tail c.args.names.now c.args.datum.now c.in-List.items c.in-List.last c.as_slice.result c.lent.result (string_bytes c.args.text.now) c.args.works.now.items c.push.new.self.items c.in-List.is c.as_slice.ensures c.lent.ensures c.in_ok-push-in-List.ensures.items
+returns-in_ok-push-in-List-clause-printed c = list_tail c.args.names.now c.args.datum.now c.in-List.items c.in-List.last c.as_slice.result c.last_datum.result (string_bytes c.args.text.now) c.args.works.now.items c.push.new.self.items c.in-List.is c.as_slice.ensures c.last_datum.ensures c.in_ok-push-in-List.ensures.items
 
 pub returns-in_ok-push-in-List-clause-falls : goal.returns-in_ok-push-in-List-clause-falls
-returns-in_ok-push-in-List-clause-falls c = list_tail_falls c.args.names.now c.args.datum.now c.in-List.items c.in-List.last c.as_slice.result c.lent.result c.args.works.now.items c.push.new.self.items c.in-List.is c.as_slice.ensures c.lent.ensures c.in_ok-push-in-List.ensures.items
+returns-in_ok-push-in-List-clause-falls c = list_tail_falls c.args.names.now c.args.datum.now c.in-List.items c.in-List.last c.as_slice.result c.last_datum.result c.args.works.now.items c.push.new.self.items c.in-List.is c.as_slice.ensures c.last_datum.ensures c.in_ok-push-in-List.ensures.items
 
 pub returns-in_ok-push-in-Prefixed-3-clause-printed : goal.returns-in_ok-push-in-Prefixed-3-clause-printed
 unfolding lib.Utf8.encode
