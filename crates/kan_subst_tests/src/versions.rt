@@ -9,19 +9,21 @@ use std::alloc::Global;
 use std::test::Fail;
 
 // A variable bound to its own number in a copy of bindings, unless it is bound.
-fn bind_own<B: Bindings>(bindings: &B, var: u64) -> Result<B, Memory> {
+fn bind_own<B: Bindings>(alloc: Global, bindings: &B, var: u64) -> Result<B, Memory> {
     if bindings.get(var).is_some() {
         return bindings.again();
     }
-    bindings.bind(var, &Term::Num(var as i64))
+    let number = Term::number(alloc, i128::from(var))?;
+    bindings.bind(var, &number)
 }
 
 // The same by value.
-fn bind_own_in_place<B: Bindings>(bindings: B, var: u64) -> Result<B, Memory> {
+fn bind_own_in_place<B: Bindings>(alloc: Global, bindings: B, var: u64) -> Result<B, Memory> {
     if bindings.get(var).is_some() {
         return Ok(bindings);
     }
-    bindings.bind_owned(var, &Term::Num(var as i64))
+    let number = Term::number(alloc, i128::from(var))?;
+    bindings.bind_owned(var, &number)
 }
 
 // All versions of bindings, to which the variables below a count were added one after the other.
@@ -29,7 +31,7 @@ fn versions_to<B: Bindings>(alloc: Global, count: u64) -> Result<Vec<B>, Memory>
     let mut versions = Vec::new(alloc);
     let mut last = B::empty(alloc)?;
     for var in 0..count {
-        let next = bind_own(&last, var)?;
+        let next = bind_own(alloc, &last, var)?;
         versions.push(last)?;
         last = next;
     }
@@ -60,7 +62,7 @@ fn are_versions<B: Bindings>(versions: &[B]) -> bool {
 fn falling_order_serves<B: Bindings>(alloc: Global, count: u64) -> Result<bool, Memory> {
     let mut bindings = B::empty(alloc)?;
     for at in 0..count {
-        bindings = bind_own_in_place(bindings, count - 1 - at)?;
+        bindings = bind_own_in_place(alloc, bindings, count - 1 - at)?;
     }
     let copy = bindings.again()?;
     for var in 0..count {
@@ -82,7 +84,7 @@ fn tells_near<B: Bindings>(alloc: Global, number: u64) -> Result<bool, Memory>
         if bindings.get(var).is_some() {
             return Ok(false);
         }
-        bindings = bind_own_in_place(bindings, var)?;
+        bindings = bind_own_in_place(alloc, bindings, var)?;
     }
     for var in vars {
         if !is_number(bindings.get(var), i128::from(var)) {
@@ -94,10 +96,10 @@ fn tells_near<B: Bindings>(alloc: Global, number: u64) -> Result<bool, Memory>
 
 // Whether a version keeps what it has while a newer one is changed in place.
 fn older_stays<B: Bindings>(alloc: Global) -> Result<bool, Memory> {
-    let older = bind_own(&B::empty(alloc)?, 3)?;
+    let older = bind_own(alloc, &B::empty(alloc)?, 3)?;
     let mut newer = older.again()?;
     for var in 0..100 {
-        newer = bind_own_in_place(newer, var)?;
+        newer = bind_own_in_place(alloc, newer, var)?;
     }
     Ok(older.get(4).is_none() && is_number(older.get(3), 3) && is_number(newer.get(4), 4))
 }

@@ -4,11 +4,12 @@ use kan_terms::{Bindings, Memory, Term};
 use std::alloc::Global;
 
 // A variable bound to its number in a copy of bindings, unless it is bound.
-fn bind_number<B: Bindings>(bindings: &B, var: u64) -> Result<B, Memory> {
+fn bind_number<B: Bindings>(alloc: Global, bindings: &B, var: u64) -> Result<B, Memory> {
     if bindings.get(var).is_some() {
         return bindings.again();
     }
-    bindings.bind(var, &Term::Num(var as i64))
+    let number = Term::number(alloc, i128::from(var))?;
+    bindings.bind(var, &number)
 }
 
 /// Binds so many variables, keeps all versions, and says how many there are.
@@ -16,7 +17,7 @@ pub(crate) fn keep_versions<B: Bindings>(alloc: Global, count: u64) -> Result<u6
     let mut versions = Vec::new(alloc);
     let mut last = B::empty(alloc)?;
     for var in 0..count {
-        let next = bind_number(&last, var)?;
+        let next = bind_number(alloc, &last, var)?;
         versions.push(last)?;
         last = next;
     }
