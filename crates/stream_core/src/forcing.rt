@@ -182,7 +182,8 @@ fn path_down<N: Nodes<St>, St: Store>(
         ((N.table nodes.now).tree id.now) path.above.items) }
     ensures last { IfOk result (λ path. IsNext (N.table nodes.now) ((N.table nodes.now).tree id.now)
         path.above.items path.last) }
-    ensures end { IfOk result (λ path. EndsPath (N.table nodes.now) St.meaning path.last path.found) }
+    ensures end { IfOk result (λ path. EndsPath (N.table nodes.now) St.meaning path.last
+        path.found) }
     ensures leads { IfOk result (λ path. IfSome (N.table nodes.now).told
         (λ told. Leads told.inner id.now (stack (λ at. at) path.above.items) path.last)) }
 {
@@ -212,8 +213,8 @@ fn path_down<N: Nodes<St>, St: Store>(
     }
 }
 
-// The force of the last id on a path: the one that was found, or else one call or pause is expanded,
-// and the stream kept.
+// The force of the last id on a path: the one that was found, or else one call or pause is
+// expanded, and the stream kept.
 fn force_last<N: Nodes<St>, St: Store>(
     alloc: Global,
     program: &Program,

@@ -80,16 +80,16 @@ with_next None behind = []
 with_next (Some next) behind = equation_of next ∷ behind
 
 -- what a step that asks for a binding makes of the lent bindings and of the equations
-abbrev pub BindsTo : Pairs → List LentBinding → List Equation → Option (List Equation) → List LentBinding → ℕ →
-    Tm → Type 0
+abbrev pub BindsTo : Pairs → List LentBinding → List Equation → Option (List Equation) →
+    List LentBinding → ℕ → Tm → Type 0
 BindsTo bound lent behind None lent' x t = Binds bound lent Met.Clash lent' x t
 BindsTo bound lent behind (Some left) lent' x t =
     Binds bound lent Met.Same lent' x t × (left ≡ behind)
 
 -- what a step makes of the lent bindings and of the equations, of which there are none left where
 -- nothing makes the two terms the same
-abbrev pub StepTo : Pairs → List LentBinding → List Equation → Option (List Equation) → List LentBinding →
-    Meeting → Type 0
+abbrev pub StepTo : Pairs → List LentBinding → List Equation → Option (List Equation) →
+    List LentBinding → Meeting → Type 0
 StepTo bound lent behind left lent' Meeting.nothing = (lent' ≡ lent) × (left ≡ Some behind)
 StepTo bound lent behind left lent' (Meeting.parts first rest) =
     (lent' ≡ lent) × (left ≡ Some (first ∷ rest ∷ behind))

@@ -7,9 +7,9 @@ ghost use Rattle.kan_model.specs.Stores.Solve as solver;
 ghost use Rattle.kan_terms.specs.Terms.{sides, tree};
 ghost use Rattle.kan_terms.specs.Tree.{Gd, fill};
 ghost use Rattle.unify_core.specs.Cycles.{HasNoCycle};
-ghost use Rattle.unify_core.specs.LentBindings.{Binds, MeetsTo, StepTo, equation_of, equations_ahead};
-ghost use Rattle.unify_core.specs.LentBindings.{left_by, lent_sides, waiting_equations, with_lent};
-ghost use Rattle.unify_core.specs.LentBindings.{with_next};
+ghost use Rattle.unify_core.specs.LentBindings.{Binds, MeetsTo, StepTo, equation_of};
+ghost use Rattle.unify_core.specs.LentBindings.{equations_ahead, left_by, lent_sides};
+ghost use Rattle.unify_core.specs.LentBindings.{waiting_equations, with_lent, with_next};
 ghost use Rattle.unify_core.specs.Solutions.{AddedTo, IsSolution, bindings_solved, equation};
 ghost use Rattle.unify_core.specs.Unifying.{Adds, AddsBinding, Unifying, meeting, met};
 ghost use Rattle.unify_core.specs.Unifying.{same_atoms, taken_apart};
@@ -225,7 +225,7 @@ fn lend_bindings<'a, B: Bindings>(
     Ok(Some(lent))
 }
 
-// LentBinding bindings as pairs of terms.
+// Lent bindings as pairs of terms.
 fn owned<'a>(alloc: Global, lent: &[LentBinding<'a>]) -> Result<TermPairs, Memory>
     ensures { IfOk result (λ made. map sides made ≡ lent_sides lent.now) }
 {
