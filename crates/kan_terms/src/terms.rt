@@ -196,7 +196,7 @@ impl Term {
         }
     }
 
-    /// Whether the term is a whole number.
+    /// Whether the term is this whole number.
     pub fn is_number(&self, number: i128) -> bool
         ensures { result ≡ term_eq (Tree.num number) (tree self.now) }
     {
