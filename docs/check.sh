@@ -8,6 +8,7 @@
 # repository, and with the program on the path as kanren. Where 'cat FILE' names a file that isn't there,
 # the lines behind it are written into it. Then the command in the head of each example is run, and
 # compared with the example's output, and each example with its copy among the cases of kanren_rows.
+# Then the table of refusals in docs/LANGUAGE.md is compared with that of the code.
 # Needs bash and python3.
 set -euo pipefail
 [ $# -eq 1 ] && [ -x "$1" ] || { echo "usage: docs/check.sh PROGRAM" >&2; exit 2; }
@@ -86,6 +87,20 @@ for file in sorted((root / "examples").iterdir()):
     else:
         failed += 1
         print(f"examples/{file.name} isn't the same as {copy.relative_to(root)}")
+
+# The table of refusals on the page is that of the code.
+table = (root / "crates/kan_refusals/src/refusals.rt").read_text()
+coded = re.findall(r'Refusal::\w+ => \((\d+), "([^"]*)"\)', table)
+page = (root / "docs/LANGUAGE.md").read_text()
+section = page.partition("\n## Refused texts\n")[2].partition("\n### ")[0]
+shown = re.findall(r"^\| (\d+) \| ([^|]*) \|", section, re.M)
+if coded and shown == coded:
+    passed += 1
+else:
+    failed += 1
+    print("the refusals in docs/LANGUAGE.md aren't those of crates/kan_refusals/src/refusals.rt")
+    for number, text in sorted(set(shown) ^ set(coded), key=lambda entry: int(entry[0])):
+        print(f"  {number}, {text}: {'the page' if (number, text) in shown else 'the code'} alone")
 
 print(f"{passed} passed, {failed} failed")
 sys.exit(failed > 0)

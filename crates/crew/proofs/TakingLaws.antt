@@ -1,12 +1,12 @@
 -- A task that was taken, and whom it was taken from.
-use Rattle.std.proofs.Common.{◌≡◌, ⊎_elim, ℕ, suc, ◌+◌, ◌≤◌, List, [], ◌∷◌, ◌++◌, length, Option, None, Some, sym, ap, ◌∙◌, subst, arith}
+use Rattle.std.proofs.Common.{◌≡◌, ⊎_elim, ℕ, suc, ◌+◌, List, [], ◌∷◌, ◌++◌, length, Option, None, Some, sym, ap, ◌∙◌, subst, arith}
 use Rattle.std.specs.Prelude.{IfSome, IfNone, IsPermutation}
 use Rattle.std.specs.Option.{option_to_list}
 use Rattle.std.proofs.lemmas.List.{append-nil, length-map}
 use Rattle.std.proofs.lemmas.Bool.Decides.{leb_tells}
 use lib.ListN.{get_elem?}
 use Rattle.task_deques.specs.declared.holders.TaskStealer.{TaskStealer}
-use Rattle.task_deques.specs.Holders.{Holder, holder_part, others_of, stealer_part, FoundEmpty, IsSameBut}
+use Rattle.task_deques.specs.Holders.{Holder, holder_part, others_of, stealer_part, FoundEmpty}
 use Rattle.task_deques.proofs.Lists.{like, then, before, to_end}
 use Rattle.crew.specs.Turns.{FirstWereEmpty}
 
@@ -29,10 +29,6 @@ module _ {T : Type 0} where
       let at : k ≡ j = omega (arith, below, p) in
       subst (FoundEmpty (others_of h)) at (λ s here. found s (same ∙ here)))
       (leb_tells (suc j) k)
-
-  -- those that come later are as they were
-  pub still_same : (h now next : Holder T) (k : ℕ) → ((j : ℕ) → k ≤ j → get_elem? (others_of now) j ≡ get_elem? (others_of h) j) → IsSameBut k (others_of now) (others_of next) → (j : ℕ) → k + 1 ≤ j → get_elem? (others_of next) j ≡ get_elem? (others_of h) j
-  still_same h now next k same but j above = but j (λ e. absurd (omega (arith, above, e))) ∙ same j (omega (arith, above))
 
   -- where one's own deque gave nothing
   pub took_then : (old between new more : List T) → IsPermutation between (old ++ []) → IsPermutation new (between ++ more) → IsPermutation new (old ++ more)

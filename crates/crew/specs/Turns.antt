@@ -1,13 +1,12 @@
 -- Whom a task was taken from.
 use Rattle.std.specs.Prelude.{ℕ, ◌<◌}
-use Rattle.crossbeam_deque.specs.Handles.{worker_view}
 use Rattle.task_deques.specs.Shares.{WasEmpty}
-use Rattle.task_deques.specs.Holders.{Holder, deque_of, others_of, FoundEmpty}
+use Rattle.task_deques.specs.Holders.{Holder, deque_of, deque_share, others_of, FoundEmpty}
 
 module _ {T : Type 0} where
   -- the holder's own deque was empty at one moment
   abbrev pub OwnWasEmpty : Holder T → Type 0
-  OwnWasEmpty h = WasEmpty (worker_view (deque_of h).worker)
+  OwnWasEmpty h = WasEmpty (deque_share (deque_of h))
 
   -- the deques of the first so many of the others were, each at one moment
   abbrev pub FirstWereEmpty : ℕ → Holder T → Type 0

@@ -3,8 +3,8 @@
 ghost use Rattle.std.specs.Prelude.{◌≡◌, [], ◌∷◌, option_map, IfSome};
 ghost use Rattle.std.specs.Option.{option_to_list};
 ghost use Rattle.task_deques.specs.Holders.{IsHolderOf};
-ghost use Rattle.susp_cells.specs.Places.{label_tree, names_of};
-ghost use Rattle.susp_cells.specs.Tables.{IsIn};
+ghost use Rattle.susp_cells.specs.Places.{label_tree};
+ghost use Rattle.susp_cells.specs.Tables.{home_of, IsIn};
 ghost use Rattle.crew.specs.Offers.{offered_trees, offered_inside, Offers};
 
 use crate::tasks::Offered;
@@ -17,8 +17,8 @@ use task_deques::Holder;
 #[tactic(auto, using(crate::proofs::OfferLaws::no_offer, crate::proofs::OfferLaws::one_offered))]
 fn offer_one<St: Store>(table: &Table<'_, St>, holder: &mut Holder<Offered<St>>, susp: &Susp<St>)
     requires inside { IsIn table.now susp.now }
-    requires home { IsHolderOf (names_of table.now.labels) holder.old }
-    ensures home { IsHolderOf (names_of table.now.labels) holder.new }
+    requires home { IsHolderOf (home_of table.now) holder.old }
+    ensures home { IsHolderOf (home_of table.now) holder.new }
     ensures offers { Offers holder.old holder.new (label_tree susp.now ∷ []) }
 {
     if table.look(susp).is_some() {
@@ -38,8 +38,8 @@ fn offer_tail<St: Store>(
     tail: &Option<Susp<St>>,
 )
     requires inside { IfSome tail.now (IsIn table.now) }
-    requires home { IsHolderOf (names_of table.now.labels) holder.old }
-    ensures home { IsHolderOf (names_of table.now.labels) holder.new }
+    requires home { IsHolderOf (home_of table.now) holder.old }
+    ensures home { IsHolderOf (home_of table.now) holder.new }
     ensures offers { Offers holder.old holder.new
         (option_to_list (option_map label_tree tail.now)) }
 {
@@ -52,8 +52,8 @@ fn offer_tail<St: Store>(
 #[tactic(auto, using(crate::proofs::OfferLaws::no_offer, crate::proofs::OfferLaws::swap_offered, crate::proofs::OfferLaws::bind_offered))]
 fn offer_inside<St: Store>(table: &Table<'_, St>, holder: &mut Holder<Offered<St>>, susp: &Susp<St>)
     requires inside { IsIn table.now susp.now }
-    requires home { IsHolderOf (names_of table.now.labels) holder.old }
-    ensures home { IsHolderOf (names_of table.now.labels) holder.new }
+    requires home { IsHolderOf (home_of table.now) holder.old }
+    ensures home { IsHolderOf (home_of table.now) holder.new }
     ensures offers { Offers holder.old holder.new (offered_inside (label_tree susp.now)) }
 {
     match table.thunk(susp) {
@@ -88,8 +88,8 @@ fn offer_inside<St: Store>(table: &Table<'_, St>, holder: &mut Holder<Offered<St
 #[tactic(auto, using(crate::proofs::OfferLaws::both_offered))]
 pub fn offer<St: Store>(table: &Table<'_, St>, holder: &mut Holder<Offered<St>>, susp: &Susp<St>)
     requires inside { IsIn table.now susp.now }
-    requires home { IsHolderOf (names_of table.now.labels) holder.old }
-    ensures home { IsHolderOf (names_of table.now.labels) holder.new }
+    requires home { IsHolderOf (home_of table.now) holder.old }
+    ensures home { IsHolderOf (home_of table.now) holder.new }
     ensures offers { Offers holder.old holder.new (offered_trees (label_tree susp.now)) }
 {
     offer_inside(table, holder, susp);

@@ -1,7 +1,8 @@
 //! Tasks: the suspensions of a shared table that are offered to be forced.
 
 ghost use Rattle.std.specs.Prelude.{◌≡◌, false};
-ghost use Rattle.susp_cells.specs.Places.{names_of};
+ghost use Rattle.susp_cells.specs.Tables.{home_of};
+ghost use Rattle.task_deques.specs.Deals.{tasks_home, deque_count, has_dealt};
 
 use boxcar::tag::{Names, Tag};
 use kan_model::Store;
@@ -29,14 +30,14 @@ impl<St: Store> Task for Offered<St> {
 struct Home;
 
 impl<'a, St: Store> Names<Table<'a, St>> for Home {
-    ghost numbers = { λ table. names_of table.labels };
+    ghost numbers = { λ table. home_of table };
 }
 
 /// So many deques for tasks of a table. They are made when they are dealt.
 pub fn crew_deques<St: Store>(alloc: Global, table: &Table<'_, St>, count: u32) -> Deques
-    ensures home { result.home.numbers ≡ names_of table.now.labels }
-    ensures count { result.count ≡ count }
-    ensures dealt { result.dealt ≡ false }
+    ensures home { tasks_home result ≡ home_of table.now }
+    ensures count { deque_count result ≡ count }
+    ensures dealt { has_dealt result ≡ false }
 {
     let home = Tag::of::<Table<'_, St>, Home>(table);
     task_deques(alloc, home, count)

@@ -7,8 +7,8 @@ ghost use Rattle.kan_model.specs.Streams.Running.{force as forced};
 ghost use Rattle.stream_core.specs.Tables.{IsTableOf};
 ghost use Rattle.pull_budget.specs.Seats.{view, IsSeatOf};
 ghost use Rattle.task_deques.specs.Holders.{IsHolderOf};
-ghost use Rattle.susp_cells.specs.Places.{label_tree, names_of};
-ghost use Rattle.susp_cells.specs.Tables.{program_of, table_of, IsIn};
+ghost use Rattle.susp_cells.specs.Places.{label_tree};
+ghost use Rattle.susp_cells.specs.Tables.{home_of, program_of, table_of, IsIn};
 ghost use Rattle.crew.specs.Asking.{HasAsked, AsksOn};
 ghost use Rattle.crew.specs.Offers.{tail_of, Offers};
 ghost use Rattle.crew.specs.Working.{offered_behind, IsHandled, HasServed, ServesOn};
@@ -72,7 +72,7 @@ struct Post<'a, St: Store, G: Gate, R: Wait> {
 }
 
 // Whether a suspension is to be forced: it isn't found to be settled, and may be forced.
-fn is_open<St: Store>(table: &Table<'_, St>, susp: &Susp<St>) -> bool
+fn is_unsettled<St: Store>(table: &Table<'_, St>, susp: &Susp<St>) -> bool
     requires { IsIn table.now susp.now }
     ensures { IsTrue result → top (label_tree susp.now) ≤ 2 ^ 62 }
 {
@@ -103,8 +103,8 @@ impl<'a, St: Store, G: Gate, R: Wait> Post<'a, St, G, R> {
         requires table { IsTableOf self.now.program.now (table_of self.now.table.now) }
         requires inside { IsIn self.now.table.now susp.now }
         requires room { top (label_tree susp.now) ≤ 2 ^ 62 }
-        requires home { IsHolderOf (names_of self.now.table.now.labels) holder.old }
-        ensures home { IsHolderOf (names_of self.now.table.now.labels) holder.new }
+        requires home { IsHolderOf (home_of self.now.table.now) holder.old }
+        ensures home { IsHolderOf (home_of self.now.table.now) holder.new }
         ensures offers { Offers holder.old holder.new
             (offered_behind (program_of self.now.table.now) (label_tree susp.now)) }
     {
@@ -123,18 +123,18 @@ impl<'a, St: Store, G: Gate, R: Wait> Post<'a, St, G, R> {
         holder: &mut Holder<Offered<St>>,
     ) -> bool
         requires table { IsTableOf self.now.program.now (table_of self.now.table.now) }
-        requires task { task.susp.home ≡ names_of self.now.table.now.labels }
+        requires task { task.susp.home ≡ home_of self.now.table.now }
         requires seat { IsSeatOf self.now.budget.now seat.old }
-        requires home { IsHolderOf (names_of self.now.table.now.labels) holder.old }
+        requires home { IsHolderOf (home_of self.now.table.now) holder.old }
         ensures seat { IsSeatOf self.now.budget.now seat.new }
         ensures asked { HasAsked (view seat.old) (view seat.new) (cond result 1 0) }
-        ensures home { IsHolderOf (names_of self.now.table.now.labels) holder.new }
+        ensures home { IsHolderOf (home_of self.now.table.now) holder.new }
         ensures handled { IsHandled (program_of self.now.table.now) task holder.old holder.new
             result }
     {
         let Offered { susp } = task;
         susp_is_inside(self.table, &susp);
-        if !is_open(self.table, &susp) {
+        if !is_unsettled(self.table, &susp) {
             return false;
         }
         match ask(self.rt, self.budget, seat) {
@@ -151,10 +151,10 @@ impl<'a, St: Store, G: Gate, R: Wait> Post<'a, St, G, R> {
     fn turn(&self, seat: &mut BudgetSeat, holder: &mut Holder<Offered<St>>, tally: &mut Tally)
         requires table { IsTableOf self.now.program.now (table_of self.now.table.now) }
         requires seat { IsSeatOf self.now.budget.now seat.old }
-        requires home { IsHolderOf (names_of self.now.table.now.labels) holder.old }
+        requires home { IsHolderOf (home_of self.now.table.now) holder.old }
         ensures seat { IsSeatOf self.now.budget.now seat.new }
         ensures asked { AsksOn (view seat.old) (view seat.new) tally.old.taken tally.new.taken }
-        ensures home { IsHolderOf (names_of self.now.table.now.labels) holder.new }
+        ensures home { IsHolderOf (home_of self.now.table.now) holder.new }
         ensures served { ServesOn (program_of self.now.table.now) holder.old holder.new
             tally.old.taken tally.old.dropped tally.new.taken tally.new.dropped }
     {
@@ -187,12 +187,12 @@ pub fn work<St: Store, G: Gate, R: Wait>(
     requires table { IsTableOf program.now (table_of table.now) }
     requires seat { IsSeatOf budget.now seat.old }
     requires hired { ((view seat.old).puller ≡ false) × ((view seat.old).set ≡ false) }
-    requires home { IsHolderOf (names_of table.now.labels) holder.old }
+    requires home { IsHolderOf (home_of table.now) holder.old }
     ensures seat { IsSeatOf budget.now seat.new }
     ensures asked { HasAsked (view seat.old) (view seat.new) result.taken }
     ensures stopped { (view seat.new).set ≡ true }
     ensures loads { (view seat.old).loads < (view seat.new).loads }
-    ensures home { IsHolderOf (names_of table.now.labels) holder.new }
+    ensures home { IsHolderOf (home_of table.now) holder.new }
     ensures served { HasServed (program_of table.now) holder.old holder.new result.taken
         result.dropped }
 {

@@ -15,7 +15,7 @@ use Rattle.diseq.specs.Disequalities.{Disequality, SaysAsMuch, Brought, is_ident
 use Rattle.diseq.specs.Adding.{Adds}
 use Rattle.diseq.specs.Kept.{Watchers, AreWatched}
 use Rattle.diseq.specs.Looking.{IsGiven, LooksAt}
-use Rattle.diseq.specs.Seen.{asserted_in, watching_in}
+use Rattle.diseq.specs.Meaning.{asserted_in, watching_in}
 use Rattle.diseq.specs.Watching.{is_watchable}
 use Rattle.diseq.specs.declared.diseqs.Diseqs.{Diseqs}
 use Rattle.diseq.proofs.KeptLaws.{looked_never, looked_identical, looked_given, added_watched}

@@ -5,7 +5,7 @@ use Rattle.kan_terms.proofs.TreeLaws.{fill-fill, fill-leaf, fill-same, term_eq-t
 use Rattle.kan_model.specs.Stores.Unifiers.{Unifies}
 use Rattle.unify_core.specs.Walking.{Pairs, ends, full}
 use Rattle.unify_core.specs.Solutions.{IsSolution, AddedTo}
-use Rattle.unify_core.proofs.Grown.{Grown}
+use Rattle.unify_core.proofs.GrowthLaws.{Grown}
 use Rattle.unify_core.proofs.SolutionLaws.{solution_of, IsSolution-same}
 use Rattle.unify_core.proofs.AddedLaws.{added_solutions}
 use Rattle.diseq.specs.Disequalities.{Disequality, SaysAsMuch, NeverEqual, Brought, has_same_sides, is_identical}

@@ -13,7 +13,7 @@ use Rattle.kan_model.specs.Stores.Kept.{is_variable}
 use Rattle.unify_core.specs.Walking.{Pairs, ends}
 use Rattle.unify_core.specs.Cycles.{HasNoCycle}
 use Rattle.unify_core.specs.Solutions.{AddedTo}
-use Rattle.unify_core.proofs.Grown.{Grown}
+use Rattle.unify_core.proofs.GrowthLaws.{Grown}
 use Rattle.unify_core.proofs.CycleLaws.{grown}
 use Rattle.unify_core.proofs.AddedLaws.{added_solutions}
 use Rattle.diseq.specs.Among.{Among}
@@ -21,7 +21,7 @@ use Rattle.diseq.specs.Chains.{forms}
 use Rattle.diseq.specs.Disequalities.{Disequality, SaysAsMuch, NeverEqual, is_identical}
 use Rattle.diseq.specs.Kept.{Watchers, IsKept, StandsFor, AreKept, AreWatched}
 use Rattle.diseq.specs.Looking.{IsGiven, IsPut, IsTaken, IsWeaker, LooksAt, Settles, SettlesAll, is_settled, is_fine}
-use Rattle.diseq.specs.Seen.{watchers}
+use Rattle.diseq.specs.Meaning.{watchers}
 use Rattle.diseq.specs.Watching.{is_watchable, is_apart, is_watched_by, watches, is_woken}
 use Rattle.diseq.specs.declared.watching.Watched.{Watched}
 use Rattle.diseq.proofs.AmongLaws.{among-left, among-last, among-cases, any-among, none-among}

@@ -13,7 +13,7 @@ use Rattle.unify_core.specs.Solutions.{AddedTo, IsSolution, equation}
 use Rattle.unify_core.specs.Unifying.{Unifying}
 use Rattle.unify_core.specs.Laws.{added_equations}
 use Rattle.unify_core.proofs.CycleLaws.{grown}
-use Rattle.unify_core.proofs.Grown.{Grown, ends-unbound}
+use Rattle.unify_core.proofs.GrowthLaws.{Grown, ends-unbound}
 use Rattle.unify_core.proofs.WalkLaws.{full-walk, walk-twice}
 use Rattle.unify_core.proofs.Relation.UnifyingLaws.{full-apart, unifying_makes}
 use Rattle.unify_core.proofs.AddedLaws.{added_solve}

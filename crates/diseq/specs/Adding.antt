@@ -6,7 +6,7 @@ use Rattle.unify_core.specs.Unifying.{Unifying}
 use Rattle.unify_core.specs.Laws.{added_equations}
 use Rattle.diseq.specs.Disequalities.{Disequality, Brought}
 use Rattle.diseq.specs.Kept.{AreWatched}
-use Rattle.diseq.specs.Seen.{asserted_in, watching_in}
+use Rattle.diseq.specs.Meaning.{asserted_in, watching_in}
 use Rattle.diseq.specs.declared.diseqs.Diseqs.{Diseqs}
 
 -- where there is no unifier the disequality holds already and is left out, else what unification

@@ -7,5 +7,5 @@ pub mod Disequalities
 pub mod Kept
 pub mod Laws
 pub mod Looking
-pub mod Seen
+pub mod Meaning
 pub mod Watching

@@ -2,19 +2,17 @@
 
 ghost use Rattle.std.specs.Prelude.{◌≡◌, ◌↔◌, ◌++◌, ◌∷◌, [], ℕ, map, reverse, IfOk, IfSome, IsTrue};
 ghost use Rattle.std.specs.Prelude.{None, true};
-ghost use Rattle.std.specs.Option.{option_map};
 ghost use Rattle.std.specs.List.{list_any};
 ghost use Rattle.kan_model.specs.Stores.Prims.{equation as pair_equation};
 ghost use Rattle.kan_terms.specs.Terms.{sides, tree};
 ghost use Rattle.unify_core.specs.Cycles.{HasNoCycle};
 ghost use Rattle.unify_core.specs.Solutions.{AddedTo, equation};
-ghost use Rattle.unify_core.specs.Unifying.{Unifying};
 ghost use Rattle.unify_core.specs.Walking.{Pairs};
 ghost use Rattle.diseq.specs.Adding.{Adds};
 ghost use Rattle.diseq.specs.Disequalities.{is_identical};
 ghost use Rattle.diseq.specs.Kept.{AreWatched};
 ghost use Rattle.diseq.specs.Looking.{IsGiven};
-ghost use Rattle.diseq.specs.Seen.{asserted_in, watching_in};
+ghost use Rattle.diseq.specs.Meaning.{asserted_in, watching_in};
 
 use crate::chains::Chain;
 use crate::watching::{Watched, adds_nothing};
@@ -22,25 +20,6 @@ use kan_terms::{Bindings, Memory, Term, TermPair, TermPairs};
 use kan_tree::Again;
 use std::alloc::Global;
 use unify_core::would_add;
-
-// What would make two terms the same under bindings.
-fn difference<B: Bindings>(
-    alloc: Global,
-    left: &Term,
-    right: &Term,
-    bindings: &B,
-) -> Result<Option<TermPairs>, Memory>
-    requires { HasNoCycle (B.pairs bindings.now) }
-    ensures { IfOk result
-        (λ found. Unifying (B.pairs bindings.now) (equation (tree left.now) (tree right.now) ∷ [])
-        (option_map (λ made. map sides made) found)) }
-{
-    let pair = TermPair {
-        first: left.again()?,
-        rest: right.again()?,
-    };
-    Ok(would_add(alloc, &[pair], bindings)?)
-}
 
 // Pairs once more.
 fn copied(alloc: Global, pairs: &[TermPair]) -> Result<TermPairs, Memory>
@@ -137,7 +116,7 @@ impl Diseqs {
         ensures added { IfOk result (λ found. IfSome found (λ made. Adds (B.pairs bindings.now)
             (equation (tree left.now) (tree right.now) ∷ []) self made)) }
     {
-        match difference(alloc, left, right, bindings)? {
+        match would_add(alloc, left, right, bindings)? {
             None => Ok(Some(self)),
             Some(added) => {
                 if adds_nothing(&added) {

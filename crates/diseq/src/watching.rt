@@ -9,14 +9,14 @@ ghost use Rattle.unify_core.specs.Cycles.{HasNoCycle};
 ghost use Rattle.diseq.specs.Chains.{forms};
 ghost use Rattle.diseq.specs.Looking.{IsGiven, IsPut, IsTaken, LooksAt, Settles, SettlesAll};
 ghost use Rattle.diseq.specs.Looking.{is_settled, may_be_same};
-ghost use Rattle.diseq.specs.Seen.{watchers};
+ghost use Rattle.diseq.specs.Meaning.{watchers};
 ghost use Rattle.diseq.specs.Watching.{is_watched_by};
 
 use crate::chains::Chain;
 use kan_terms::{Bindings, Memory, Term, TermPair, TermPairs};
 use kan_tree::{Again, VarTree};
 use std::alloc::Global;
-use unify_core::would_add;
+use unify_core::would_add_all;
 
 /// Whether unification has nothing to add, so that the sides are the same already.
 pub fn adds_nothing(added: &TermPairs) -> bool
@@ -118,7 +118,7 @@ impl Watched {
         ensures { IfOk result (λ differs. LooksAt (B.pairs bindings.now)
             (map pair_equation pairs.now ∷ []) (watchers self.old) (watchers self.new) differs) }
     {
-        match would_add(alloc, pairs, bindings)? {
+        match would_add_all(alloc, pairs, bindings)? {
             None => Ok(true),
             Some(added) => {
                 if adds_nothing(&added) {

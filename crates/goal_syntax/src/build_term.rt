@@ -307,8 +307,7 @@ fn put_arguments(terms: &[u32], draft: &mut Draft) -> Result<u32, Memory>
 }
 
 /// Builds the templates of the terms in a list and puts them into the table of arguments, one
-/// behind the other: gives the
-/// place of the first one, and how many there are.
+/// behind the other: gives the place of the first one, and how many there are.
 pub(crate) fn build_arguments(
     context: &Context,
     scope: &[Option<u32>],

@@ -218,7 +218,7 @@ fn compile_forms(
         dialect,
     };
     if let Some(fault) = first_of_forms(&context, before, forms)? {
-        return Err(SyntaxError::Fault(fault.at, fault.refusal.number()));
+        return Err(SyntaxError::Fault(fault.at, fault.refusal));
     }
     let compiled = build_program(&context, library, forms)?;
     Ok(compiled)

@@ -2,7 +2,6 @@
 
 ghost use Rattle.std.specs.Prelude.{[], ◌∷◌, OnOk};
 ghost use Rattle.kan_grammar.specs.Data.Faults.{fault};
-ghost use Rattle.kan_refusals.specs.Refusals.{number_of};
 ghost use Rattle.goal_syntax.specs.Judging.FaultLists.{AddsFaults};
 
 use kan_refusals::Refusal;
@@ -17,8 +16,7 @@ pub(crate) struct Fault {
 
 /// Notes a fault.
 pub(crate) fn report(faults: &mut Vec<Fault>, at: u32, refusal: Refusal) -> Result<(), Memory>
-    ensures { OnOk result (AddsFaults faults.old.items faults.new.items
-        (fault at (number_of refusal) ∷ [])) }
+    ensures { OnOk result (AddsFaults faults.old.items faults.new.items (fault at refusal ∷ [])) }
 {
     faults.push(Fault { at, refusal })?;
     Ok(())

@@ -3,13 +3,14 @@
 ghost use Rattle.std.specs.Prelude.{◌≡◌};
 ghost use Rattle.goal_syntax.specs.Compiling.Refusals.{memory_wanted};
 
+use kan_refusals::Refusal;
 use kan_terms::Memory;
 
 /// Why a text has no program.
 #[derive(Clone, Copy, Debug, PartialEq, Eq)]
 pub enum SyntaxError {
-    /// The text is refused: the offset, and the number of the refusal.
-    Fault(u32, u8),
+    /// The text is refused: the offset, and the refusal.
+    Fault(u32, Refusal),
     /// Want of memory.
     Memory,
 }

@@ -1,17 +1,17 @@
 -- What following a step does to the claims on a stack.
-use Rattle.std.proofs.Common.{◌≡◌, ℕ, zero, suc, ◌+◌, Bool, true, List, [], ◌∷◌, ◌++◌, length, map, take, drop, Option, Some, slice_get, refl, sym, ap, ap₂, subst, ◌∙◌, leb-true}
+use Rattle.std.proofs.Common.{◌≡◌, ℕ, ◌+◌, Bool, true, List, [], ◌∷◌, ◌++◌, length, map, take, drop, Option, Some, slice_get, refl, sym, ap, ap₂, subst, ◌∙◌}
 use Rattle.std.specs.Prelude.{Result, IfOk, option_map}
-use Rattle.std.proofs.lemmas.Bool.{and_parts, eq-eqb}
+use Rattle.std.proofs.lemmas.Bool.{eq-eqb}
 use Rattle.std.proofs.lemmas.Option.{slice_get-map}
 use Rattle.kan_terms.specs.Tree.{Gd}
 use Rattle.kan_model.specs.Meaning.Derivations.{values}
 use Rattle.kan_model.specs.Programs.Closed as programs
-use Rattle.kan_model.specs.Programs.Tables.{RelationEntry, GoalEntry, goal_at, goals_of, is_goal_grown, goals_grown}
+use Rattle.kan_model.specs.Programs.Tables.{RelationEntry, goal_at, goals_of}
 use Rattle.kan_model.specs.declared.nodes.GoalNode.{GoalNode}
 use Rattle.kan_model.specs.declared.nodes.GoalNode.TheVariants as nodes
 use Rattle.kan_model.specs.declared.program.Program.{Program}
 use Rattle.ground_meaning.specs.Accepting.{claim, when, body_claim, in_front}
-use Rattle.ground_meaning.specs.Following.{claims_in, Follows, ArgumentsPlaced}
+use Rattle.ground_meaning.specs.Following.{claims_in, Follows}
 use Rattle.ground_meaning.specs.Values.{value_of}
 use Rattle.ground_meaning.specs.declared.following.Waiting.{Waiting}
 use Rattle.ground_meaning.specs.declared.steps.Step.{Step}
@@ -73,15 +73,3 @@ module _ (p : Program) where
       ap (λ o. in_front (body_claim (values us (map (programs.template p) (take k (drop at (programs.tables p).arguments)))) o) (claims_in p old)) (relation-there r (Some e) there)
       ∙ ap Some (ap₂ (λ b vs. claim (programs.goal p b) vs ∷ claims_in p old) (sym is) (ap (λ l. values us (map (programs.template p) l)) (sym args) ∙ values-are us xs ∙ sym made)
       ∙ grown old new (waiting_for body all) pushed)
-
-  -- the arguments of a goal of the table are there
-  entry-placed : (n : ℕ) (e : GoalEntry) → is_goal_grown (programs.tables p) n e ≡ true → ArgumentsPlaced p e
-  entry-placed n (GoalEntry.call r at k) h = leb-true (at + k) (length (programs.tables p).arguments) h
-  entry-placed n _ h = tt
-
-  pub goal-placed : (n : ℕ) (es : List GoalEntry) (i : ℕ) (e : GoalEntry) → goals_grown (programs.tables p) n es ≡ true → slice_get es i ≡ Some e → ArgumentsPlaced p e
-  goal-placed n [] i e h is = cc
-  goal-placed n (d ∷ es) zero e h is =
-      let same : d ≡ e = cc in
-      subst (ArgumentsPlaced p) same (entry-placed n d (and_parts (is_goal_grown (programs.tables p) n d) (goals_grown (programs.tables p) (suc n) es) h).0)
-  goal-placed n (d ∷ es) (suc i) e h is = goal-placed (suc n) es i e (and_parts (is_goal_grown (programs.tables p) n d) (goals_grown (programs.tables p) (suc n) es) h).1 is

@@ -1,14 +1,14 @@
 -- Following a step with claims on a stack.
-use Rattle.std.specs.Prelude.{◌≡◌, ◌+◌, ◌≤◌, Bool, true, false, List, [], ◌∷◌, ◌++◌, length, map}
+use Rattle.std.specs.Prelude.{◌≡◌, ◌+◌, Bool, true, false, List, [], ◌∷◌, ◌++◌, map}
 use Rattle.std.specs.Prelude.{Option, Some, None}
 use Rattle.kan_terms.specs.Tree.{Gd}
 use Rattle.kan_model.specs.Meaning.Derivations as model
 use Rattle.kan_model.specs.Programs.Closed as programs
 use Rattle.kan_model.specs.Programs.Nodes.{goal_entry}
-use Rattle.kan_model.specs.Programs.Tables.{GoalEntry}
 use Rattle.kan_model.specs.declared.nodes.GoalNode.{GoalNode}
 use Rattle.kan_model.specs.declared.program.Program.{Program}
 use Rattle.ground_meaning.specs.Accepting.{Claim, claim, claims_after, in_front, after_steps}
+use Rattle.ground_meaning.specs.declared.steps.Derivation.{Derivation}
 use Rattle.ground_meaning.specs.declared.steps.Step.{Step}
 use Rattle.ground_meaning.specs.declared.steps.Step.TheVariants.{Holds, Both, Left, Right, Choose}
 use Rattle.ground_meaning.specs.declared.steps.Step.TheVariants.{Enter}
@@ -22,6 +22,10 @@ step_of Left = model.Step.left
 step_of Right = model.Step.right
 step_of (Choose us) = model.Step.choose us
 step_of Enter = model.Step.enter
+
+-- the steps of a derivation
+abbrev pub steps_in : Derivation → List Step
+steps_in derivation = derivation.steps
 
 -- the claims of those that wait on a stack, the top first
 abbrev pub claims_in : Program → List Waiting → List Claim
@@ -39,11 +43,6 @@ Follows p node us step old followed new =
     Leaves (in_front
     (claims_after (programs.meaning p) (programs.entry_goal p (goal_entry node)) us
     (step_of step)) (claims_in p old)) followed (claims_in p new)
-
--- the arguments of a call are there
-abbrev pub ArgumentsPlaced : Program → GoalEntry → Type 0
-ArgumentsPlaced p (GoalEntry.call r at count) = at + count ≤ length (programs.tables p).arguments
-ArgumentsPlaced p _ = Unit {0}
 
 -- the same of a claim from the stack
 abbrev pub FollowsClaim : Program → Waiting → Step → List Waiting → Bool → List Waiting → Type 0

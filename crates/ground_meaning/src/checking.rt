@@ -3,7 +3,7 @@
 ghost use Rattle.std.specs.Prelude.{◌↔◌, map, IfOk, IsTrue};
 ghost use Rattle.kan_model.specs.Meaning.Derivations.{AreSteps};
 ghost use Rattle.kan_model.specs.Programs.Closed as programs;
-ghost use Rattle.ground_meaning.specs.Following.{step_of};
+ghost use Rattle.ground_meaning.specs.Following.{step_of, steps_in};
 
 use crate::following::{Waiting, follow_all};
 use crate::steps::Derivation;
@@ -22,7 +22,7 @@ pub fn check(
     derivation: &Derivation,
 ) -> Result<bool, Memory>
     ensures { IfOk result (λ shown. IsTrue shown ↔ AreSteps (programs.meaning program.now)
-        (programs.goal program.now goal) values.now (map step_of derivation.now.steps)) }
+        (programs.goal program.now goal) values.now (map step_of (steps_in derivation.now))) }
 {
     let mut waiting = Vec::new(alloc);
     let values = copied(alloc, values)?;

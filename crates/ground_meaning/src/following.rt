@@ -5,7 +5,8 @@ ghost use Rattle.std.specs.Prelude.{IfNone, IfOk, IfSome, IsTrue};
 ghost use Rattle.kan_model.specs.Programs.Closed as programs;
 ghost use Rattle.kan_model.specs.Programs.Nodes.{goal_entry};
 ghost use Rattle.kan_model.specs.declared.nodes.GoalNode.TheVariants as nodes;
-ghost use Rattle.ground_meaning.specs.Following.{ArgumentsPlaced, Follows, FollowsClaim};
+ghost use Rattle.kan_model.specs.Programs.Closed.{ArgumentsPlaced};
+ghost use Rattle.ground_meaning.specs.Following.{Follows, FollowsClaim};
 ghost use Rattle.ground_meaning.specs.Following.{ShowsAll};
 ghost use Rattle.ground_meaning.specs.Values.{value_of};
 ghost use Rattle.ground_meaning.specs.declared.steps.Step.TheVariants as steps;
@@ -192,18 +193,6 @@ fn enter(
     }
 }
 
-// The goal at a place, and the goal that fails past the end.
-fn node_at(program: &Program, at: u32) -> GoalNode
-    ensures is { programs.goal program.now at
-        ≡ programs.entry_goal program.now (goal_entry result) }
-    ensures placed { ArgumentsPlaced program.now (goal_entry result) }
-{
-    match program.goal(at) {
-        Some(node) => *node,
-        None => GoalNode::Fail,
-    }
-}
-
 // Follows a step with what is to be shown next, and answers whether it is a step of that goal.
 fn follow(
     alloc: Global,
@@ -215,7 +204,7 @@ fn follow(
     ensures { IfOk result (λ followed. FollowsClaim program.now claim step.now
         waiting.old.items followed waiting.new.items) }
 {
-    let node = node_at(program, claim.goal);
+    let node = program.goal_node(claim.goal);
     let values = claim.values;
     match step {
         Step::Holds => holds(alloc, program, &values, node),

@@ -1,6 +1,7 @@
 //! Derivations, as the steps that spell them.
 
 ghost use Rattle.std.specs.Prelude.{◌≡◌};
+ghost use Rattle.ground_meaning.specs.Following.{steps_in};
 
 use kan_terms::{Grounds, ListOf};
 
@@ -33,14 +34,14 @@ pub struct Derivation {
 impl Derivation {
     /// The derivation of these steps.
     pub fn new(steps: Steps) -> Derivation
-        ensures { result.steps ≡ steps }
+        ensures { steps_in result ≡ steps }
     {
         Derivation { steps }
     }
 
     /// The steps. It takes no memory.
     pub fn steps(&self) -> &Steps
-        ensures { result.now ≡ self.now.steps }
+        ensures { result.now ≡ steps_in self.now }
     {
         &self.steps
     }

@@ -8,6 +8,6 @@ pub mod Statuses
 pub mod Plans
 pub mod InMemory
 pub mod Files
-pub mod Opened
+pub mod OpenBytes
 pub mod SteadySources
 pub mod StdSources

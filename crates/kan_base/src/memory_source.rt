@@ -9,7 +9,7 @@ ghost use Rattle.kan_base.specs.Plans.{is_due, new_plan};
 ghost use Rattle.kan_base.specs.InMemory.{file_of, content_of, open_fails, read_count};
 ghost use Rattle.kan_base.specs.InMemory.{after_open, after_read, after_failed_call};
 ghost use Rattle.kan_base.specs.Files.{all_named, FindsAt};
-ghost use Rattle.kan_base.specs.Opened.{opened_bytes};
+ghost use Rattle.kan_base.specs.OpenBytes.{opened_bytes};
 
 use crate::copy::copy_front;
 use crate::faults::Failed;
@@ -40,7 +40,7 @@ impl Model for MemorySource {
     ghost use Rattle.std.specs.Prelude.{◌≤◌, length, drop};
     ghost use Rattle.kan_base.specs.InMemory.{SourceState};
     ghost use Rattle.kan_base.specs.Files.{all_named};
-    ghost use Rattle.kan_base.specs.Opened.{opened_bytes};
+    ghost use Rattle.kan_base.specs.OpenBytes.{opened_bytes};
 
     ghost Value = { SourceState };
 

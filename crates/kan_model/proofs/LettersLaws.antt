@@ -3,12 +3,11 @@ use Rattle.std.proofs.Common.{◌≡◌, ℕ, List, [], ◌∷◌, ◌++◌, len
 use Rattle.std.specs.Prelude.{eqb, ◌||◌, IsTrue}
 use Rattle.std.specs.List.{list_any, flat_map}
 use Rattle.std.specs.Option.{option_to_list}
-use Rattle.std.proofs.lemmas.Bool.{eqb-true, eq-eqb, true≢false}
-use Rattle.std.proofs.lemmas.Bool.Decides.{Decides-int_eq}
+use Rattle.std.proofs.lemmas.Bool.{true≢false}
 use Rattle.std.proofs.lemmas.List.Folds.{list_any-append}
 use Rattle.std.proofs.lemmas.Grind.{flat_map-append}
 use Rattle.kan_terms.specs.Tree.{occurs, term_eq}
-use Rattle.kan_terms.proofs.TreeLaws.{Decides-bool_eq, term_eq-true, eq-term_eq}
+use Rattle.kan_terms.proofs.TreeLaws.{term_eq-true, eq-term_eq}
 use Rattle.kan_model.specs.Stores.Solve.{Replacement, image, apply}
 use Rattle.std.specs.Borrow.{Bor}
 use Rattle.kan_terms.specs.Tree.{Tree, Tm}
@@ -16,8 +15,8 @@ use Rattle.kan_terms.specs.Terms.{tree}
 use Rattle.kan_terms.specs.Waiting.{waiting_trees, parts_of}
 use Rattle.kan_terms.specs.declared.terms.Term.{Term}
 use Rattle.kan_model.specs.declared.letters.Letter.{Letter}
-use Rattle.kan_model.specs.declared.letters.Letter.TheVariants.{Pair, Var, Sym, Str, Num, Truth, Nil}
-use Rattle.kan_model.specs.Terms.Letters.{letter_of, spelling, waiting_spelling, only_one, term_of, stack_terms, IsAtomOf, join_two, put_letter, put_letter_on, built_from, is_letter_of, letter_eq, splice}
+use Rattle.kan_model.specs.declared.letters.Letter.TheVariants.{Pair}
+use Rattle.kan_model.specs.Terms.Letters.{letter_of, spelling, waiting_spelling, only_one, term_of, stack_terms, IsAtomOf, join_two, put_letter, put_letter_on, built_from, is_letter_of, splice}
 
 -- a term put on top is spelled first
 pub waiting-push : (ts : List (Bor Term)) (t : Bor Term) → waiting_spelling (ts ++ t ∷ []) ≡ spelling (tree t.now) ++ waiting_spelling ts
@@ -153,26 +152,6 @@ pub built_last : (letters whole : List Letter) (old rest : List Term) (t : Term)
 built_last letters whole old rest t none kept spells split =
     let same : term_of whole ≡ only_one (Some (stack_terms old)) = ap only_one (sym kept ∙ ap (λ xs. built_from xs (stack_terms old)) none) in
     same ∙ last_is old rest t split (subst IsSome same spells)
-
--- the test of letters is exact
-pub letter_eq-true : (x y : Letter) → letter_eq x y ≡ true → x ≡ y
-letter_eq-true Pair Pair e = refl
-letter_eq-true (Var v) (Var w) e = ap Var (eqb-true v w e)
-letter_eq-true (Sym v) (Sym w) e = ap Sym (sym (eqb-true w v e))
-letter_eq-true (Str v) (Str w) e = ap Str (sym (eqb-true w v e))
-letter_eq-true (Num v) (Num w) e = ap Num (sym ((Decides-int_eq w v).0 e))
-letter_eq-true (Truth v) (Truth w) e = ap Truth (sym ((Decides-bool_eq w v).0 e))
-letter_eq-true Nil Nil e = refl
-letter_eq-true _ _ e = cc
-
-pub letter_eq-same : (x : Letter) → letter_eq x x ≡ true
-letter_eq-same Pair = refl
-letter_eq-same (Var v) = eq-eqb v v refl
-letter_eq-same (Sym v) = eq-eqb v v refl
-letter_eq-same (Str v) = eq-eqb v v refl
-letter_eq-same (Num v) = (Decides-int_eq v v).1 refl
-letter_eq-same (Truth v) = (Decides-bool_eq v v).1 refl
-letter_eq-same Nil = refl
 
 -- two tests that say the same
 pub same_tests : (s t : Tm) (r : Bool) → (IsTrue r → spelling s ≡ spelling t) → (spelling s ≡ spelling t → IsTrue r) → r ≡ term_eq s t

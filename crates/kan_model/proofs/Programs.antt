@@ -2,6 +2,7 @@
 pub mod EntryLaws
 pub mod EnvironmentLaws
 pub mod NoteLaws
+pub mod PlacedLaws
 pub mod RowLaws
 pub mod ScopeLaws
 pub mod TableLaws

@@ -150,7 +150,9 @@ impl Program {
 
     /// The goal at a place, and the goal that fails past the end. It takes no memory.
     pub fn goal_node(&self, at: u32) -> GoalNode
-        ensures { programs.goal self.now at ≡ programs.entry_goal self.now (goal_entry result) }
+        ensures is { programs.goal self.now at
+            ≡ programs.entry_goal self.now (goal_entry result) }
+        ensures placed { programs.ArgumentsPlaced self.now (goal_entry result) }
     {
         match self.goal(at) {
             Some(node) => *node,

@@ -1,6 +1,6 @@
 -- The reasons for which a text is refused: the table of their numbers and names, and the line that
 -- says so.
-use Rattle.std.specs.Prelude.{ℕ, zero, List, [], ◌∷◌, ◌++◌, suc, slice_get, Option, None, codes}
+use Rattle.std.specs.Prelude.{ℕ, List, [], ◌∷◌, ◌++◌, codes}
 use Rattle.std.specs.Fmt.{decimal}
 use Rattle.kan_refusals.specs.declared.refusals.Refusal.{Refusal}
 use Rattle.kan_refusals.specs.declared.refusals.Refusal.TheVariants.{NotUtf8, UnclosedList}
@@ -41,18 +41,6 @@ number_of refusal = (entry refusal).number
 
 abbrev pub text_of : Refusal → List ℕ
 text_of refusal = (entry refusal).text
-
--- all refusals, in the order of their numbers, which begin with 1
-abbrev pub all_refusals : List Refusal
-all_refusals =
-    NotUtf8 ∷ UnclosedList ∷ StrayClose ∷ BadToken ∷ BadDot ∷ TooDeep ∷ NumberRange ∷ ReservedName
-    ∷ UnknownForm ∷ BadShape ∷ UnboundName ∷ UnknownRelation ∷ WrongCount ∷ DefinedTwice
-    ∷ BadTag ∷ BadString ∷ []
-
--- the refusal of a number, where it has one
-abbrev pub refusal_of : ℕ → Option Refusal
-refusal_of zero = None
-refusal_of (suc number) = slice_get all_refusals number
 
 -- the one line of a refused text: the number of the refusal, the offset, and what it is
 abbrev pub error_line : ℕ → Refusal → List ℕ

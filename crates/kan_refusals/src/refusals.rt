@@ -1,7 +1,8 @@
 //! Refusals, their numbers and what they are called.
 
-ghost use Rattle.std.specs.Prelude.{◌≡◌, Some, IfOk, IfSome, string_bytes};
+ghost use Rattle.std.specs.Prelude.{◌≡◌, IfOk, string_bytes};
 ghost use Rattle.kan_refusals.specs.Refusals as refusals;
+ghost use Rattle.kan_refusals.specs.declared.refusals.Refusal.{Refusal};
 
 use std::alloc::{AllocError, Global};
 use std::fmt::Write;
@@ -69,10 +70,10 @@ impl Refusal {
         }
     }
 
-    /// The number by which statuses and faults say it.
+    /// The number by which statuses and lines say it, which no other refusal has.
     pub fn number(self) -> u8
         ensures number { result ≡ refusals.number_of self }
-        ensures named { refusals.refusal_of result ≡ Some self }
+        ensures named { (other : Refusal) → refusals.number_of other ≡ result → other ≡ self }
     {
         self.entry().0
     }
@@ -82,32 +83,6 @@ impl Refusal {
         ensures { result.now ≡ refusals.text_of self }
     {
         self.entry().1
-    }
-
-    /// The refusal of a number, which is None for 0 and above the last one.
-    pub fn of_number(number: u8) -> Option<Refusal>
-        ensures found { result ≡ refusals.refusal_of number }
-        ensures number { IfSome result (λ refusal. refusals.number_of refusal ≡ number) }
-    {
-        match number {
-            1 => Some(Refusal::NotUtf8),
-            2 => Some(Refusal::UnclosedList),
-            3 => Some(Refusal::StrayClose),
-            4 => Some(Refusal::BadToken),
-            5 => Some(Refusal::BadDot),
-            6 => Some(Refusal::TooDeep),
-            7 => Some(Refusal::NumberRange),
-            8 => Some(Refusal::ReservedName),
-            9 => Some(Refusal::UnknownForm),
-            10 => Some(Refusal::BadShape),
-            11 => Some(Refusal::UnboundName),
-            12 => Some(Refusal::UnknownRelation),
-            13 => Some(Refusal::WrongCount),
-            14 => Some(Refusal::DefinedTwice),
-            15 => Some(Refusal::BadTag),
-            16 => Some(Refusal::BadString),
-            _ => None,
-        }
     }
 }
 

@@ -1,5 +1,5 @@
 -- Answers and pulls in front of what is left.
-use Rattle.std.proofs.Common.{◌≡◌, ℕ, suc, ◌+◌, ◌<◌, ◌≤◌, List, [], ◌∷◌, ◌++◌, length, map, sym, ◌∙◌, ap, ap₂, append_assoc, add_assoc, arith}
+use Rattle.std.proofs.Common.{◌≡◌, ℕ, suc, ◌+◌, ◌<◌, ◌≤◌, List, [], ◌∷◌, ◌++◌, length, map, sym, ◌∙◌, ap, append_assoc, arith}
 use Rattle.std.specs.Prelude.{Some, None}
 use Rattle.std.proofs.Math.Logic.{◌⊎◌, inl, inr, ⊎_elim}
 use Rattle.std.proofs.lemmas.List.{map-append, length-append, length-map}
@@ -7,11 +7,6 @@ use Rattle.kan_model.specs.Stores.Store.{Store}
 use Rattle.kan_model.specs.Streams.Taking.{Taken, with_answer, with_pull, nothing_more}
 use Rattle.kan_search.specs.Batches.{greatest_batch, batch_then, ending_of, Advances}
 use Rattle.kan_search.specs.declared.batch.Ended.{Ended}
-
--- batches one after the other are one
-pub batch_then-twice : (answers more : List Store) (pulls others : ℕ) (t : Taken) → batch_then answers pulls (batch_then more others t) ≡ batch_then (answers ++ more) (pulls + others) t
-batch_then-twice answers more pulls others t =
-    ap₂ (λ xs n. record { stores = xs; pulls = n; ending = t.ending }) (sym (append_assoc answers more t.stores)) (sym (add_assoc pulls others t.pulls))
 
 -- one answer more goes behind those that are there
 pub batch_then-answer : {St : Type 0} (means : St → Store) (answers more : List St) (store : St) (before after : Taken) (pulls : ℕ) → more ≡ answers ++ store ∷ [] → before ≡ with_answer (means store) after →

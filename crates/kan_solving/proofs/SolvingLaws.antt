@@ -1,5 +1,5 @@
 -- Replacements that are looked up and applied.
-use Rattle.std.proofs.Common.{◌≡◌, ℕ, ◌+◌, ◌<◌, List, [], ◌∷◌, ◌++◌, map, length, get_or, drop, refl, sym, ◌∙◌, ap, eqb, true, false, drop-cons, add-one, Option, Some, option_map, insert}
+use Rattle.std.proofs.Common.{◌≡◌, ℕ, ◌+◌, ◌<◌, List, [], ◌∷◌, ◌++◌, map, length, get_or, drop, refl, sym, ◌∙◌, ap, eqb, true, false, drop-cons, add-one, Option, Some, option_map}
 use Rattle.std.specs.Prelude.{if◌then◌else◌}
 use Rattle.kan_terms.specs.Tree.{Tm}
 use Rattle.kan_terms.specs.Terms.{tree}
@@ -37,7 +37,3 @@ pub finish_step : (made rest answer longer : List Replaced) (last : Replaced) (w
 finish_step made rest answer longer last whole split put kept =
     ap (λ a. put_all_first (map replaced_by rest) (Some a)) put ∙ sym (finished-push (map replaced_by rest) (replaced_by last) (Some (map replaced_by answer)))
     ∙ ap (λ ms. put_all_first ms (Some (map replaced_by answer))) (sym (ap (map replaced_by) split ∙ map_push replaced_by rest last)) ∙ kept
-
--- an element put in front
-pub map-insert_first : {X Y : Type 0} (f : X → Y) (xs : List X) (x : X) → map f (insert xs 0 x) ≡ f x ∷ map f xs
-map-insert_first f xs x = refl

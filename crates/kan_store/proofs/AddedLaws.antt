@@ -6,7 +6,7 @@ use Rattle.kan_terms.specs.Bound.{bound_to}
 use Rattle.kan_terms.proofs.TreeLaws.{fill-leaf}
 use Rattle.unify_core.specs.Walking.{Pairs, ends, full}
 use Rattle.unify_core.specs.Solutions.{IsSolution, AddedTo}
-use Rattle.unify_core.proofs.Grown.{Grown, bound-newest, bound-older, unbound_parts, ends-bound, ends-unbound}
+use Rattle.unify_core.proofs.GrowthLaws.{Grown, bound-newest, bound-older, unbound_parts, ends-bound, ends-unbound}
 use Rattle.unify_core.proofs.SolutionLaws.{solution_of, fill-full, IsSolution-same}
 use Rattle.diseq.specs.Among.{Among}
 

@@ -12,8 +12,8 @@ use Rattle.kan_model.proofs.Solving.UnifierLaws.{answer_unifies, apply-put_first
 use Rattle.kan_model.proofs.Solving.CompositionLaws.{compose_is_both, solver_goes_on}
 use Rattle.unify_core.specs.Walking.{Pairs, walk, ends, full}
 use Rattle.unify_core.specs.Solutions.{AddedTo}
-use Rattle.unify_core.specs.Unifying.{Meeting, met, Unifying}
-use Rattle.unify_core.proofs.Grown.{Grown, full-newest, ends-unbound}
+use Rattle.unify_core.specs.Unifying.{Meeting, asked_by, Unifying}
+use Rattle.unify_core.proofs.GrowthLaws.{Grown, full-newest, ends-unbound}
 use Rattle.unify_core.proofs.WalkLaws.{full-walk, walk-end}
 use Rattle.unify_core.proofs.SolutionLaws.{solution_of}
 use Rattle.unify_core.proofs.Relation.MeetingLaws.{met_says}
@@ -75,7 +75,7 @@ sides_newest bound x t (e ∷ es) =
     ap₂ (λ (f : Equation) fs. f ∷ fs) (ap₂ (λ a b. record { left = a; right = b }) (sym (full-newest (x, t) bound e.left)) (sym (full-newest (x, t) bound e.right))) (sides_newest bound x t es)
 
 -- a binding in front of what is along with it
-along_binding : (bound : Pairs) → Grown bound → (e : Equation) (rest : List Equation) (x : ℕ) (t : Tm) (others : List (Tm × Tm)) → met bound e ≡ Meeting.binding x t → occurs x (full bound t) ≡ false →
+along_binding : (bound : Pairs) → Grown bound → (e : Equation) (rest : List Equation) (x : ℕ) (t : Tm) (others : List (Tm × Tm)) → asked_by bound e ≡ Meeting.binding x t → occurs x (full bound t) ≡ false →
     Along ((x, t) ∷ bound) others (solve (map (full_sides ((x, t) ∷ bound)) rest)) → Along bound ((Tree.leaf x, t) ∷ others) (solve (map (full_sides bound) (e ∷ rest)))
 along_binding bound g e rest x t others h out (q, found, makes) = (put_first x (full bound t) q, solved, after)
   where

@@ -17,7 +17,7 @@ use Rattle.kan_model.proofs.Solving.FreshLaws.{equations-append}
 use Rattle.unify_core.specs.Walking.{Pairs, walk, full}
 use Rattle.unify_core.specs.Solutions.{AddedTo}
 use Rattle.unify_core.specs.Unifying.{Unifying}
-use Rattle.unify_core.proofs.Grown.{Grown}
+use Rattle.unify_core.proofs.GrowthLaws.{Grown}
 use Rattle.unify_core.specs.Cycles.{HasNoCycle}
 use Rattle.unify_core.proofs.CycleLaws.{grown}
 use Rattle.unify_core.proofs.WalkLaws.{full-walk, walk-end}

@@ -8,7 +8,7 @@ use Rattle.kan_model.specs.Programs.Goals.{Primitive}
 use Rattle.kan_model.specs.Stores.Solve.{Replacement, apply}
 use Rattle.kan_model.specs.Stores.Unifiers.{Unifies}
 use Rattle.unify_core.specs.Walking.{Pairs, ends, full}
-use Rattle.unify_core.proofs.Grown.{Grown}
+use Rattle.unify_core.proofs.GrowthLaws.{Grown}
 use Rattle.diseq.specs.Disequalities.{Disequality, is_identical, has_same_sides, Brought}
 use Rattle.kan_store.specs.AskedDifferences.{asked_differences}
 use Rattle.diseq.specs.Among.{Among}

@@ -14,7 +14,7 @@ use Rattle.unify_core.specs.Walking.{Pairs, ends}
 use Rattle.unify_core.specs.Solutions.{IsSolution, AddedTo}
 use Rattle.unify_core.specs.Unifying.{Unifying}
 use Rattle.unify_core.specs.Laws.{added_equations}
-use Rattle.unify_core.proofs.Grown.{Grown}
+use Rattle.unify_core.proofs.GrowthLaws.{Grown}
 use Rattle.unify_core.proofs.CycleLaws.{grown}
 use Rattle.unify_core.proofs.AddedLaws.{adds_solutions}
 use Rattle.unify_core.proofs.SolutionLaws.{solution_of, fill-full, IsSolution-same}

@@ -15,7 +15,7 @@ use Rattle.kan_model.specs.Answers.Answer.{has_absence}
 use Rattle.kan_model.specs.declared.prims.Kind.{Kind}
 use Rattle.kan_model.specs.declared.prims.Kind.TheVariants.{Symbol, Number, Text}
 use Rattle.unify_core.specs.Walking.{Pairs, walk, full}
-use Rattle.unify_core.proofs.Grown.{Grown}
+use Rattle.unify_core.proofs.GrowthLaws.{Grown}
 use Rattle.unify_core.proofs.CycleLaws.{grown, no_cycle}
 use Rattle.unify_core.proofs.WalkLaws.{full-walk, walk-end, walk-term}
 use Rattle.unify_core.proofs.AnswerLaws.{full_unbound}

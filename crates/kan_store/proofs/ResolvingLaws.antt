@@ -10,7 +10,7 @@ use Rattle.kan_model.specs.Stores.Prims.{equation}
 use Rattle.unify_core.specs.Walking.{Pairs}
 use Rattle.unify_core.specs.Unifying.{Unifying}
 use Rattle.unify_core.specs.Laws.{added_equations}
-use Rattle.kan_store.specs.Held.{lent_pairs}
+use Rattle.kan_store.specs.Meaning.{lent_pairs}
 use Rattle.kan_store.specs.Parts.{Resolved}
 
 abbrev pub equations_of : List (List TermPair) → List (List Equation)

@@ -14,7 +14,7 @@ use Rattle.type_absence.specs.Types.{made_if}
 use Rattle.unify_core.specs.Walking.{Pairs, walk}
 use Rattle.diseq.proofs.BroughtLaws.{bringing_goes_on, ground_meaning}
 use Rattle.kan_store.specs.Parts.{Parts, AreInStep, KnownToMake, SameParts, Adding, Resolved}
-use Rattle.kan_store.specs.Held.{parts_of, store_of}
+use Rattle.kan_store.specs.Meaning.{parts_of, store_of}
 use Rattle.kan_store.specs.declared.store.Held.{Held}
 use Rattle.kan_store.proofs.Asserting.{kept}
 use Rattle.kan_store.proofs.StepLaws.{test-known, Makes, known-to, equated_makes, typing_makes, keeping_makes, differing_makes, same_in_step, fresh_in_step, empty_in_step}

@@ -9,7 +9,7 @@ use Rattle.kan_model.specs.Stores.Solve.{Replacement, apply}
 use Rattle.kan_model.specs.Answers.Answer.{has_absence}
 use Rattle.unify_core.specs.Walking.{Pairs, ends, full}
 use Rattle.unify_core.specs.Solutions.{AddedTo}
-use Rattle.unify_core.proofs.Grown.{Grown}
+use Rattle.unify_core.proofs.GrowthLaws.{Grown}
 use Rattle.unify_core.proofs.AnswerLaws.{full_unbound}
 use Rattle.type_absence.specs.Tags.{is_listed, with_tag, with_tags, has_any}
 use Rattle.type_absence.specs.Absent.{TagsOf, GivesTags}

@@ -10,7 +10,7 @@ use Rattle.kan_model.specs.declared.prims.Kind.{Kind}
 use Rattle.kan_model.specs.declared.prims.Kind.TheVariants.{Symbol, Number, Text}
 use Rattle.unify_core.specs.Walking.{Pairs, walk, full}
 use Rattle.unify_core.specs.Solutions.{AddedTo}
-use Rattle.unify_core.proofs.Grown.{Grown}
+use Rattle.unify_core.proofs.GrowthLaws.{Grown}
 use Rattle.unify_core.proofs.WalkLaws.{full-walk, walk-end}
 use Rattle.type_absence.specs.Types.{Types, same_kind, no_other, may_have, with_type, MovesTypes}
 use Rattle.kan_store.specs.Moving.{TypesMove}

@@ -3,4 +3,4 @@ pub mod Moving
 pub mod AskedDifferences
 pub mod InStep
 pub mod Parts
-pub mod Held
+pub mod Meaning

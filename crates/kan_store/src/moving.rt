@@ -4,7 +4,7 @@ ghost use Rattle.std.specs.Prelude.{map, true, ◌≡◌, IfOk};
 ghost use Rattle.std.specs.List.{list_all};
 ghost use Rattle.kan_terms.specs.Terms.{sides};
 ghost use Rattle.unify_core.specs.Cycles.{HasNoCycle};
-ghost use Rattle.type_absence.specs.Seen.{types, tags};
+ghost use Rattle.type_absence.specs.Meaning.{types, tags};
 ghost use Rattle.type_absence.specs.Types.{made_if};
 ghost use Rattle.kan_store.specs.Moving.{TypesMove, TagsMove, binds_variable};
 

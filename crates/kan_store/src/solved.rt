@@ -5,14 +5,14 @@ ghost use Rattle.kan_terms.specs.Terms.{tree};
 ghost use Rattle.kan_model.specs.Stores.Prims.{prim as primitive};
 ghost use Rattle.unify_core.specs.Cycles.{HasNoCycle};
 ghost use Rattle.diseq.specs.Kept.{AreWatched};
-ghost use Rattle.diseq.specs.Seen.{asserted_in, disequalities_in, watching_in};
+ghost use Rattle.diseq.specs.Meaning.{asserted_in, disequalities_in, watching_in};
 ghost use Rattle.kan_terms.specs.Terms.{sides};
 ghost use Rattle.unify_core.specs.Solutions.{AddedTo};
 ghost use Rattle.unify_core.specs.Walking.{Pairs};
 ghost use Rattle.type_absence.specs.Types.{made_if};
 ghost use Rattle.kan_store.specs.Parts.{Adding, Differing, Equated, Keeping, SameParts, Typing};
 ghost use Rattle.kan_store.specs.Parts.{BroughtUp, Carried};
-ghost use Rattle.kan_store.specs.Held.{parts_of};
+ghost use Rattle.kan_store.specs.Meaning.{parts_of};
 
 use crate::moving::{move_tags, move_types};
 use diseq::Diseqs;

@@ -13,7 +13,7 @@ ghost use Rattle.kan_model.specs.Stores.Prims.{prim as primitive};
 ghost use Rattle.kan_model.specs.Stores.Store.{with_prim};
 ghost use Rattle.type_absence.specs.Types.{made_if};
 ghost use Rattle.kan_store.specs.Parts.{Adding, AreInStep, KnownToMake, Resolved, SameParts};
-ghost use Rattle.kan_store.specs.Held.{lent_pairs, parts_of, store_of};
+ghost use Rattle.kan_store.specs.Meaning.{lent_pairs, parts_of, store_of};
 
 use crate::history::{History, Tells};
 use crate::solved::{Solved, add, copied, unsolved};
@@ -21,7 +21,7 @@ use kan_model::{Kind, Prim as Asserted, Store};
 use kan_terms::{Bindings, ListOf, Memory, PairLists, Tags, Term, TermPairs};
 use std::alloc::Global;
 use std::sync::Arc;
-use unify_core::{walk, would_add};
+use unify_core::{walk, would_add_all};
 
 /// What a store holds. Of what was asserted only the solved parts take memory.
 #[derive(Drop)]
@@ -149,7 +149,7 @@ fn keep_found(left: &mut PairLists, found: Option<TermPairs>) -> Result<(), Memo
 
 // Of disequalities, the last of which comes first, those whose sides may still become equal, each
 // solved anew.
-fn still_open<B: Bindings>(
+fn may_still_fail<B: Bindings>(
     alloc: Global,
     waiting: &mut Vec<&TermPairs>,
     bindings: &B,
@@ -160,7 +160,7 @@ fn still_open<B: Bindings>(
 {
     let mut left = ListOf::new(alloc);
     while let Some(pairs) = waiting.pop() {
-        let found = would_add(alloc, pairs.items(), bindings)?;
+        let found = would_add_all(alloc, pairs.items(), bindings)?;
         keep_found(&mut left, found)?;
     }
     Ok(left)
@@ -183,7 +183,7 @@ impl<B: Bindings> SolvedStore<B> {
 
 impl<B: Bindings> Store for SolvedStore<B> {
     ghost use Rattle.std.specs.Arc.{arc_value};
-    ghost use Rattle.kan_store.specs.Held.{store_of};
+    ghost use Rattle.kan_store.specs.Meaning.{store_of};
 
     ghost meaning = { λ store. store_of (arc_value store.held) };
 
@@ -258,6 +258,6 @@ impl<B: Bindings> Store for SolvedStore<B> {
 
     fn differences(&self, alloc: Global) -> Result<PairLists, Memory> {
         let mut newest_first = self.held.solved.diseqs.newest_first(alloc)?;
-        still_open(alloc, &mut newest_first, &self.held.solved.bindings)
+        may_still_fail(alloc, &mut newest_first, &self.held.solved.bindings)
     }
 }

@@ -4,7 +4,7 @@ use Rattle.std.specs.Prelude.{if◌then◌else◌}
 use Rattle.kan_terms.specs.Tree.{Tm}
 use Rattle.kan_terms.specs.Terms.{tree}
 use Rattle.kan_terms.specs.Bound.{bound_to}
-use Rattle.kan_subst.specs.Stored.{pair}
+use Rattle.kan_subst.specs.Meaning.{pair}
 use Rattle.kan_subst.specs.declared.list_bindings.Binding.{Binding}
 
 -- the term of a variable in the bindings from an index on

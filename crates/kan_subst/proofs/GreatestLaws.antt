@@ -2,7 +2,7 @@
 use Rattle.std.proofs.Common.{◌≡◌, ℕ, suc, ◌+◌, ◌-◌, ◌<◌, ◌≤◌, List, [], map, length, get_or, drop, sym, ◌∙◌, ap, drop-cons, Option, Some, None, refl, arith}
 use Rattle.kan_terms.specs.Terms.{tree}
 use Rattle.kan_terms.specs.Greatest.{greater, greatest_in, greatest_bound}
-use Rattle.kan_subst.specs.Stored.{pair}
+use Rattle.kan_subst.specs.Meaning.{pair}
 use Rattle.kan_subst.specs.declared.list_bindings.Binding.{Binding}
 
 -- one more at the front

@@ -5,7 +5,7 @@ ghost use Rattle.std.specs.Option.{option_map};
 ghost use Rattle.kan_terms.specs.Bound.{bound_to};
 ghost use Rattle.kan_terms.specs.Greatest.{greatest_bound};
 ghost use Rattle.kan_terms.specs.Terms.{tree};
-ghost use Rattle.kan_subst.specs.Stored.{pair};
+ghost use Rattle.kan_subst.specs.Meaning.{pair};
 
 use kan_terms::{Bindings, Memory, Term, greater_of};
 use std::alloc::Global;
@@ -67,7 +67,7 @@ fn greatest_of(stored: &[Binding]) -> Option<u64>
 
 impl Bindings for ListBindings {
     ghost use Rattle.std.specs.Prelude.{map};
-    ghost use Rattle.kan_subst.specs.Stored.{pair};
+    ghost use Rattle.kan_subst.specs.Meaning.{pair};
 
     ghost pairs = { λ bindings. map pair bindings.stored.items };
 

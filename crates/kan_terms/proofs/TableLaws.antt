@@ -147,13 +147,6 @@ name_of-append [] more text n e = cc
 name_of-append (first ∷ rest) more text zero e = e
 name_of-append (first ∷ rest) more text (suc n) e = name_of-append rest more text n e
 
-pub name_of-with_text : (table : List (List ℕ)) (new text : List ℕ) (n : ℕ) → name_of table n ≡ Some text → name_of (with_text table new) n ≡ Some text
-name_of-with_text table new text n e = by (is_some (number_of table new))
-  where
-    by : (b : Bool) → name_of (if b then table else table ++ new ∷ []) n ≡ Some text
-    by true = e
-    by false = name_of-append table (new ∷ []) text n e
-
 -- the keys of a set after an insertion are the table with the text
 with_text-keys : {K : Type 0} (bytes : K → List ℕ) (keys : List K) (owned : K)
     → map bytes (if list_any (λ k. bytes_eq (bytes owned) (bytes k)) keys then keys else keys ++ owned ∷ []) ≡ with_text (map bytes keys) (bytes owned)

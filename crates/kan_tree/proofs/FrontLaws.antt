@@ -9,14 +9,10 @@ use Rattle.kan_tree.specs.UnderKeys.{in_link, value_in_front, within}
 use Rattle.kan_tree.specs.declared.nodes.Node.{Node}
 use Rattle.kan_tree.specs.declared.front.Link.{Link}
 use Rattle.kan_tree.specs.declared.front.Front.{Front}
-use Rattle.kan_tree.specs.declared.front.Front.TheViews.{outs-Empty, outs-Nodes, outs-Link}
+use Rattle.kan_tree.specs.declared.front.Front.TheViews.{outs-Nodes, outs-Link}
 use Rattle.kan_tree.specs.declared.front.Front.TheVariants as front
 
 module _ {T M : Type 0} (m : T → M) where
-  pub within_empty : (many level k : ℕ) → within m many level front.Empty k ≡ None
-  within_empty zero level k = ap (λ f. value_in_front m level (λ _. None) f k) outs-Empty
-  within_empty (suc many) level k = ap (λ f. value_in_front m level (in_link m (λ older. within m many level older k) k) f k) outs-Empty
-
   pub within_nodes : (many level k : ℕ) (root : Arc (Node T) Global) → within m many level (front.Nodes root) k ≡ value_below m level (arc_value root) k
   within_nodes zero level k root = ap (λ f. value_in_front m level (λ _. None) f k) (outs-Nodes root)
   within_nodes (suc many) level k root = ap (λ f. value_in_front m level (in_link m (λ older. within m many level older k) k) f k) (outs-Nodes root)
@@ -61,13 +57,6 @@ module _ {T M : Type 0} (m : T → M) where
       ap (λ l. within m (many - 1) level l.older key) at_second
       ∙ sym (ap (λ b. if b then Some (m l.value) else within m (many - 1) level l.older key) (ne_eqb key l.key (λ e. other (ap (λ l. l.key) at_first ∙ sym e))))
       ∙ sym (within_link many level key link some) ∙ ap (λ f. within m many level f key) (sym is) ∙ before
-
-  -- where there is nothing
-  pub empty_at : (many level : ℕ) (f : Front T) → f ≡ front.Empty → (k : ℕ) → within m many level f k ≡ None
-  empty_at many level f is k = ap (λ f. within m many level f k) is ∙ within_empty many level k
-
-  pub none_at : (many level : ℕ) (f : Front T) (link : Arc (Link T (Front T)) Global) → f ≡ front.Link link → many ≡ 0 → (k : ℕ) → within m many level f k ≡ None
-  none_at many level f link is none k = ap (λ f. within m many level f k) is ∙ within_none many level k link none
 
   pub nodes_at : (many level : ℕ) (f : Front T) (root : Arc (Node T) Global) → f ≡ front.Nodes root → (k : ℕ) → within m many level f k ≡ value_below m level (arc_value root) k
   nodes_at many level f root is k = ap (λ f. within m many level f k) is ∙ within_nodes many level k root

@@ -26,10 +26,6 @@ in_leaf-Inner {T} slots d = ap (λ n. of_leaf n d) (outs-Inner slots)
 in_inner-Inner : {T : Type 0} (slots : Slots (Arc (Node T) Global)) (d : ℕ) → in_inner (Inner slots) d ≡ option_map arc_value (at slots d)
 in_inner-Inner {T} slots d = ap (λ n. of_inner n d) (outs-Inner slots)
 
--- what stands at the end of an option
-pub onward_some : {A B : Type 0} (f : A → Option B) (o : Option A) (x : A) → o ≡ Some x → onward f o ≡ f x
-onward_some f o x e = ap (onward f) e
-
 module _ {T M : Type 0} (m : T → M) where
   -- a leaf has nothing above level 0
   pub leaf_high : (level key : ℕ) (slots : Slots T) → level ≢ 0 → look m level key (Leaf slots) ≡ None
@@ -48,9 +44,6 @@ module _ {T M : Type 0} (m : T → M) where
   look_leaf : (level key d : ℕ) (slots : Slots T) → level ≡ 0 → d ≡ digit_of 0 key → look m level key (Leaf slots) ≡ option_map m (at slots d)
   look_leaf zero key d slots h e = ap (option_map m) (in_leaf-Leaf slots _ ∙ ap (at slots) (sym e))
   look_leaf (suc level) key d slots h e = absurd (omega (arith, h))
-
-  pub found_leaf : {A : Type 0} (f : A → T) (r : Option A) (level key d : ℕ) (slots : Slots T) → level ≡ 0 → d ≡ digit_of 0 key → option_map f r ≡ at slots d → option_map (λ x. m (f x)) r ≡ look m level key (Leaf slots)
-  found_leaf f r level key d slots h e w = map_map f r ∙ ap (option_map m) w ∙ sym (look_leaf level key d slots h e)
 
   -- one level further down
   pub look_inner : (level key d : ℕ) (slots : Slots (Arc (Node T) Global)) → level ≢ 0 → d ≡ digit_of level key → look m level key (Inner slots) ≡ onward (look m (level - 1) key) (option_map arc_value (at slots d))

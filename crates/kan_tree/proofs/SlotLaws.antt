@@ -68,11 +68,6 @@ after_push there there_new back entries place d entry n m f low past here exchan
     above : get_or there d 16 ≡ length entries → d ≢ place → get_or there place 16 ≢ length entries
     above e other k = apart there back place d n m f low other (e ∙ sym k)
 
--- a map over an option that is chosen
-pub map_if : {A B : Type 0} → (f : A → B) (b : Bool) (x : A) (o : Option A) → option_map f (if b then Some x else o) ≡ (if b then Some (f x) else option_map f o)
-map_if f true x o = refl
-map_if f false x o = refl
-
 -- a map over what stands at a place of the mapped list
 pub get_map : {A B : Type 0} → (f : A → B) (xs ys : List A) (i : ℕ) → map f xs ≡ map f ys → option_map f (slice_get xs i) ≡ option_map f (slice_get ys i)
 get_map f xs ys i h = sym (slice_get-map f xs i) ∙ ap (λ l. slice_get l i) h ∙ slice_get-map f ys i

@@ -156,8 +156,7 @@ fn finish(mut draft: Draft) -> Result<Case, Fault> {
 }
 
 /// The case of these lines, where `{each}` is this word. The number is that of the case's first
-/// line. What stands in files
-/// is read from the folder.
+/// line. What stands in files is read from the folder.
 pub(crate) fn build<S: Source>(
     alloc: Global,
     folder: &mut S,

@@ -27,7 +27,7 @@ load_reply s n few =
     ∙ ap (λ f. unless_fault f (Reply.accepted table (program_of_text s.dialect table library_data (load_data n)) (queries_of_text s.dialect table library_data (load_data n)))) h.faultless
 
 load_answer : (s : Settings) (n at number : ℕ) → n ≤ 400 → s.library ≡ true → IsRefused s (load n) at number → ⊥
-load_answer s n at number few on h = let same = sym (load_reply s n few) ∙ ap (λ b. reply (library_before b) (load n) s.dialect) (sym on) ∙ h in cc
+load_answer s n at number few on h = let same = sym (load_reply s n few) ∙ ap (λ b. reply (library_before b) (load n) s.dialect) (sym on) ∙ h.is_for in cc
 
 pub load_not_refused : (s : Settings) (n : ℕ) (old new : SinkView) (status : Status) → n ≤ 400 → s.library ≡ true → WritesReply s (load n) old new status → is_refusal status ≡ false
 load_not_refused s n old new statuses.Done few on h = refl

@@ -3,6 +3,7 @@ use Rattle.std.proofs.Common.{◌≡◌, ◌≤◌, ℕ, Bool, true, false, List
 use Rattle.std.specs.Prelude.{Some, Result, IsErrAnd, nat_le}
 use Rattle.std.specs.Str.{is_utf8, chars}
 use Rattle.std.proofs.lemmas.Bool.Decides.{nat_tests}
+use Rattle.kan_refusals.specs.declared.refusals.Refusal.{Refusal}
 use Rattle.kan_terms.specs.Table.{Table}
 use Rattle.kan_grammar.specs.Data.Faults.{Reading, data_are, refused, run, read_tokens, read_text, fault}
 use Rattle.kan_grammar.specs.Data.Written.{Written}
@@ -29,8 +30,8 @@ use Rattle.rel_library.specs.Library.{library}
 use Rattle.rel_library.specs.Accepted.{is_read}
 use Rattle.rel_library.proofs.LibraryFaultless.{library_serves}
 use Rattle.rel_library.proofs.LibraryReads.{library_reads}
-use Rattle.kanren_run.specs.Answers.{answer, IsRefused}
-use Rattle.kanren_run.specs.Replies.{ComesTo, HasRuns, LibraryRead, TextRead, wanting}
+use Rattle.kanren_run.specs.Answers.{reply_to, IsRefusedFor}
+use Rattle.kanren_run.specs.Replies.{ComesTo, HasRuns, LibraryRead, TextRead, memory_wanting}
 use Rattle.kanren_run.specs.declared.text.NotRun.{NotRun}
 use Rattle.kanren_run.specs.Settings.{library_before}
 use Rattle.kanren_run.specs.declared.settings.Settings.{Settings}
@@ -68,17 +69,17 @@ library_read s text names ls h =
 
 -- what data that were read are answered with
 to_data : (s : Settings) (text : List ℕ) (names : Table) (ls ds : List Datum) → TextRead s text names ls ds →
-    answer s text ≡ reply_to_data s.dialect names (map (written_form names) ls) (map (written_form names) ds)
+    reply_to s text ≡ reply_to_data s.dialect names (map (written_form names) ls) (map (written_form names) ds)
 to_data s text names ls ds h =
     let library : List ℕ = library_before s.library in
-    subst (λ t. answer s text ≡ reply_to_data s.dialect t (map (written_form t) ls) (map (written_form t) ds)) h.named
+    subst (λ t. reply_to s text ≡ reply_to_data s.dialect t (map (written_form t) ls) (map (written_form t) ds)) h.named
     (replies_as_read library text s.dialect ls (Ok ds) (subst (λ t. Reads library t (Ok ls)) (sym h.named) h.library) (subst (λ t. Reads text t (Ok ds)) (sym h.named) h.forms))
 
 -- a text that can't be read is refused
-pub reading_refused : (s : Settings) (text : List ℕ) (before names : Table) (ls : List Datum) (x : ReadError) (at number : ℕ) → LibraryRead s.library before ls →
-    x ≡ reading.Fault at number → Reads text names (Err x) → IsRefused s text at number
-reading_refused s text before names ls x at number library is read =
-    replies_as_read (library_before s.library) text s.dialect ls (Err (reading.Fault at number)) (library_read s text before ls library) (subst (λ y. Reads text names (Err y)) is read)
+pub reading_refused : (s : Settings) (text : List ℕ) (before names : Table) (ls : List Datum) (x : ReadError) (at : ℕ) (refusal : Refusal) → LibraryRead s.library before ls →
+    x ≡ reading.Fault at refusal → Reads text names (Err x) → IsRefusedFor s text at refusal
+reading_refused s text before names ls x at refusal library is read =
+    replies_as_read (library_before s.library) text s.dialect ls (Err (reading.Fault at refusal)) (library_read s text before ls library) (subst (λ y. Reads text names (Err y)) is read)
 
 -- the names of a text behind the library have the symbols of the prefixes already
 named_behind : (library : Bool) (text : List ℕ) (before old : Table) (ls : List Datum) → LibraryRead library before ls →
@@ -115,8 +116,8 @@ accepted_behind on text before old ls read numbered =
 
 -- what data that were compiled are answered with
 compiled_answer : (s : Settings) (names : Table) (ls ds : List Datum) (text : List ℕ) →
-    answer s text ≡ reply_to_data s.dialect names (map (written_form names) ls) (map (written_form names) ds) → fault_found names ls ds ≡ None →
-    answer s text ≡ Reply.accepted names (program_of_text s.dialect names (map (written_form names) ls) (map (written_form names) ds)) (queries_of_text s.dialect names (map (written_form names) ls) (map (written_form names) ds))
+    reply_to s text ≡ reply_to_data s.dialect names (map (written_form names) ls) (map (written_form names) ds) → fault_found names ls ds ≡ None →
+    reply_to s text ≡ Reply.accepted names (program_of_text s.dialect names (map (written_form names) ls) (map (written_form names) ds)) (queries_of_text s.dialect names (map (written_form names) ls) (map (written_form names) ds))
 compiled_answer s names ls ds text same none =
     same ∙ ap (λ f. unless_fault f (Reply.accepted names (program_of_text s.dialect names (map (written_form names) ls) (map (written_form names) ds)) (queries_of_text s.dialect names (map (written_form names) ls) (map (written_form names) ds)))) none
 
@@ -140,28 +141,28 @@ data_come s text old later ls ds c read table compiled =
     })
 
 -- data that have a fault are refused for it
-pub data_refused : (s : Settings) (text : List ℕ) (old : Table) (ls ds : List Datum) (x : SyntaxError) (at number : ℕ) → x ≡ syntax.Fault at number →
-    TextRead s text (with_prefixes old) ls ds → Compiles s.dialect (with_prefixes old) ls ds (Err x) → IsRefused s text at number
-data_refused s text old ls ds x at number same read found =
+pub data_refused : (s : Settings) (text : List ℕ) (old : Table) (ls ds : List Datum) (x : SyntaxError) (at : ℕ) (refusal : Refusal) → x ≡ syntax.Fault at refusal →
+    TextRead s text (with_prefixes old) ls ds → Compiles s.dialect (with_prefixes old) ls ds (Err x) → IsRefusedFor s text at refusal
+data_refused s text old ls ds x at refusal same read found =
     let names : Table = with_prefixes old in
-    let first : fault_found names ls ds ≡ Some (fault at number) = subst (λ y. Compiles s.dialect names ls ds (Err y)) same found in
+    let first : fault_found names ls ds ≡ Some (fault at refusal) = subst (λ y. Compiles s.dialect names ls ds (Err y)) same found in
     to_data s text names ls ds read
     ∙ ap (λ f. unless_fault f (Reply.accepted names (program_of_text s.dialect names (map (written_form names) ls) (map (written_form names) ds)) (queries_of_text s.dialect names (map (written_form names) ls) (map (written_form names) ds)))) first
 
--- the same of equal offsets and numbers
-pub refused_same : (s : Settings) (text : List ℕ) (a b m n : ℕ) → a ≡ b → m ≡ n → IsRefused s text a m → IsRefused s text b n
-refused_same s text a b m n p q h = subst (λ at. IsRefused s text at n) p (subst (λ number. IsRefused s text a number) q h)
+-- the same of equal offsets and refusals
+pub refused_same : (s : Settings) (text : List ℕ) (a b : ℕ) (m n : Refusal) → a ≡ b → m ≡ n → IsRefusedFor s text a m → IsRefusedFor s text b n
+refused_same s text a b m n p q h = subst (λ at. IsRefusedFor s text at n) p (subst (λ refusal. IsRefusedFor s text a refusal) q h)
 
 -- want of memory says nothing, also where it is handed on
-pub wants_memory : (s : Settings) (text : List ℕ) (names : Table) (r : Result Compiled NotRun) (e : NotRun) → IsErrAnd r (λ x. x ≡ e) → e ≡ wanting → ComesTo s text names r
+pub wants_memory : (s : Settings) (text : List ℕ) (names : Table) (r : Result Compiled NotRun) (e : NotRun) → IsErrAnd r (λ x. x ≡ e) → e ≡ memory_wanting → ComesTo s text names r
 wants_memory s text names (Ok c) e h is = absurd h
 wants_memory s text names (Err x) e h is = subst (λ y. ComesTo s text names (Err y)) (sym (h ∙ is)) tt
 
 -- the library is read without a fault
-pub reads_library : (at number : ℕ) (names : Table) (r : ReadError) → r ≡ reading.Fault at number → Reads library names (Err r) → ⊥
-reads_library at number names r is h = by (read_text as_written library) library_reads (sym (keeps_data library) ∙ subst (λ x. Reads library names (Err x)) is h)
+pub reads_library : (at : ℕ) (refusal : Refusal) (names : Table) (r : ReadError) → r ≡ reading.Fault at refusal → Reads library names (Err r) → ⊥
+reads_library at refusal names r is h = by (read_text as_written library) library_reads (sym (keeps_data library) ∙ subst (λ x. Reads library names (Err x)) is h)
   where
-    by : (x : Reading Written) → is_read x ≡ true → map_reading (build_datum as_kept) x ≡ refused (fault at number) → ⊥
+    by : (x : Reading Written) → is_read x ≡ true → map_reading (build_datum as_kept) x ≡ refused (fault at refusal) → ⊥
     by (data_are ds) read e = cc
     by (refused f) read e = cc
 

@@ -2,6 +2,7 @@
 use Rattle.std.proofs.Common.{◌≡◌, ℕ, Bool, List, Option, map, true, Err, sym, ◌∙◌, ap, subst}
 use Rattle.std.specs.List.{list_all}
 use Rattle.std.specs.Io.KnownBytes.{Appends}
+use Rattle.kan_refusals.specs.declared.refusals.Refusal.{Refusal}
 use Rattle.kan_base.specs.Views.{SinkView}
 use Rattle.kan_base.specs.Writes.{PutsFront}
 use Rattle.kan_terms.specs.Table.{Table}
@@ -10,7 +11,7 @@ use Rattle.kan_model.specs.Programs.Closed.{query_of}
 use Rattle.kan_model.specs.Answers.Output.{runs_output}
 use Rattle.kan_grammar.specs.Data.Faults.{fault}
 use Rattle.kan_grammar.specs.Texts.Reply.{reply_bytes, refusal_line, spends_fuel}
-use Rattle.kanren_run.specs.Answers.{answer, answer_bytes, is_accepted, AreInForm, IsRefused, Runs, spends}
+use Rattle.kanren_run.specs.Answers.{reply_to, answer_bytes, is_accepted, AreInForm, IsRefusedFor, Runs, spends}
 use Rattle.kanren_run.specs.Outcomes.{PutFront, PutWhole}
 use Rattle.kanren_run.specs.Replies.{HasRuns, ComesTo}
 use Rattle.kanren_run.specs.declared.text.NotRun.{NotRun}
@@ -33,7 +34,7 @@ lines_same s text names program queries has =
     ∙ ap (reply_bytes s.fuel) (sym has.answered)
 
 -- their answers are in form
-forms_of : (s : Settings) (text : List ℕ) (names : Table) (program : declared.Program) (queries : List declared.Query) (has : HasRuns s text names program queries) → TextsDiffer names → AreInForm s.fuel (answer s text)
+forms_of : (s : Settings) (text : List ℕ) (names : Table) (program : declared.Program) (queries : List declared.Query) (has : HasRuns s text names program queries) → TextsDiffer names → AreInForm s.fuel (reply_to s text)
 forms_of s text names program queries has differ =
     subst (AreInForm s.fuel) (sym has.answered)
     (answers_in_form s.fuel names has.meant (map (query_of program) queries) differ (subst (λ rs. list_all (is_body_named names) rs ≡ true) has.relations has.can.bodies) has.can.goals)
@@ -66,24 +67,24 @@ runs_stopped s text names program queries items put after differ has same front 
 }
 
 -- the line of a refusal is what is written for the text
-line_same : (s : Settings) (text : List ℕ) (at number : ℕ) (line : List ℕ) → IsRefused s text at number → line ≡ refusal_line (fault at number) → line ≡ answer_bytes s text
-line_same s text at number line refused is = is ∙ ap (reply_bytes s.fuel) (sym refused)
+line_same : (s : Settings) (text : List ℕ) (at : ℕ) (refusal : Refusal) (line : List ℕ) → IsRefusedFor s text at refusal → line ≡ refusal_line (fault at refusal) → line ≡ answer_bytes s text
+line_same s text at refusal line refused is = is ∙ ap (reply_bytes s.fuel) (sym refused)
 
-pub refused_front : (s : Settings) (text : List ℕ) (at number : ℕ) (line : List ℕ) (put after : Option (List ℕ)) → IsRefused s text at number → line ≡ refusal_line (fault at number) → PutsFront put after line → PutFront s text put after
-refused_front s text at number line put after refused is front = record {
-  front = subst (PutsFront put after) (line_same s text at number line refused is) front;
+pub refused_front : (s : Settings) (text : List ℕ) (at : ℕ) (refusal : Refusal) (line : List ℕ) (put after : Option (List ℕ)) → IsRefusedFor s text at refusal → line ≡ refusal_line (fault at refusal) → PutsFront put after line → PutFront s text put after
+refused_front s text at refusal line put after refused is front = record {
+  front = subst (PutsFront put after) (line_same s text at refusal line refused is) front;
   in_form = subst (AreInForm s.fuel) (sym refused) tt;
 }
 
-pub refused_whole : (s : Settings) (text : List ℕ) (at number : ℕ) (line : List ℕ) (put after : Option (List ℕ)) → IsRefused s text at number → line ≡ refusal_line (fault at number) → Appends put after line → PutWhole s text put after
-refused_whole s text at number line put after refused is whole = subst (Appends put after) (line_same s text at number line refused is) whole
+pub refused_whole : (s : Settings) (text : List ℕ) (at : ℕ) (refusal : Refusal) (line : List ℕ) (put after : Option (List ℕ)) → IsRefusedFor s text at refusal → line ≡ refusal_line (fault at refusal) → Appends put after line → PutWhole s text put after
+refused_whole s text at refusal line put after refused is whole = subst (Appends put after) (line_same s text at refusal line refused is) whole
 
 -- the same of equal stops, and of equal refusals
 pub stops_as : (text : List ℕ) (old new : SinkView) (a b : Stop) → a ≡ b → Stops text old new a → Stops text old new b
 stops_as text old new a b is stops = subst (Stops text old new) is stops
 
-pub refused_as : (s : Settings) (text : List ℕ) (names : Table) (x : NotRun) (f : refusals.Fault) → x ≡ not_run.Fault f → ComesTo s text names (Err x) → IsRefused s text f.at f.number
+pub refused_as : (s : Settings) (text : List ℕ) (names : Table) (x : NotRun) (f : refusals.Fault) → x ≡ not_run.Fault f → ComesTo s text names (Err x) → IsRefusedFor s text f.at f.refusal
 refused_as s text names x f is comes = subst (λ y. ComesTo s text names (Err y)) is comes
 
-pub refused_also : (s : Settings) (text : List ℕ) (f g : refusals.Fault) → f ≡ g → IsRefused s text f.at f.number → IsRefused s text g.at g.number
-refused_also s text f g is h = subst (λ (x : refusals.Fault). IsRefused s text x.at x.number) is h
+pub refused_also : (s : Settings) (text : List ℕ) (f g : refusals.Fault) → f ≡ g → IsRefusedFor s text f.at f.refusal → IsRefusedFor s text g.at g.refusal
+refused_also s text f g is h = subst (λ (x : refusals.Fault). IsRefusedFor s text x.at x.refusal) is h

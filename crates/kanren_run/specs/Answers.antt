@@ -1,6 +1,8 @@
 -- What a text is answered with, and what is said of it.
 use Rattle.std.specs.Prelude.{◌≡◌, ℕ, Bool, true, false, List, Contains, ⊤}
 use Rattle.std.specs.List.{list_any}
+use Rattle.kan_refusals.specs.Refusals.{number_of}
+use Rattle.kan_refusals.specs.declared.refusals.Refusal.{Refusal}
 use Rattle.kan_model.specs.Answers.AnswerText.{answer_of}
 use Rattle.kan_model.specs.Answers.InForm.{in_form}
 use Rattle.kan_model.specs.Programs.Goals.{Program, Query}
@@ -12,12 +14,12 @@ use Rattle.kanren_run.specs.Settings.{library_before}
 use Rattle.kanren_run.specs.declared.settings.Settings.{Settings}
 
 -- what a text is answered with under some settings
-abbrev pub answer : Settings → List ℕ → Reply
-answer s text = reply (library_before s.library) text s.dialect
+abbrev pub reply_to : Settings → List ℕ → Reply
+reply_to s text = reply (library_before s.library) text s.dialect
 
 -- the bytes that are written for it
 abbrev pub answer_bytes : Settings → List ℕ → List ℕ
-answer_bytes s text = reply_bytes s.fuel (answer s text)
+answer_bytes s text = reply_bytes s.fuel (reply_to s text)
 
 abbrev pub is_accepted : Reply → Bool
 is_accepted (Reply.refusal f) = false
@@ -34,13 +36,19 @@ AreInForm fuel (Reply.accepted table program queries) =
 -- a text is accepted, its answers are in form, and it is said whether some run of it spends its
 -- fuel
 pub record Runs (s : Settings) (text : List ℕ) (spent : Bool) : Type 0 where
-  pub accepted : is_accepted (answer s text) ≡ true
-  pub in_form : AreInForm s.fuel (answer s text)
-  pub spends : spends_fuel s.fuel (answer s text) ≡ spent
+  pub accepted : is_accepted (reply_to s text) ≡ true
+  pub in_form : AreInForm s.fuel (reply_to s text)
+  pub spends : spends_fuel s.fuel (reply_to s text) ≡ spent
 
--- a text is refused for a fault with an offset and a number
-abbrev pub IsRefused : Settings → List ℕ → ℕ → ℕ → Type 0
-IsRefused s text at number = answer s text ≡ Reply.refusal (fault at number)
+-- a text is refused for a fault at an offset
+abbrev pub IsRefusedFor : Settings → List ℕ → ℕ → Refusal → Type 0
+IsRefusedFor s text at refusal = reply_to s text ≡ Reply.refusal (fault at refusal)
+
+-- and its refusal has this number
+pub record IsRefused (s : Settings) (text : List ℕ) (at number : ℕ) : Type 0 where
+  pub refusal : Refusal
+  pub is_for : IsRefusedFor s text at refusal
+  pub numbered : number ≡ number_of refusal
 
 -- some run spends its fuel
 abbrev pub spends : Program → ℕ → List Query → Bool

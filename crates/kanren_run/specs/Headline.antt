@@ -13,7 +13,7 @@ use Rattle.kan_model.specs.Streams.Taking.{Ending, take_query}
 use Rattle.kan_grammar.specs.Texts.Reply.{Reply}
 use Rattle.kan_meaning.specs.Answers.{IsCovered}
 use Rattle.pull_bounds.specs.Finding.{IsCutBefore}
-use Rattle.kanren_run.specs.Answers.{answer}
+use Rattle.kanren_run.specs.Answers.{reply_to}
 use Rattle.kanren_run.specs.Settings.{settings_of}
 use Rattle.kanren_run.specs.declared.settings.Settings.{Settings}
 use Rattle.command_line.specs.Lines.{Line}
@@ -35,7 +35,7 @@ pub record RunMeans (table : Table) (program : Program) (fuel : ℕ) (q : Query)
 -- so for each run of a text that is accepted
 abbrev pub TextMeans : Settings → List ℕ → Type 0
 TextMeans s text =
-    (table : Table) (program : Program) (queries : List Query) → answer s text
+    (table : Table) (program : Program) (queries : List Query) → reply_to s text
     ≡ Reply.accepted table program queries →
     (q : Query) → Contains queries q → RunMeans table program s.fuel q
 

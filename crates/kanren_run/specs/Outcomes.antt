@@ -12,7 +12,7 @@ use Rattle.kanren_run.specs.Commands.{line_alone}
 use Rattle.kanren_run.specs.Settings.{settings_of}
 use Rattle.kanren_run.specs.Origins.{Origin, origin_of, Ends, IsOpened, GetsWhole, GetsAtMost}
 use Rattle.kanren_run.specs.Origins.{GetsTooMuch, IsThere}
-use Rattle.kanren_run.specs.Answers.{answer, answer_bytes, AreInForm, Runs, IsRefused}
+use Rattle.kanren_run.specs.Answers.{reply_to, answer_bytes, AreInForm, Runs, IsRefused}
 use Rattle.kanren_run.specs.declared.settings.Settings.{Settings}
 
 -- all that is written for a text was put
@@ -22,7 +22,7 @@ PutWhole s text put after = Appends put after (answer_bytes s text)
 -- a front of what is written for a text was put, and its answers are in form
 pub record PutFront (s : Settings) (text : List ℕ) (put after : Option (List ℕ)) : Type 0 where
   pub front : PutsFront put after (answer_bytes s text)
-  pub in_form : AreInForm s.fuel (answer s text)
+  pub in_form : AreInForm s.fuel (reply_to s text)
 
 -- a text was got whole and is accepted, and its output was put; it is said whether some run spent
 -- its fuel

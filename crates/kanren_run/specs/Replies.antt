@@ -10,7 +10,7 @@ use Rattle.kan_grammar.specs.Texts.TextNames.{GoesOn, first_names, with_text_nam
 use Rattle.sexpr.specs.Reads.{Reads}
 use Rattle.sexpr.specs.declared.data.Datum.{Datum}
 use Rattle.goal_syntax.specs.declared.compiler.Compiled.{Compiled}
-use Rattle.kanren_run.specs.Answers.{answer, IsRefused}
+use Rattle.kanren_run.specs.Answers.{reply_to, IsRefusedFor}
 use Rattle.kanren_run.specs.Settings.{library_before}
 use Rattle.kanren_run.specs.Writing.{CanRun}
 use Rattle.kanren_run.specs.declared.settings.Settings.{Settings}
@@ -18,15 +18,15 @@ use Rattle.kanren_run.specs.declared.text.NotRun.{NotRun}
 use Rattle.kanren_run.specs.declared.text.NotRun.TheVariants.{Fault, Memory}
 
 -- want of memory
-abbrev pub wanting : NotRun
-wanting = Memory
+abbrev pub memory_wanting : NotRun
+memory_wanting = Memory
 
 -- A program of the code has the relations of an accepted text, its queries are the text's runs, and
 -- they may be run.
 pub record HasRuns (s : Settings) (text : List ℕ) (names : Table) (program : Program)
     (queries : List Query) : Type 0 where
   pub meant : model.Program
-  pub answered : answer s text
+  pub answered : reply_to s text
       ≡ Reply.accepted names meant (map (programs.query_of program) queries)
   pub relations : (programs.meaning program).relations ≡ meant.relations
   pub can : CanRun names program queries
@@ -34,7 +34,7 @@ pub record HasRuns (s : Settings) (text : List ℕ) (names : Table) (program : P
 -- a text has a program and runs under these names, or is refused; want of memory says nothing
 abbrev pub ComesTo : Settings → List ℕ → Table → Result Compiled NotRun → Type 0
 ComesTo s text names (Ok c) = HasRuns s text names c.program c.queries
-ComesTo s text names (Err (Fault f)) = IsRefused s text f.at f.number
+ComesTo s text names (Err (Fault f)) = IsRefusedFor s text f.at f.refusal
 ComesTo s text names (Err Memory) = Unit {0}
 
 -- the data of a library, where one is asked for, were read under its names behind the first

@@ -2,7 +2,7 @@
 
 ghost use Rattle.std.specs.Prelude.{◌≡◌, IfOk, string_bytes};
 ghost use Rattle.kan_grammar.specs.Data.Faults.{fault as fault_at};
-ghost use Rattle.kan_grammar.specs.Texts.Reply.{line_at, refusal_line};
+ghost use Rattle.kan_grammar.specs.Texts.Reply.{refusal_line};
 
 use kan_refusals::{Refusal, error_line};
 use std::alloc::{AllocError, Global};
@@ -12,25 +12,15 @@ use std::alloc::{AllocError, Global};
 pub(crate) struct Fault {
     /// The offset of the byte at which it stands.
     pub(crate) at: u32,
-    /// The number of the refusal.
-    pub(crate) number: u8,
-}
-
-// The line of a refusal at an offset.
-fn line_at(alloc: Global, at: u32, refusal: Refusal) -> Result<String, AllocError>
-    ensures { IfOk result (λ line. string_bytes line ≡ line_at at refusal) }
-{
-    let line = error_line(alloc, at, refusal)?;
-    Ok(line)
+    /// Why the text is refused there.
+    pub(crate) refusal: Refusal,
 }
 
 /// The line of a fault.
 pub(crate) fn fault_line(alloc: Global, fault: Fault) -> Result<String, AllocError>
     ensures { IfOk result (λ line. string_bytes line
-        ≡ refusal_line (fault_at fault.at fault.number)) }
+        ≡ refusal_line (fault_at fault.at fault.refusal)) }
 {
-    match Refusal::of_number(fault.number) {
-        Some(refusal) => line_at(alloc, fault.at, refusal),
-        None => Ok(String::new(alloc)),
-    }
+    let line = error_line(alloc, fault.at, fault.refusal)?;
+    Ok(line)
 }

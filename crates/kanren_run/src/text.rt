@@ -5,7 +5,7 @@ ghost use Rattle.std.specs.Prelude.{IfOk, OnOk};
 ghost use Rattle.kan_terms.specs.Table.{no_names};
 ghost use Rattle.kan_grammar.specs.Texts.TextNames.{Extends, first_names, with_prefixes};
 ghost use Rattle.goal_syntax.specs.Compiling.Compiles.{AreOfText, IsAcceptedAlone};
-ghost use Rattle.kanren_run.specs.Replies.{ComesTo, LibraryRead, TextRead, wanting};
+ghost use Rattle.kanren_run.specs.Replies.{ComesTo, LibraryRead, TextRead, memory_wanting};
 
 use crate::refusal::Fault;
 use crate::settings::Settings;
@@ -27,7 +27,7 @@ pub(crate) enum NotRun {
 }
 
 impl From<Memory> for NotRun {
-    ghost from_gives = { λ _ e. e ≡ wanting };
+    ghost from_gives = { λ _ e. e ≡ memory_wanting };
 
     fn from(_refused: Memory) -> NotRun {
         NotRun::Memory
@@ -68,7 +68,7 @@ fn compile_data(
 {
     match compile(alloc, library, forms, names, settings.dialect) {
         Ok(compiled) => Ok(compiled),
-        Err(SyntaxError::Fault(at, number)) => Err(NotRun::Fault(Fault { at, number })),
+        Err(SyntaxError::Fault(at, refusal)) => Err(NotRun::Fault(Fault { at, refusal })),
         Err(SyntaxError::Memory) => Err(NotRun::Memory),
     }
 }
@@ -91,7 +91,7 @@ pub(crate) fn compile_text(
     let library = library_data(alloc, settings.library, names)?;
     match read(alloc, text, names) {
         Ok(data) => compile_data(alloc, settings, library.as_slice(), data.as_slice(), names),
-        Err(ReadError::Fault(at, number)) => Err(NotRun::Fault(Fault { at, number })),
+        Err(ReadError::Fault(at, refusal)) => Err(NotRun::Fault(Fault { at, refusal })),
         Err(ReadError::Memory) => Err(NotRun::Memory),
     }
 }

@@ -6,7 +6,7 @@ ghost use Rattle.command_line.specs.WordsRead.{Reads, line_asked};
 ghost use Rattle.command_line.specs.Lines.{IsInRange, texts};
 ghost use Rattle.rel_library.specs.Loads.{greatest_load, load};
 ghost use Rattle.kan_model.specs.Answers.InForm.{TextsDiffer};
-ghost use Rattle.kanren_run.specs.Answers.{IsRefused};
+ghost use Rattle.kanren_run.specs.Answers.{IsRefusedFor};
 ghost use Rattle.kanren_run.specs.Commands as commands;
 ghost use Rattle.kanren_run.specs.Headline.{TextsMean};
 ghost use Rattle.kanren_run.specs.Origins as origins;
@@ -219,14 +219,14 @@ fn answer_runs<St: Store, K: Sink>(
 
 // Writes the line of a fault.
 fn refuse<K: Sink>(alloc: Global, fault: Fault, sink: &mut K) -> Status
-    ensures { (s : settings.Answering) (text : List ℕ) → IsRefused s text fault.at fault.number
+    ensures { (s : settings.Answering) (text : List ℕ) → IsRefusedFor s text fault.at fault.refusal
         → WritesReply s text (K.view sink.old) (K.view sink.new) result }
 {
     let Ok(line) = fault_line(alloc, fault) else {
         return Status::Memory;
     };
     match put_all(sink, line.as_bytes()) {
-        Ok(()) => Status::Text(fault.at, fault.number),
+        Ok(()) => Status::Text(fault.at, fault.refusal.number()),
         Err(_) => Status::WriteFault,
     }
 }

@@ -12,8 +12,8 @@ use Rattle.kan_model.specs.Streams.Taking.{stores_within}
 use Rattle.pull_bounds.specs.Coming.{ComesWithin, BoundComes, BothCome}
 use Rattle.pull_bounds.proofs.Numbers.{pow-suc_times, pow_times_more, heads_fit, later_fits}
 use Rattle.pull_bounds.proofs.Within.{Comes, Comes-within, within-Comes, Comes-more}
-use Rattle.pull_bounds.proofs.Appended.{Comes-left, Comes-right}
-use Rattle.pull_bounds.proofs.Counted.{count, count_ends, count_none, count_pull, answers_are_bounded}
+use Rattle.pull_bounds.proofs.AppendLaws.{Comes-left, Comes-right}
+use Rattle.pull_bounds.proofs.CountLaws.{count, count_ends, count_none, count_pull, answers_are_bounded}
 
 -- an item of a list is its first one, or stands in the rest
 first_or_later : {X : Type 0} (y : X) (xs : List X) (x : X) → Contains (y ∷ xs) x → (y ≡ x) ⊎ Contains xs x

@@ -1,7 +1,7 @@
 mod Numbers
 pub mod Within
-pub mod Appended
-pub mod Counted
+pub mod AppendLaws
+pub mod CountLaws
 pub mod Bound
 pub mod KeptStores
 pub mod Longer

@@ -10,19 +10,19 @@ ghost use Rattle.pull_bounds.specs.Finding.{EndHasAll, MoreFuelAddsBehind, NoneI
 ghost use Rattle.pull_bounds.specs.Finding.{WhatComesIsTaken};
 
 /// What the left one of two appended streams gives within some pulls comes within twice as many.
-#[tactic(auto, using(crate::proofs::Appended::left_comes))]
+#[tactic(auto, using(crate::proofs::AppendLaws::left_comes))]
 pub fn left_comes_within_twice()
     ensures { LeftComes }
 {}
 
 /// What the right one gives comes within one pull more than that.
-#[tactic(auto, using(crate::proofs::Appended::right_comes))]
+#[tactic(auto, using(crate::proofs::AppendLaws::right_comes))]
 pub fn right_comes_one_later()
     ensures { RightComes }
 {}
 
 /// A goal has no more answers within some pulls than are counted for it.
-#[tactic(auto, using(crate::proofs::Counted::answers_are_bounded))]
+#[tactic(auto, using(crate::proofs::CountLaws::answers_are_bounded))]
 pub fn answers_are_counted()
     ensures { AnswersAreBounded }
 {}

@@ -2,7 +2,7 @@
 
 ghost use Rattle.std.specs.Prelude.{◌≡◌, ◌+◌, ◌<◌, ◌≤◌, ◌^◌, true, false, IfOk};
 ghost use Rattle.pull_budget.specs.Views.{fresh, hired_view, after_pull, after_stop, after_asking};
-ghost use Rattle.pull_budget.specs.Seats.{view, IsSeatOf};
+ghost use Rattle.pull_budget.specs.Seats.{view, ahead_of, IsSeatOf};
 
 use crate::budget::{Budget, BudgetSeat, Spent};
 use crate::steps::{AddPull, Hire, LoadStop, SetBound, SetStop};
@@ -15,7 +15,7 @@ impl Budget {
     pub fn new(alloc: Global, ahead: u32) -> Result<(Budget, BudgetSeat), Memory>
         ensures seat { IfOk result (λ made. IsSeatOf made.0 made.1) }
         ensures view { IfOk result (λ made. view made.1 ≡ fresh true ahead 0) }
-        ensures ahead { IfOk result (λ made. made.0.ahead ≡ ahead) }
+        ensures ahead { IfOk result (λ made. ahead_of made.0 ≡ ahead) }
     {
         let Ok((table, mut seat)) = Table::of_words(alloc, &[0, 0, 0, 0], &()) else {
             return Err(Memory);
@@ -83,7 +83,7 @@ impl Budget {
     pub fn end(self, seat: BudgetSeat) -> Spent
         requires seat { IsSeatOf self seat }
         requires puller { (view seat).puller ≡ true }
-        ensures bound { result.begun ≤ result.pulls + self.ahead }
+        ensures bound { result.begun ≤ result.pulls + ahead_of self }
         ensures pulls { result.pulls ≡ (view seat).made }
         ensures seen { (view seat).seen ≤ result.pulls }
         ensures read { (view seat).read ≤ result.begun }

@@ -1,5 +1,6 @@
 pub mod Shapes
 pub mod OverNames
+pub mod Parts
 pub mod Meaning
 pub mod Printing
 pub mod Constraints

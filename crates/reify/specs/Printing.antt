@@ -29,7 +29,7 @@ rest_text table (Num n) = codes " . " ++ number_text n ++ 41 ∷ []
 rest_text table (Truth b) = codes " . " ++ truth_text b ++ 41 ∷ []
 rest_text table Nil = 41 ∷ []
 
--- a shape as an element: the open of its list, or its atom
+-- a shape as an element: the first bracket of its list, or its atom
 abbrev pub element_text : Table → Shape → List ℕ
 element_text table Pair = 40 ∷ []
 element_text table (Name n) = name_text n

@@ -1,9 +1,10 @@
 //! Answers.
 
-ghost use Rattle.std.specs.Prelude.{IsTrue, map};
+ghost use Rattle.std.specs.Prelude.{IsTrue};
 ghost use Rattle.std.specs.List.{list_all};
-ghost use Rattle.reify.specs.OverNames.{absence, is_over_names};
-ghost use Rattle.reify.specs.Shapes.{spells, all_whole, named_pair, tree_of};
+ghost use Rattle.reify.specs.OverNames.{is_over_names};
+ghost use Rattle.reify.specs.Parts.{answer_from};
+ghost use Rattle.reify.specs.Shapes.{all_whole, spells};
 
 use crate::shaping::{NamePairs, Shape, Shapes};
 
@@ -27,21 +28,15 @@ pub struct Answer {
     pub(crate) absences: Vec<Absence>,
     ghost one: { IsTrue (spells 1 term) },
     ghost whole: { IsTrue (list_all all_whole disequalities.items) },
-    ghost over: { IsTrue (is_over_names (record {
-      term = tree_of term;
-      disequalities = map (map named_pair) disequalities.items;
-      numbers = numbers.items;
-      symbols = symbols.items;
-      strings = strings.items;
-      absences = map absence absences.items;
-    })) },
+    ghost over: { IsTrue (is_over_names (answer_from term disequalities.items
+        numbers.items symbols.items strings.items absences.items)) },
 }
 
 impl Answer {
     ghost use Rattle.std.specs.Prelude.{◌≡◌, true, map, IfSome};
     ghost use Rattle.std.specs.Option.{option_map};
     ghost use Rattle.std.specs.List.{slice_get};
-    ghost use Rattle.reify.specs.Shapes.{all_whole, spelling, named_pair, tree_of};
+    ghost use Rattle.reify.specs.Shapes.{all_whole, named_pair, spelling};
     ghost use Rattle.reify.specs.OverNames.{is_over_names};
     ghost use Rattle.reify.specs.Meaning.{meaning, absence, lent_absence};
 
@@ -56,22 +51,11 @@ impl Answer {
     ) -> Answer
         requires one { spells 1 term ≡ true }
         requires whole { list_all all_whole disequalities.items ≡ true }
-        requires over { is_over_names (record {
-          term = tree_of term;
-          disequalities = map (map named_pair) disequalities.items;
-          numbers = numbers.items;
-          symbols = symbols.items;
-          strings = strings.items;
-          absences = map absence absences.items;
-        }) ≡ true }
-        ensures { meaning result ≡ record {
-          term = tree_of term;
-          disequalities = map (map named_pair) disequalities.items;
-          numbers = numbers.items;
-          symbols = symbols.items;
-          strings = strings.items;
-          absences = map absence absences.items;
-        } }
+        requires over { is_over_names (answer_from term disequalities.items
+            numbers.items symbols.items strings.items absences.items) ≡ true }
+        ensures { meaning result
+            ≡ answer_from term disequalities.items numbers.items symbols.items strings.items
+            absences.items }
     {
         Answer {
             term,

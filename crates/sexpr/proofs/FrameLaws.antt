@@ -3,6 +3,7 @@ use Rattle.std.proofs.Common.{◌≡◌, ℕ, suc, ◌+◌, ◌<◌, ◌≤◌, 
 use Rattle.std.specs.Prelude.{None, Some, Result, Ok, Err, OnOk, nat_le}
 use Rattle.std.specs.List.{fold}
 use Rattle.std.proofs.lemmas.Bool.Decides.{nat_tests}
+use Rattle.kan_refusals.specs.declared.refusals.Refusal.{Refusal}
 use Rattle.kan_grammar.specs.Data.Words.{Atom, Shape, Token, opening, closing, prefix, dot, atom, bad_string, bad, symbol, string, number, truth, out_of_range, reserved}
 use Rattle.kan_grammar.specs.Data.Written.{Written, single, deepest, is_allowed_atom}
 use Rattle.kan_grammar.specs.Data.Enclosing.{Place, top, awaiting, depth, put}
@@ -49,7 +50,7 @@ pub grown_place : (names : Table) (o n : stacks.Enclosing) (f : Frame) → n.top
 grown_place names o n f t e = rw (t, e) (fold_push (inside names) (top (map (written_form names) o.top)) o.frames.items f)
 
 -- which questions refuse a token that begins a datum
-asked_deep : (p : Place Written) (at : ℕ) (t : Token) → begins t ≡ true → nat_le (depth p) deepest ≡ false → refusal (awaiting p) at t ≡ Some (fault at 6)
+asked_deep : (p : Place Written) (at : ℕ) (t : Token) → begins t ≡ true → nat_le (depth p) deepest ≡ false → refusal (awaiting p) at t ≡ Some (fault at Refusal.TooDeep)
 asked_deep p at (opening s) b h = rw h refl
 asked_deep p at (prefix q) b h = rw h refl
 asked_deep p at (atom a) b h = rw h refl
@@ -70,7 +71,7 @@ asked_last p at bad b h = absurd cc
 enclosing_awaits : (names : Table) (o : stacks.Enclosing) → o.ended ≡ None → enclosing_of names o ≡ awaiting (place names o)
 enclosing_awaits names o e = rw e refl
 
-pub refused_deep : (names : Table) (o : stacks.Enclosing) (at : ℕ) → HasDepth o → o.ended ≡ None → 2048 < o.depth → (t : Token) → begins t ≡ true → refusal (enclosing_of names o) at t ≡ Some (fault at 6)
+pub refused_deep : (names : Table) (o : stacks.Enclosing) (at : ℕ) → HasDepth o → o.ended ≡ None → 2048 < o.depth → (t : Token) → begins t ≡ true → refusal (enclosing_of names o) at t ≡ Some (fault at Refusal.TooDeep)
 refused_deep names o at d e h t b =
     let k : depth (place names o) ≡ o.depth = depth_is names o d.inside_all in
     ap (λ x. refusal x at t) (enclosing_awaits names o e) ∙ asked_deep (place names o) at t b (rw k (grind (arith, nat_tests)))

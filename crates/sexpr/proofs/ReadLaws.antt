@@ -5,6 +5,7 @@ use Rattle.std.specs.Result.{IsErrAnd}
 use Rattle.std.specs.Str.{IsUtf8, is_utf8}
 use Rattle.std.specs.Str.Lossy.{utf8_valid_len}
 use Rattle.std.proofs.lemmas.Str.{IsUtf8-from_is_utf8, is_utf8-from_IsUtf8}
+use Rattle.kan_refusals.specs.declared.refusals.Refusal.{Refusal}
 use Rattle.kan_terms.proofs.TableLaws.{name_of-number_of, name_of-append}
 use Rattle.kan_grammar.specs.Data.Words.{symbol, string, Token}
 use Rattle.kan_grammar.specs.Data.Written.{Written, single}
@@ -77,11 +78,11 @@ unfolding read_text read_tokens tokens
 reading_begun bytes u = sym (ap (λ b. read_if as_kept b bytes) (is_utf8-from_IsUtf8 bytes u))
 
 -- bytes that are no text are refused where they stop being one
-pub not_a_text : (bytes : List ℕ) → (IsUtf8 bytes → ⊥) → read_text as_kept bytes ≡ refused (fault (utf8_valid_len bytes) 1)
+pub not_a_text : (bytes : List ℕ) → (IsUtf8 bytes → ⊥) → read_text as_kept bytes ≡ refused (fault (utf8_valid_len bytes) Refusal.NotUtf8)
 unfolding read_text
 not_a_text bytes n = by_test (is_utf8 bytes) refl
   where
-    by_test : (b : Bool) → is_utf8 bytes ≡ b → read_if as_kept (is_utf8 bytes) bytes ≡ refused (fault (utf8_valid_len bytes) 1)
+    by_test : (b : Bool) → is_utf8 bytes ≡ b → read_if as_kept (is_utf8 bytes) bytes ≡ refused (fault (utf8_valid_len bytes) Refusal.NotUtf8)
     by_test true h = absurd (n (IsUtf8-from_is_utf8 bytes h))
     by_test false h = ap (λ b. read_if as_kept b bytes) h
 

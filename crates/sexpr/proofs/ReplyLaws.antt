@@ -1,6 +1,7 @@
 -- Data as they are kept have the sites of those as they are written, and so the same reply.
 use Rattle.std.proofs.Common.{◌≡◌, ℕ, List, [], ◌∷◌, ◌++◌, map, refl, sym, ap, subst, ◌∙◌}
 use Rattle.std.specs.Prelude.{Result, Ok, Err}
+use Rattle.kan_refusals.specs.declared.refusals.Refusal.{Refusal}
 use Rattle.kan_terms.specs.Table.{Table}
 use Rattle.kan_grammar.specs.declared.dialect.Dialect.{Dialect}
 use Rattle.kan_grammar.specs.Data.Words.{Shape}
@@ -70,30 +71,30 @@ kept_library : (r : Reading Written) (ws : List Written) → map_reading (build_
 kept_library (data_are ds) ws h = let e : map (build_datum as_kept) ds ≡ ws = cc in e
 kept_library (refused f) ws h = absurd cc
 
-kept_reply : (dialect : Dialect) (table : Table) (ls ws : List Written) (r : Reading Written) (answer : Result (List Datum) ReadError) → map (build_datum as_kept) ls ≡ ws → ((ds : List Datum) → answer ≡ Ok ds → map_reading (build_datum as_kept) r ≡ data_are (map (written_form table) ds)) → ((at number : ℕ) → answer ≡ Err (errors.Fault at number) → map_reading (build_datum as_kept) r ≡ refused (fault at number)) → IsReply (reply_to_reading dialect table ls r) dialect table ws answer
+kept_reply : (dialect : Dialect) (table : Table) (ls ws : List Written) (r : Reading Written) (answer : Result (List Datum) ReadError) → map (build_datum as_kept) ls ≡ ws → ((ds : List Datum) → answer ≡ Ok ds → map_reading (build_datum as_kept) r ≡ data_are (map (written_form table) ds)) → ((at : ℕ) (why : Refusal) → answer ≡ Err (errors.Fault at why) → map_reading (build_datum as_kept) r ≡ refused (fault at why)) → IsReply (reply_to_reading dialect table ls r) dialect table ws answer
 kept_reply dialect table ls ws (data_are es) (Ok ds) l h k =
     let e : map (build_datum as_kept) es ≡ map (written_form table) ds = kept_library (data_are es) (map (written_form table) ds) (h ds refl) in
     sym (same_reply dialect table ls es) ∙ ap (λ xs. reply_to_data dialect table xs (map (build_datum as_kept) es)) l ∙ ap (reply_to_data dialect table ws) e
 kept_reply dialect table ls ws (refused f) (Ok ds) l h k =
     let e : map_reading (build_datum as_kept) (refused f) ≡ data_are (map (written_form table) ds) = h ds refl in absurd cc
-kept_reply dialect table ls ws (data_are es) (Err (errors.Fault at number)) l h k =
-    let e : data_are (map (build_datum as_kept) es) ≡ refused (fault at number) = k at number refl in absurd cc
-kept_reply dialect table ls ws (refused f) (Err (errors.Fault at number)) l h k =
-    let e : map_reading (build_datum as_kept) (refused f) ≡ refused (fault at number) = k at number refl in
-    let same : f ≡ fault at number = cc in ap Reply.refusal same
+kept_reply dialect table ls ws (data_are es) (Err (errors.Fault at why)) l h k =
+    let e : data_are (map (build_datum as_kept) es) ≡ refused (fault at why) = k at why refl in absurd cc
+kept_reply dialect table ls ws (refused f) (Err (errors.Fault at why)) l h k =
+    let e : map_reading (build_datum as_kept) (refused f) ≡ refused (fault at why) = k at why refl in
+    let same : f ≡ fault at why = cc in ap Reply.refusal same
 kept_reply dialect table ls ws r (Err errors.Memory) l h k = tt
 
 read_data : (bytes : List ℕ) (table : Table) (answer : Result (List Datum) ReadError) → Reads bytes table answer → (ds : List Datum) → answer ≡ Ok ds → map_reading (build_datum as_kept) (read_text as_written bytes) ≡ data_are (map (written_form table) ds)
 read_data bytes table (Ok es) h ds e = let same : es ≡ ds = cc in sym (keeps_data bytes) ∙ h ∙ ap (λ xs. data_are (map (written_form table) xs)) same
 read_data bytes table (Err x) h ds e = absurd cc
 
-read_fault : (bytes : List ℕ) (table : Table) (answer : Result (List Datum) ReadError) → Reads bytes table answer → (at number : ℕ) → answer ≡ Err (errors.Fault at number) → map_reading (build_datum as_kept) (read_text as_written bytes) ≡ refused (fault at number)
-read_fault bytes table (Ok es) h at number e = absurd cc
-read_fault bytes table (Err (errors.Fault a n)) h at number e =
+read_fault : (bytes : List ℕ) (table : Table) (answer : Result (List Datum) ReadError) → Reads bytes table answer → (at : ℕ) (why : Refusal) → answer ≡ Err (errors.Fault at why) → map_reading (build_datum as_kept) (read_text as_written bytes) ≡ refused (fault at why)
+read_fault bytes table (Ok es) h at why e = absurd cc
+read_fault bytes table (Err (errors.Fault a n)) h at why e =
     let first : a ≡ at = cc in
-    let second : n ≡ number = cc in
+    let second : n ≡ why = cc in
     sym (keeps_data bytes) ∙ h ∙ ap (λ x. refused (fault x n)) first ∙ ap (λ x. refused (fault at x)) second
-read_fault bytes table (Err errors.Memory) h at number e = absurd cc
+read_fault bytes table (Err errors.Memory) h at why e = absurd cc
 
 pub replies_as_read : RepliesAsRead
 unfolding reply

@@ -81,7 +81,7 @@ TakesToken names old new at t = (later : Table) → GoesOn names later → Takes
 
 -- an error is the refusal that the questions give, or want of memory
 abbrev pub Refuses : ReadError → Option Fault → Type 0
-Refuses (errors.Fault at number) asked = asked ≡ Some (fault at number)
+Refuses (errors.Fault at r) asked = asked ≡ Some (fault at r)
 Refuses errors.Memory asked = Unit {0}
 
 -- a token is refused

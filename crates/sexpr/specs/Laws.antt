@@ -21,7 +21,7 @@ use Rattle.sexpr.specs.declared.data.Datum.{Datum}
 abbrev pub IsReply : Reply → Dialect → Table → List Written → Result (List Datum) ReadError → Type 0
 IsReply r dialect table library (Ok ds) =
     r ≡ reply_to_data dialect table library (map (written_form table) ds)
-IsReply r dialect table library (Err (Fault at number)) = r ≡ Reply.refusal (fault at number)
+IsReply r dialect table library (Err (Fault at why)) = r ≡ Reply.refusal (fault at why)
 IsReply r dialect table library (Err Memory) = Unit {0}
 
 -- the data that are kept of a text are made of those that are written in it, and a fault is the

@@ -22,7 +22,7 @@ memory_wanted = Memory
 -- of it
 abbrev pub Answers : Table → Reading Written → Result (List Datum) ReadError → Type 0
 Answers names reading (Ok ds) = reading ≡ data_are (map (written_form names) ds)
-Answers names reading (Err (Fault at number)) = reading ≡ refused (fault at number)
+Answers names reading (Err (Fault at r)) = reading ≡ refused (fault at r)
 Answers names reading (Err Memory) = Unit {0}
 
 -- the bytes of a text are read so

@@ -4,6 +4,7 @@ ghost use Rattle.std.specs.Prelude.{◌≡◌};
 ghost use Rattle.std.specs.Option.{option_copied};
 ghost use Rattle.sexpr.specs.Reads.{memory_wanted};
 
+use kan_refusals::Refusal;
 use kan_terms::Memory;
 use sqlite_items::{Boxed, Items};
 use std::alloc::{AllocError, AllocFailed};
@@ -53,8 +54,8 @@ pub enum DatumKind {
 /// Why a text has no data.
 #[derive(Clone, Copy, Debug, PartialEq, Eq)]
 pub enum ReadError {
-    /// The text is refused: the offset, and the number of the refusal.
-    Fault(u32, u8),
+    /// The text is refused: the offset, and the refusal.
+    Fault(u32, Refusal),
     /// Want of memory.
     Memory,
 }

@@ -3,6 +3,7 @@
 ghost use Rattle.std.specs.Prelude.{◌≡◌, ◌<◌, ◌≤◌, [], ◌∷◌, ◌++◌, map, None, Some, true};
 ghost use Rattle.std.specs.Prelude.{if◌then◌else◌, IfErr, OnOk};
 ghost use Rattle.std.specs.List.{fold};
+ghost use Rattle.kan_refusals.specs.declared.refusals.Refusal.{Refusal};
 ghost use Rattle.kan_grammar.specs.Data.Words.{Atom, Token, opening, closing, prefix, dot, atom};
 ghost use Rattle.kan_grammar.specs.Data.Words.{out_of_range, reserved};
 ghost use Rattle.kan_grammar.specs.Data.Written.{is_allowed_atom, single};
@@ -18,6 +19,7 @@ ghost use Rattle.sexpr.specs.Frames.{enclosing_of, place};
 use crate::data::{Data, Datum, DatumKind, Prefix, ReadError};
 use crate::frame::{DottedFrame, Ended, Frame, ListFrame};
 use crate::token::Shape;
+use kan_refusals::Refusal;
 use sqlite_items::Boxed;
 use std::alloc::Global;
 
@@ -60,10 +62,10 @@ impl Enclosing {
             (t : Token) → begins t ≡ true → RefusesToken e self.now at t) }
     {
         if let Some(ended) = &self.ended {
-            return Err(ReadError::Fault(ended.list.point, 5));
+            return Err(ReadError::Fault(ended.list.point, Refusal::BadDot));
         }
         if self.depth > DEEPEST {
-            return Err(ReadError::Fault(at, 6));
+            return Err(ReadError::Fault(at, Refusal::TooDeep));
         }
         Ok(())
     }
@@ -118,7 +120,7 @@ impl Enclosing {
         ensures { RefusesToken result self.now at (atom out_of_range) }
     {
         match self.may_begin(at) {
-            Ok(()) => ReadError::Fault(at, 7),
+            Ok(()) => ReadError::Fault(at, Refusal::NumberRange),
             Err(error) => error,
         }
     }
@@ -129,7 +131,7 @@ impl Enclosing {
         ensures { RefusesToken result self.now at (atom reserved) }
     {
         match self.may_begin(at) {
-            Ok(()) => ReadError::Fault(at, 8),
+            Ok(()) => ReadError::Fault(at, Refusal::ReservedName),
             Err(error) => error,
         }
     }
@@ -141,7 +143,7 @@ impl Enclosing {
         ensures refused { IfErr result (λ e. RefusesToken e self.old at dot) }
         ensures depth { OnOk result (HasDepth self.new) }
     {
-        let misplaced = Err(ReadError::Fault(at, 5));
+        let misplaced = Err(ReadError::Fault(at, Refusal::BadDot));
         if self.ended.is_some() {
             return misplaced;
         }
@@ -182,12 +184,12 @@ impl Enclosing {
         match self.frames.pop() {
             Some(Frame::List(list)) => self.close_list(at, shape, list),
             Some(Frame::Dotted(list)) => Err(if list.shape.is_closed_by(shape) {
-                ReadError::Fault(list.point, 5)
+                ReadError::Fault(list.point, Refusal::BadDot)
             } else {
-                ReadError::Fault(at, 3)
+                ReadError::Fault(at, Refusal::StrayClose)
             }),
-            Some(Frame::Prefix(start, _)) => Err(ReadError::Fault(start, 4)),
-            None => Err(ReadError::Fault(at, 3)),
+            Some(Frame::Prefix(start, _)) => Err(ReadError::Fault(start, Refusal::BadToken)),
+            None => Err(ReadError::Fault(at, Refusal::StrayClose)),
         }
     }
 
@@ -204,11 +206,11 @@ impl Enclosing {
             (list_of list.at (map (written_form names) list.items) None)) }
         ensures refused { IfErr result (λ e.
             Refuses e (if is_shape (Some (shape_of list.shape)) (shape_of shape)
-            then None else Some (fault at 3))) }
+            then None else Some (fault at Refusal.StrayClose))) }
         ensures depth { OnOk result (HasDepth self.new) }
     {
         if !list.shape.is_closed_by(shape) {
-            return Err(ReadError::Fault(at, 3));
+            return Err(ReadError::Fault(at, Refusal::StrayClose));
         }
         self.depth -= list.items.len() + 1;
         let kind = DatumKind::List(list.items, None);
@@ -228,12 +230,12 @@ impl Enclosing {
             (Some (written_form names ended.last)))) }
         ensures refused { IfErr result (λ e.
             Refuses e (if is_shape (Some (shape_of ended.list.shape)) (shape_of shape)
-            then None else Some (fault at 3))) }
+            then None else Some (fault at Refusal.StrayClose))) }
         ensures depth { OnOk result (HasDepth self.new) }
     {
         let Ended { list, last } = ended;
         if !list.shape.is_closed_by(shape) {
-            return Err(ReadError::Fault(at, 3));
+            return Err(ReadError::Fault(at, Refusal::StrayClose));
         }
         let last = Boxed::new(self.alloc, last)?;
         let kind = DatumKind::List(list.items, Some(last));
@@ -246,12 +248,12 @@ impl Enclosing {
     {
         let mut rest = self;
         if let Some(ended) = &rest.ended {
-            return Err(ReadError::Fault(ended.list.at, 2));
+            return Err(ReadError::Fault(ended.list.at, Refusal::UnclosedList));
         }
         match rest.frames.pop() {
-            Some(Frame::List(list)) => Err(ReadError::Fault(list.at, 2)),
-            Some(Frame::Dotted(list)) => Err(ReadError::Fault(list.at, 2)),
-            Some(Frame::Prefix(at, _)) => Err(ReadError::Fault(at, 4)),
+            Some(Frame::List(list)) => Err(ReadError::Fault(list.at, Refusal::UnclosedList)),
+            Some(Frame::Dotted(list)) => Err(ReadError::Fault(list.at, Refusal::UnclosedList)),
+            Some(Frame::Prefix(at, _)) => Err(ReadError::Fault(at, Refusal::BadToken)),
             None => Ok(rest.top),
         }
     }

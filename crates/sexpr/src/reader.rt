@@ -16,10 +16,11 @@ use crate::enclosing::Enclosing;
 use crate::lexer::{Piece, first_piece};
 use crate::strings::string_text;
 use crate::token::{Atom, Token};
+use kan_refusals::Refusal;
 use kan_terms::Names;
 use std::alloc::Global;
 
-/// The data of a text, or its first fault: its offset and the number of its refusal. The names of
+/// The data of a text, or its first fault: its offset and its refusal. The names of
 /// symbols and the texts of strings are added to the table, also where the text is refused; those
 /// that were there keep their numbers.
 pub fn read(alloc: Global, bytes: &[u8], names: &mut Names) -> Result<Data, ReadError>
@@ -31,7 +32,7 @@ pub fn read(alloc: Global, bytes: &[u8], names: &mut Names) -> Result<Data, Read
 {
     let text = match std::str::from_utf8(bytes) {
         Ok(text) => text,
-        Err(error) => return Err(ReadError::Fault(error.valid_up_to() as u32, 1)),
+        Err(error) => return Err(ReadError::Fault(error.valid_up_to() as u32, Refusal::NotUtf8)),
     };
     let mut enclosing = Enclosing::new(alloc);
     let mut rest = text;
@@ -91,8 +92,8 @@ fn take(
         Token::Prefix(prefix) => enclosing.begin_prefixed(at, prefix),
         Token::Dot => enclosing.take_dot(at),
         Token::Atom(atom) => take_atom(enclosing, at, atom, names),
-        Token::BadString => Err(ReadError::Fault(at, 16)),
-        Token::Bad => Err(ReadError::Fault(at, 4)),
+        Token::BadString => Err(ReadError::Fault(at, Refusal::BadString)),
+        Token::Bad => Err(ReadError::Fault(at, Refusal::BadToken)),
     }
 }
 

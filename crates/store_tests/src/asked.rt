@@ -15,7 +15,7 @@ use std::process::Abort;
 use std::test::Fail;
 
 // Whether a variable stands for itself.
-fn is_open<S: Store>(store: &S, var: u64) -> bool
+fn is_unbound<S: Store>(store: &S, var: u64) -> bool
     ensures { result ≡ true → IsFree (S.meaning store.now) var }
 {
     let term = Term::Var(var);
@@ -27,7 +27,7 @@ fn is_open<S: Store>(store: &S, var: u64) -> bool
 
 // The tags that must not stand in a variable, which is demanded to stand for itself.
 fn tags_of<S: Store>(alloc: Global, store: &S, var: u64) -> Result<Tags, Fail> {
-    if !is_open(store, var) {
+    if !is_unbound(store, var) {
         return Err(Fail::from("no open variable"));
     }
     let tags = store.tags(alloc, var)?;
@@ -36,7 +36,7 @@ fn tags_of<S: Store>(alloc: Global, store: &S, var: u64) -> Result<Tags, Fail> {
 
 // The type of a variable, which is demanded to stand for itself.
 fn kind_of<S: Store>(store: &S, var: u64) -> Result<Option<Kind>, Fail> {
-    if is_open(store, var) {
+    if is_unbound(store, var) {
         Ok(store.kind(var))
     } else {
         Err(Fail::from("no open variable"))

@@ -1,6 +1,6 @@
 -- Streams that are there at once.
-use Rattle.std.proofs.Common.{◌≡◌, ℕ, zero, suc, ◌+◌, ◌≤◌, ◌<◌, Bool, true, false, List, [], ◌∷◌, ◌++◌, refl, sym, ◌∙◌, ap, ap₂, subst, arith, lt-ltb, ◌^◌, get_or, map, take, drop, append-nil, append_assoc, length}
-use Rattle.std.specs.Prelude.{Option, Some, None, option_map}
+use Rattle.std.proofs.Common.{◌≡◌, ℕ, zero, suc, ◌+◌, ◌≤◌, ◌<◌, true, false, List, [], ◌∷◌, ◌++◌, refl, sym, ◌∙◌, ap, ap₂, subst, arith, lt-ltb, ◌^◌, get_or, map, take, drop, append-nil, append_assoc, length}
+use Rattle.std.specs.Prelude.{Option, None, option_map}
 use Rattle.std.specs.List.{list_all}
 use Rattle.std.proofs.lemmas.Bool.{and_from, and_parts}
 use Rattle.kan_terms.specs.Tree.{Tree, Tm}
@@ -12,9 +12,9 @@ use Rattle.kan_model.specs.declared.prims.Kind.TheVariants.{Symbol, Number, Text
 use Rattle.stream_core.specs.AtomicGoals.{of_kind}
 use Rattle.kan_model.specs.Stores.Store.{Store, with_prim, with_fresh}
 use Rattle.kan_model.specs.Stores.Kept.{is_kept}
-use Rattle.kan_model.specs.Streams.Stream.{Stream, Thunk, one, empty}
+use Rattle.kan_model.specs.Streams.Stream.{Stream, Thunk, one}
 use Rattle.kan_model.specs.Stores.Calls.{Gives}
-use Rattle.kan_model.specs.Streams.Running.{assert, slot, instance, instances, name_pairs, named_store, suspended_call}
+use Rattle.kan_model.specs.Streams.Running.{slot, instance, instances, name_pairs, named_store, suspended_call}
 use Rattle.kan_model.specs.Programs.Scope.{all_below, sides_below}
 use Rattle.kan_model.specs.Terms.Flat.{is_flat}
 use Rattle.kan_model.specs.Programs.Tables.{template_at, arguments_at}
@@ -47,16 +47,6 @@ kind-below n Symbol t = refl
 kind-below n Number t = refl
 kind-below n Text t = refl
 
-assert-by : (st : Store) (p : Primitive Tm) (b : Bool) → is_kept (with_prim st p) ≡ b → assert st p ≡ elim b [ true ↦ one (with_prim st p) | false ↦ empty ]
-assert-by st p b is = ap (λ c. elim c as (λ x. Stream) [ true ↦ one (with_prim st p) | false ↦ empty ]) is
-
--- what a store answers is what asserting gives
-pub asserted-some : (st : Store) (p q : Primitive Tm) (new : Store) → q ≡ p → Gives (with_prim st q) (Some new) → Stream.ends (new ∷ []) ≡ assert st p
-asserted-some st p q new is (kept, same) = sym (ap (assert st) (sym is) ∙ assert-by st q true kept ∙ ap (λ s. Stream.ends (s ∷ [])) (sym same))
-
-pub asserted-none : (st : Store) (p q : Primitive Tm) → q ≡ p → Gives (with_prim st q) None → Stream.ends [] ≡ assert st p
-asserted-none st p q is lost = sym (ap (assert st) (sym is) ∙ assert-by st q false lost)
-
 -- the next variable and a term are below the counter of the store with one variable more
 pub named-below : (st wider : Store) (v : ℕ) (t : Tm) → wider ≡ with_fresh st 1 → v ≡ st.counter → all_below st.counter t ≡ true →
     sides_below wider.counter (Primitive.same (Tree.leaf v) t) ≡ true
@@ -73,11 +63,6 @@ names-itself st (Tree.truth b) h = record { goes_on = λ rest. refl; flat = refl
 names-itself st Tree.nil h = record { goes_on = λ rest. refl; flat = refl; above = omega arith; within = omega arith }
 names-itself st (Tree.pair a b) h = cc
 
--- a pair is named by a variable
-pub names-pair : (st after : Store) (a b t v : Tm) → t ≡ Tree.pair a b → v ≡ Tree.leaf st.counter → after ≡ named_store st t → NamesOne st t v after
-names-pair st after a b t v pair var more =
-    rw (more, var, pair) (record { goes_on = λ rest. refl; flat = refl; above = omega arith; within = omega arith })
-
 pub instances-append : (env : List Tm) (xs ys : List Template) → instances env (xs ++ ys) ≡ instances env xs ++ instances env ys
 instances-append env [] ys = refl
 instances-append env (x ∷ xs) ys = ap (λ zs. instance env x ∷ zs) (instances-append env xs ys)
@@ -92,9 +77,6 @@ arguments-next : (ts : List Template) (xs : List ℕ) (k d : ℕ) → k < length
 arguments-next ts xs k d low =
     let one : k + 1 ≡ suc k = omega arith in
     ap (λ n. map (template_at ts) (take n xs)) one ∙ ap (map (template_at ts)) (take-next xs k d low) ∙ map-append (template_at ts) (take k xs) (get_or xs k d ∷ [])
-
-pub names-nothing : (st : Store) → NamesFirst st [] [] st
-names-nothing st = record { goes_on = λ rest. refl; flat = refl }
 
 -- the next argument named
 pub names-next : (before middle after : Store) (arguments values longer : List Tm) (argument value : Tm) →

@@ -2,7 +2,7 @@
 use Rattle.std.proofs.Common.{◌≡◌, ℕ, zero, suc, ◌+◌, ◌<◌, ◌^◌, Bool, true, List, [], ◌∷◌, ◌++◌, length, map, refl, sym, ◌∙◌, ap, subst, arith}
 use Rattle.std.specs.Prelude.{Option, Some, None, option_map, slice_get, nat_lt, Contains, ◌&&◌}
 use Rattle.std.specs.List.{list_all}
-use Rattle.std.proofs.lemmas.Bool.{and_parts, ltb-true, leb-true}
+use Rattle.std.proofs.lemmas.Bool.{and_parts, ltb-true}
 use Rattle.std.proofs.lemmas.List.{length-append}
 use Rattle.std.proofs.lemmas.List.Elements.{Contains-append_left}
 use Rattle.std.proofs.lemmas.Option.{slice_get-map}
@@ -16,7 +16,6 @@ use Rattle.kan_model.specs.Programs.Nodes.{goal_entry}
 use Rattle.kan_model.specs.declared.nodes.GoalNode.{GoalNode}
 use Rattle.kan_model.specs.declared.nodes.GoalNode.TheVariants.{Succeed, Fail, Same, Differ, Symbol, Number, Text, Absent, Both, Either, Fresh, Later, Call}
 use Rattle.stream_core.specs.AtomicGoals.{is_atomic, ends_at_once}
-use Rattle.stream_core.specs.CallArguments.{ArgumentsPlaced}
 use Rattle.kan_model.specs.Each.{Each}
 use Rattle.kan_model.proofs.ListLaws.{Each-like, Each-append}
 
@@ -141,29 +140,6 @@ program-is-closed tables grown closed small =
 -- the same of a program of the code
 pub program-closed : (p : code.Program) → is_small (programs.meaning p) ≡ true → ProgramIsClosed (programs.meaning p)
 program-closed p small = program-is-closed (programs.tables p) p.draft.grown p.closed small
-
--- the arguments of a goal whose entry is grown are there
-entry-placed : (p : code.Program) (n : ℕ) (e : GoalEntry) → is_goal_grown (programs.tables p) n e ≡ true → ArgumentsPlaced p e
-entry-placed p n GoalEntry.succeed h = tt
-entry-placed p n GoalEntry.fail h = tt
-entry-placed p n (GoalEntry.same a b) h = tt
-entry-placed p n (GoalEntry.differ a b) h = tt
-entry-placed p n (GoalEntry.symbol a) h = tt
-entry-placed p n (GoalEntry.number a) h = tt
-entry-placed p n (GoalEntry.text a) h = tt
-entry-placed p n (GoalEntry.absent tag a) h = tt
-entry-placed p n (GoalEntry.both a b) h = tt
-entry-placed p n (GoalEntry.either a b) h = tt
-entry-placed p n (GoalEntry.fresh k a) h = tt
-entry-placed p n (GoalEntry.later a) h = tt
-entry-placed p n (GoalEntry.call r at k) h = leb-true (at + k) (length (programs.tables p).arguments) h
-
-pub goal-placed : (p : code.Program) (n : ℕ) (es : List GoalEntry) (i : ℕ) (e : GoalEntry) → goals_grown (programs.tables p) n es ≡ true → slice_get es i ≡ Some e → ArgumentsPlaced p e
-goal-placed p n [] i e grown is = cc
-goal-placed p n (d ∷ es) zero e grown is =
-    let same : d ≡ e = cc in
-    subst (ArgumentsPlaced p) same (entry-placed p n d (and_parts (is_goal_grown (programs.tables p) n d) (goals_grown (programs.tables p) (suc n) es) grown).0)
-goal-placed p n (d ∷ es) (suc i) e grown is = goal-placed p (suc n) es i e (and_parts (is_goal_grown (programs.tables p) n d) (goals_grown (programs.tables p) (suc n) es) grown).1 is
 
 -- a goal that is none of the three that run others is atomic
 pub is-atomic : (node : GoalNode) → ((g h : ℕ) → node ≡ Both g h → ⊥) → ((g h : ℕ) → node ≡ Either g h → ⊥) → ((k g : ℕ) → node ≡ Fresh k g → ⊥) → is_atomic (goal_entry node) ≡ true

@@ -7,7 +7,7 @@ use Rattle.kan_model.specs.Programs.Scope.{all_below, is_counted}
 use Rattle.kan_model.specs.Stores.Store.{Store}
 use Rattle.kan_model.specs.Streams.Stream.{Stream}
 use Rattle.kan_model.specs.Streams.Running.{run}
-use Rattle.pull_bounds.proofs.Counted.{answers_are_bounded}
+use Rattle.pull_bounds.proofs.CountLaws.{answers_are_bounded}
 use Rattle.pull_bounds.proofs.FoundSolutions.{derivation_is_found}
 use Rattle.stream_core.specs.SolutionsFound.{FindsSolutions, GivesFew}
 

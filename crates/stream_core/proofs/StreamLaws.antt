@@ -1,5 +1,5 @@
 -- Stacks of streams while the table of suspensions grows, and steps of the tasks in the words of the code.
-use Rattle.std.proofs.Common.{◌≡◌, suc, ◌<◌, ◌≤◌, List, [], ◌∷◌, ◌++◌, length, refl, sym, ◌∙◌, ap, ap₂, subst, arith, map, append-nil}
+use Rattle.std.proofs.Common.{◌≡◌, suc, ◌<◌, ◌≤◌, List, [], ◌∷◌, ◌++◌, length, refl, sym, ◌∙◌, ap, ap₂, subst, arith, map}
 use Rattle.std.specs.Prelude.{Option, Some, None, option_map, IfSome, Result, Ok, Err, OnOk}
 use Rattle.kan_terms.specs.Tree.{Tm}
 use Rattle.kan_model.specs.Programs.Goals.{Goal, Program}
@@ -131,9 +131,6 @@ bind-streams_after g env env' s ts vs is one same = ap₂ streams_after is one �
 pub append-going : (hs : List facts.Store) (o : Option model.Thunk) (i whole : model.Thunk) (t : model.Stream) → o ≡ Some i → whole ≡ model.Thunk.swap t i →
     model.Stream.goes_on hs whole ≡ model.append (going_on hs o) t
 append-going hs o i whole t is made = rw (is, made) refl
-
-pub append-ended : (hs : List facts.Store) (o : Option model.Thunk) → o ≡ None → model.Stream.ends hs ≡ model.append (going_on hs o) model.empty
-append-ended hs o is = rw is (ap model.Stream.ends (sym (append-nil hs)))
 
 -- what variables lie below doesn't hang on the stores that come first
 pub below-going : (env : List Tm) (hs : List facts.Store) (o : Option model.Thunk) → pending.AreBelowRest env (going_on hs o) → pending.AreBelowRest env (going_on [] o)

@@ -6,7 +6,7 @@ use Rattle.kan_model.specs.Stores.Store.{Store}
 use Rattle.kan_model.specs.Streams.Running.{Arguments, name_pairs, and_value}
 use Rattle.kan_model.specs.Terms.Flat.{is_flat}
 use Rattle.kan_model.specs.Programs.Goals.{Template}
-use Rattle.kan_model.specs.Programs.Tables.{GoalEntry, arguments_at}
+use Rattle.kan_model.specs.Programs.Tables.{arguments_at}
 use Rattle.kan_model.specs.Programs.Closed as programs
 use Rattle.kan_model.specs.declared.program.Program.{Program}
 
@@ -17,11 +17,6 @@ arguments_of p at count = arguments_at (programs.templates p) (programs.tables p
 -- so many arguments are there from a place on
 abbrev pub IsPlaced : Program → ℕ → ℕ → Type 0
 IsPlaced p at count = at + count ≤ length (programs.tables p).arguments
-
--- the arguments of a goal that is a call are there
-abbrev pub ArgumentsPlaced : Program → GoalEntry → Type 0
-ArgumentsPlaced p (GoalEntry.call r at count) = IsPlaced p at count
-ArgumentsPlaced p _ = Unit {0}
 
 -- an argument's value and the store after it: whatever follows, naming goes on from there
 pub record NamesOne (before : Store) (argument value : Tm) (after : Store) : Type 0 where

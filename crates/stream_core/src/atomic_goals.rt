@@ -8,7 +8,7 @@ ghost use Rattle.kan_model.specs.Programs.Scope.{all_below, width};
 ghost use Rattle.kan_model.specs.Programs.Nodes.{goal_entry};
 ghost use Rattle.kan_model.specs.Programs.Environments.{terms_of};
 ghost use Rattle.kan_model.specs.Programs.Closed as programs;
-ghost use Rattle.stream_core.specs.CallArguments.{ArgumentsPlaced};
+ghost use Rattle.kan_model.specs.Programs.Closed.{ArgumentsPlaced};
 ghost use Rattle.stream_core.specs.AtomicGoals.{is_atomic};
 ghost use Rattle.stream_core.specs.Tasks.{IsOf};
 ghost use Rattle.stream_core.specs.Tables.{IsTableOf, OnlyAdds, HasStream, stream_in};

@@ -18,7 +18,7 @@ ghost use Rattle.stream_core.specs.PathDown.{IsPathFrom, IsNext, EndsPath, Leads
 use crate::appending::append;
 use crate::copies::thunk_again;
 use crate::nodes::Nodes;
-use crate::running::{bind_later, run_with};
+use crate::running::{bind_with, run_with};
 use crate::streams::{Stream, Thunk};
 use kan_model::{Env, Program, Store};
 use kan_terms::{ListOf, Memory};
@@ -117,7 +117,7 @@ fn go_around<N: Nodes<St>, St: Store>(
             env,
             inner: _,
         } => {
-            let made = bind_later(alloc, program, goal, env, inside, nodes)?;
+            let made = bind_with(alloc, program, goal, env, inside, nodes)?;
             Ok(made)
         }
         _ => unreachable!(),

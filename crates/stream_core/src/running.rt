@@ -8,10 +8,8 @@ ghost use Rattle.kan_model.specs.Streams.Stream as model;
 ghost use Rattle.kan_model.specs.Streams.Running.{run};
 ghost use Rattle.kan_model.specs.Programs.Scope.{width, all_below, in_scope, is_small};
 ghost use Rattle.kan_model.specs.Streams.Bounds.{floor};
-ghost use Rattle.kan_model.specs.Programs.Nodes.{goal_entry};
 ghost use Rattle.kan_model.specs.Programs.Environments.{terms_of};
 ghost use Rattle.kan_model.specs.Programs.Closed as programs;
-ghost use Rattle.stream_core.specs.CallArguments.{ArgumentsPlaced};
 ghost use Rattle.stream_core.specs.CounterBounds.{TailFits, FitsAsBound};
 ghost use Rattle.stream_core.specs.SolutionsFound.{FindsSolutions, GivesFew};
 ghost use Rattle.stream_core.specs.Suspensions.{going_on};
@@ -32,18 +30,6 @@ use crate::tasks::Task;
 use kan_model::{Env, GoalNode, Program, Store};
 use kan_terms::{ListOf, Memory};
 use std::alloc::Global;
-
-// The node of a goal, and the one that fails past the end of the table.
-fn node_at(program: &Program, goal: u32) -> GoalNode
-    ensures is { programs.goal program.now goal ≡ programs.entry_goal program.now
-        (goal_entry result) }
-    ensures placed { ArgumentsPlaced program.now (goal_entry result) }
-{
-    match program.goal(goal) {
-        Some(node) => *node,
-        None => GoalNode::Fail,
-    }
-}
 
 // Runs two goals. Where the first one has its stores at once, there is one at most, and the second
 // goal is run at it: no stream is made for the first one, and none to stand behind the second's.
@@ -72,7 +58,7 @@ fn run_both<N: Nodes<St>, St: Store>(
         (streams_of (N.table table.now) St.meaning values.new.items)) }
     ensures belong { OnOk result (Each (HasStream (N.table table.now)) values.new.items) }
 {
-    let node = node_at(program, first);
+    let node = program.goal_node(first);
     if ends_at_once(node) {
         let longer = store_at_once(alloc, program, node, &env, store)?;
         match longer {
@@ -115,7 +101,7 @@ fn run_node<N: Nodes<St>, St: Store>(
     ensures belong { OnOk result (Each (HasStream (N.table nodes.new)) values.new.items) }
     ensures adds { OnlyAdds (N.table nodes.old) (N.table nodes.new) }
 {
-    let node = node_at(program, goal);
+    let node = program.goal_node(goal);
     match node {
         GoalNode::Both(first, second) => {
             run_both(
@@ -413,7 +399,8 @@ pub fn run_goal<N: Nodes<St>, St: Store>(
     Ok(made)
 }
 
-// The streams of a goal at each store of a stream, appended, with an environment of the goal's own.
+// The streams of a goal at each store of a stream, appended, with an environment of the goal's own;
+// nothing is run where the stream has no stores yet.
 pub(crate) fn bind_with<N: Nodes<St>, St: Store>(
     alloc: Global,
     program: &Program,
@@ -435,47 +422,19 @@ pub(crate) fn bind_with<N: Nodes<St>, St: Store>(
     ensures belong { IfOk result (HasStream (N.table nodes.new)) }
     ensures adds { OnlyAdds (N.table nodes.old) (N.table nodes.new) }
 {
+    if stream.heads.is_empty() {
+        let Stream { heads, tail } = stream;
+        return match tail {
+            None => Ok(Stream { heads, tail: None }),
+            Some(inner) => waiting(alloc, program, goal, env, inner, nodes),
+        };
+    }
     let mut tasks = empty_stack(alloc)?;
     tasks.push(Task::Bind { goal, env })?;
     let mut values = empty_stack(alloc)?;
     values.push(stream)?;
     let made = finish(alloc, program, nodes, tasks, values)?;
     Ok(made)
-}
-
-// The same, with nothing to be run where the stream has no stores yet.
-pub(crate) fn bind_later<N: Nodes<St>, St: Store>(
-    alloc: Global,
-    program: &Program,
-    goal: u32,
-    env: Env,
-    stream: Stream<N::Id, St>,
-    nodes: &mut N,
-) -> Result<Stream<N::Id, St>, Memory>
-    requires table { IsTableOf program.now (N.table nodes.old) }
-    requires is { IsOf (programs.meaning program.now) (programs.goal program.now goal)
-        (terms_of env) }
-    requires room { Each (AreBelow (terms_of env)) (map St.meaning stream.heads) }
-    requires below { AreBelowRest (terms_of env) (stream_in (N.table nodes.old) St.meaning stream) }
-    requires belong { HasStream (N.table nodes.old) stream }
-    ensures made { IfOk result (λ made. stream_in (N.table nodes.new) St.meaning made
-        ≡ model.bind_all (run (programs.goal program.now goal) (terms_of env))
-        (programs.goal program.now goal) (terms_of env)
-        (stream_in (N.table nodes.old) St.meaning stream)) }
-    ensures belong { IfOk result (HasStream (N.table nodes.new)) }
-    ensures adds { OnlyAdds (N.table nodes.old) (N.table nodes.new) }
-{
-    if !stream.heads.is_empty() {
-        return bind_with(alloc, program, goal, env, stream, nodes);
-    }
-    let Stream { heads, tail } = stream;
-    match tail {
-        None => Ok(Stream { heads, tail: None }),
-        Some(inner) => {
-            let made = waiting(alloc, program, goal, env, inner, nodes)?;
-            Ok(made)
-        }
-    }
 }
 
 /// The streams of a goal at each store of a stream, appended; the goal waits for the stores that

@@ -23,13 +23,11 @@ use Rattle.susp_cells.proofs.suspensions.Mark.TheSendSync as mark
 use Rattle.susp_cells.proofs.suspensions.Label.TheSendSync as label
 use Rattle.susp_cells.proofs.cells.Cells.TheSendSync as cells
 use Rattle.susp_cells.proofs.cells.Kept.TheSendSync as kept
-use Rattle.susp_cells.proofs.forced.Known.TheSendSync as known
 use denote.Ref.{NamedLft}
 use Rattle.boxcar.proofs.vec.Vec.TheSendSync as vec
 use Rattle.std.proofs.alloc.Global.TheSendSync as heap
 use Rattle.susp_cells.specs.contracts.suspensions.Susp as Susp
 use Rattle.susp_cells.specs.contracts.forced.Forced as Forced
-use Rattle.susp_cells.specs.contracts.forced.Known as Known
 use Rattle.susp_cells.specs.contracts.tables.Table as Table
 
 pub term_send : IsSend Term.the_row
@@ -92,12 +90,6 @@ list_field_sync T s = search (sendable, crosses) depth 40
 pub program_sync : IsSync Program.the_row
 program_sync = declared_sync Program.the_type (draft_field_sync, tt)
 
-pub list_send : (T : RattleType) → IsSend T → IsSend (ListOf.the_row T)
-list_send T s = search (sendable, crosses) depth 40
-
-pub list_sync : (T : RattleType) → IsSync T → IsSync (ListOf.the_row T)
-list_sync T y = search (sendable, crosses) depth 40
-
 three : {A B C : Type 0} → A → B → C → A × (B × (C × Unit {0}))
 three a b c = (a, (b, (c, tt)))
 
@@ -128,12 +120,6 @@ forced_send St g s y = search (sendable, crosses, susp_send) depth 40
 
 pub forced_sync : (St : RattleType) (g : Ghosts St.Denot) → IsSend St → IsSync St → IsSync (Forced.the_row St g)
 forced_sync St g s y = search (sendable, crosses, susp_sync) depth 40
-
-pub known_send : (St : RattleType) (g : Ghosts St.Denot) → IsSend (Known.the_row St g)
-known_send = known.the_send
-
-pub known_sync : (St : RattleType) (g : Ghosts St.Denot) → IsSync (Known.the_row St g)
-known_sync = known.the_sync
 
 pub table_sync : (a : NamedLft) (St : RattleType) (g : Ghosts St.Denot) → IsSend St → IsSync St → IsSync (Table.the_row a St g)
 table_sync a St g s y = search (

@@ -8,7 +8,6 @@ use Rattle.kan_model.specs.Streams.Stream as model
 use Rattle.kan_model.specs.Streams.Bounds.{Fits, StreamFits}
 use Rattle.kan_model.specs.Streams.Running.{force}
 use Rattle.stream_core.specs.Suspensions.{going_on, ThunkBelongs}
-use Rattle.stream_core.specs.Tables.{HasThunk, StandsFor, thunk_in}
 use Rattle.kan_model.specs.Programs.Scope.{is_small}
 use Rattle.stream_core.specs.CounterBounds.{RestFits}
 use Rattle.stream_core.proofs.ClosedLaws.{program-closed}
@@ -17,8 +16,8 @@ use Rattle.stream_core.specs.declared.streams.Thunk.{Thunk}
 use Rattle.stream_core.specs.declared.streams.Thunk.TheVariants.{Call, Pause, Swap, Bind}
 use Rattle.boxcar.specs.Table.{Where}
 use Rattle.susp_cells.specs.Sketches.{program_in, program-read}
-use Rattle.susp_cells.specs.Places.{Place, names_of, label_program, label_tree, told_program, told_tree, stands_for, IsBeside}
-use Rattle.susp_cells.specs.Tables.{program_of, table_of, known_place, known_tree, known_value, IsIn, IsForcedIn, IsKnownIn}
+use Rattle.susp_cells.specs.Places.{Place, names_of, label_program, label_tree, told_program, told_tree, IsBeside}
+use Rattle.susp_cells.specs.Tables.{program_of, known_place, known_tree, known_value, IsIn, IsForcedIn, IsKnownIn}
 use Rattle.susp_cells.specs.declared.forced.Forced.{Forced}
 use Rattle.susp_cells.specs.declared.forced.Known.{Known}
 use Rattle.susp_cells.specs.declared.suspensions.Label.{Label}
@@ -39,24 +38,11 @@ rest-fits program low high (model.Stream.ends hs) rest = tt
 rest-fits program low high (model.Stream.goes_on hs i) rest = rest.0
 
 module _ {St : Type 0} {g : Ghosts St} (t : Table St g) where
-  -- a label tells the thunk that it was made for
-  pub told-stands : (l : Label) (thunk : Thunk Place St) → told_program l ≡ program_of t → told_tree l ≡ stands_for (program_of t) g.meaning thunk → told_tree l ≡ stands_for (told_program l) g.meaning thunk
-  told-stands l thunk program tree = tree ∙ ap (λ p. stands_for p g.meaning thunk) (sym program)
-
-  -- the ids of the table stand beside each of its suspensions
-  pub all-beside : (p : Place) (thunk : Thunk Place St) → p.home ≡ names_of t.labels → label_program p ≡ program_of t → HasThunk (table_of t) thunk → ThunkBelongs (IsBeside p) thunk
-  all-beside p thunk home program belong = thunk-like (IsIn t) (IsBeside p) (λ i h. (h.home ∙ sym home, h.program ∙ sym program)) thunk belong
-
   -- a suspension whose label is among the table's
   pub inside-of : (p : Place) (w : Where Label) (l : Label) → p.home ≡ names_of t.labels → w ≡ p.token → l ≡ w.value → told_program l ≡ program_in t.labels.tag → Fits (label_program p) (label_tree p) → IsIn t p
   inside-of p w l home token is told fits =
       let program : label_program p ≡ program_of t = ap (λ x. told_program x.value) (sym token) ∙ ap told_program (sym is) ∙ told ∙ ap program_in t.drawn ∙ program-read _ _ in
       record { home = home; program = program; fits = subst (λ q. Fits q (label_tree p)) program fits }
-
-  -- a suspension that was made
-  pub made-stands : (p : Place) (l : Label) (tree : model.Thunk) → p.home ≡ names_of t.labels → p.token.value ≡ l → told_program l ≡ program_of t → told_tree l ≡ tree → Fits (program_of t) tree → StandsFor (table_of t) tree p
-  made-stands p l tree home is program told fits =
-      (record { home = home; program = ap told_program is ∙ program; fits = subst (Fits (program_of t)) (sym (ap told_tree is ∙ told)) fits }, ap told_tree is ∙ told)
 
   beside-in : (p i : Place) → IsIn t p → IsBeside p i → Fits (program_of t) (label_tree i) → IsIn t i
   beside-in p i inside beside fits = record { home = beside.0 ∙ inside.home; program = beside.1 ∙ inside.program; fits = fits }
@@ -65,20 +51,6 @@ module _ {St : Type 0} {g : Ghosts St} (t : Table St g) where
   pub tail-in : (p : Place) (hs : List facts.Store) (tail : Option Place) → IsIn t p → IfSome tail (IsBeside p) → StreamFits (program_of t) (going_on hs (option_map label_tree tail)) → IfSome tail (IsIn t)
   tail-in p hs None inside beside fits = tt
   tail-in p hs (Some i) inside beside fits = beside-in p i inside beside fits
-
-  thunk-in : (p : Place) (thunk : Thunk Place St) → IsIn t p → ThunkBelongs (IsBeside p) thunk → Fits (program_of t) (stands_for (program_of t) g.meaning thunk) → HasThunk (table_of t) thunk
-  thunk-in p (Call rel args store) inside beside fits = tt
-  thunk-in p (Pause goal env store) inside beside fits = tt
-  thunk-in p (Swap heads tail inner) inside (first, rest) (stream, within) = (tail-in p (map g.meaning heads) tail inside first stream, beside-in p inner inside rest within)
-  thunk-in p (Bind goal env inner) inside beside (there, slots, below, within) = beside-in p inner inside beside within
-
-  -- a suspension's thunk stands for it
-  pub thunk-stands : (p : Place) (thunk : Thunk Place St) → IsIn t p → stands_for (label_program p) g.meaning thunk ≡ label_tree p → thunk_in (table_of t) g.meaning thunk ≡ label_tree p
-  thunk-stands p thunk inside is = ap (λ q. stands_for q g.meaning thunk) (sym inside.program) ∙ is
-
-  -- what is inside a suspension of the table is of the table
-  pub thunk-belongs : (p : Place) (thunk : Thunk Place St) → IsIn t p → ThunkBelongs (IsBeside p) thunk → stands_for (label_program p) g.meaning thunk ≡ label_tree p → HasThunk (table_of t) thunk
-  thunk-belongs p thunk inside beside is = thunk-in p thunk inside beside (subst (Fits (program_of t)) (sym (thunk-stands p thunk inside is)) inside.fits)
 
   -- the force of a suspension of the table, and the ids in it
   pub forced-in : (p : Place) (f : Forced St g) → is_small (program_of t) ≡ true → IsIn t p → f.of.home ≡ names_of t.labels → f.of.token.value ≡ p.token.value → IsForcedIn t (label_tree p) f

@@ -5,3 +5,4 @@ pub mod Falls
 pub mod Forces
 pub mod Tops
 pub mod Tables
+pub mod Sharing

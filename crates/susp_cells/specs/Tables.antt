@@ -1,5 +1,5 @@
 -- What a shared table of suspensions stands for, and what is known of a settled one.
-use Rattle.std.specs.Prelude.{◌≡◌, ◌≢◌, ℕ, None, IfSome}
+use Rattle.std.specs.Prelude.{◌≡◌, ◌≢◌, ℕ, List, None, IfSome}
 use Rattle.boxcar.specs.Table.{Shows}
 use Rattle.kan_model.specs.declared.stores.Store.{Ghosts}
 use Rattle.kan_model.specs.Programs.Goals.{Program}
@@ -21,9 +21,13 @@ module _ {St : Type 0} {g : Ghosts St} where
   abbrev pub program_of : Table St g → Program
   program_of t = programs.meaning t.program.now
 
+  -- the home of a table's suspensions, which tells the table from others
+  abbrev pub home_of : Table St g → List ℕ
+  home_of t = names_of t.labels
+
   -- a suspension is of the table, and fits its program
   pub record IsIn (t : Table St g) (p : Place) : Type 0 where
-    pub home : p.home ≡ names_of t.labels
+    pub home : p.home ≡ home_of t
     pub program : label_program p ≡ program_of t
     pub fits : Fits (program_of t) (label_tree p)
 
@@ -48,7 +52,7 @@ module _ {St : Type 0} {g : Ghosts St} where
   known_index k = k.label.index
 
   abbrev pub known_place : Table St g → Known St g → Place
-  known_place t k = record { home = names_of t.labels; token = k.label }
+  known_place t k = record { home = home_of t; token = k.label }
 
   abbrev pub known_tree : Known St g → model.Thunk
   known_tree k = told_tree k.label.value
@@ -62,7 +66,7 @@ module _ {St : Type 0} {g : Ghosts St} where
     pub label : Shows t.labels k.label
     pub cell : Shows t.cells.all k.cell
     pub inside : IsIn t (known_place t k)
-    pub home : (known_value k).of.home ≡ names_of t.labels
+    pub home : (known_value k).of.home ≡ home_of t
     pub same : (known_value k).of.token.value ≡ k.label.value
 
   -- what is known of a suspension of the table

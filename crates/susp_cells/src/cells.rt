@@ -3,6 +3,7 @@
 ghost use Rattle.std.specs.Prelude.{◌≡◌, ◌∷◌, ℕ, List, IfSome, IfOk, IfErr};
 ghost use Rattle.boxcar.specs.Table.{first, others};
 ghost use Rattle.once_cell.specs.Once.{cell_name};
+ghost use Rattle.susp_cells.specs.Sharing.{IsTagged};
 
 use crate::seen::Seen;
 use boxcar::Keeps;
@@ -36,7 +37,7 @@ pub struct Entry<F: Homed + Drop> {
 pub struct SameTag;
 
 impl<F: Homed + Drop> Keeps<Entry<F>> for SameTag {
-    ghost holds = { λ names _ e. e.shown.tag ≡ cell_name e.cell ∷ names };
+    ghost holds = { λ names _ e. IsTagged names e };
 }
 
 #[derive(Drop)]

@@ -49,9 +49,11 @@ unsafe impl<St: Store + Send + Sync> Send for Known<St> {}
 unsafe impl<St: Store + Send + Sync> Sync for Known<St> {}
 
 impl<St: Store> Known<St> {
+    ghost use Rattle.susp_cells.specs.Tables.{known_index};
+
     /// The index of the suspension. It takes no memory.
     pub fn index(&self) -> u64
-        ensures { result ≡ self.now.label.index }
+        ensures { result ≡ known_index self.now }
     {
         self.label.index() as u64
     }

@@ -1,8 +1,8 @@
 //! Laws of what is known. Each function has its law for its contract, and changes nothing.
 
 ghost use Rattle.std.specs.Prelude.{◌≡◌};
-ghost use Rattle.susp_cells.specs.Places.{label_tree, names_of};
-ghost use Rattle.susp_cells.specs.Tables.{known_index, known_value, IsIn, IsKnownIn};
+ghost use Rattle.susp_cells.specs.Places.{label_tree};
+ghost use Rattle.susp_cells.specs.Tables.{home_of, known_index, known_value, IsIn, IsKnownIn};
 
 use crate::forced::Known;
 use crate::suspensions::Susp;
@@ -12,7 +12,7 @@ use kan_model::Store;
 /// A suspension whose label is among the table's is of the table: it is one of the table's program,
 /// and fits it.
 pub fn susp_is_inside<St: Store>(table: &Table<'_, St>, susp: &Susp<St>)
-    requires { susp.now.home ≡ names_of table.now.labels }
+    requires { susp.now.home ≡ home_of table.now }
     ensures { IsIn table.now susp.now }
 {
     let token = susp.token();

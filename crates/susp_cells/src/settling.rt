@@ -1,9 +1,9 @@
 //! Settling suspensions of a shared table, and looking at what they were settled with.
 
 ghost use Rattle.std.specs.Prelude.{◌≡◌, IfSome};
-ghost use Rattle.susp_cells.specs.Places.{Place, names_of};
+ghost use Rattle.susp_cells.specs.Places.{Place};
 ghost use Rattle.susp_cells.specs.Tables.{known_index, known_tree, known_value, IsIn, IsForcedIn};
-ghost use Rattle.susp_cells.specs.Tables.{IsFound, IsKnownIn, IsSettled};
+ghost use Rattle.susp_cells.specs.Tables.{home_of, IsFound, IsKnownIn, IsSettled};
 
 use crate::forced::{Forced, Known, Settled};
 use crate::suspensions::Susp;
@@ -47,7 +47,7 @@ impl<'p, St: Store> Table<'p, St> {
     /// Settles a suspension with a value, where it isn't settled yet. It takes no memory.
     pub fn settle(&self, susp: &Susp<St>, forced: Box<Forced<St>>) -> Settled<'_, St>
         requires susp { IsIn self.now susp.now }
-        requires of { forced.value.of.home ≡ names_of self.now.labels }
+        requires of { forced.value.of.home ≡ home_of self.now }
         requires index { forced.value.of.token.index ≡ susp.now.token.index }
         ensures { IsSettled self.now susp.now forced.value result }
     {

@@ -1,6 +1,7 @@
 //! A shared table as one thread uses it: a table of suspensions in which forces are kept.
 
 ghost use Rattle.std.specs.Prelude.{◌≡◌, IfOk, map};
+ghost use Rattle.susp_cells.specs.Sharing.{passed_gate, shared_table, thread_number, used_table};
 
 use crate::forced::{Forced, Settled};
 use crate::gates::Gate;
@@ -30,9 +31,9 @@ impl<'a, St: Store, G: Gate, R: Wait> SharedNodes<'a, St, G, R> {
         gate: &'a G,
         who: u32,
     ) -> SharedNodes<'a, St, G, R>
-        ensures table { result.table.now ≡ table.now }
-        ensures gate { result.gate.now ≡ gate.now }
-        ensures who { result.who ≡ who }
+        ensures table { used_table result ≡ table.now }
+        ensures gate { passed_gate result ≡ gate.now }
+        ensures who { thread_number result ≡ who }
     {
         SharedNodes {
             rt,
@@ -87,14 +88,13 @@ impl<'a, St: Store, G: Gate, R: Wait> Nodes<St> for SharedNodes<'a, St, G, R> {
     ghost use Rattle.kan_model.specs.Programs.Scope.{is_small};
     ghost use Rattle.kan_model.specs.Streams.Stream.{Thunk as Suspension};
     ghost use Rattle.stream_core.specs.CodeSurroundings.{IsForceWithin, StandsClosed};
-    ghost use Rattle.susp_cells.specs.Tables.{table_of};
 
     type Id = Susp<St>;
 
     type Around = ();
 
     // Others use the table at the same time, so it doesn't tell what is kept.
-    ghost table = { λ nodes. table_of nodes.table.now };
+    ghost table = { λ nodes. shared_table nodes };
 
     ghost fits = { λ nodes id belongs. belongs.fits };
 
@@ -104,17 +104,17 @@ impl<'a, St: Store, G: Gate, R: Wait> Nodes<St> for SharedNodes<'a, St, G, R> {
     ghost around_stays = { λ was is grew around. refl };
 
     fn suspend(&mut self, thunk: Thunk<Susp<St>, St>) -> Result<Susp<St>, Memory>
-        requires belong { HasThunk (table_of self.old.table.now) thunk }
-        requires fits { Fits (table_of self.old.table.now).program
-            (thunk_in (table_of self.old.table.now) St.meaning thunk) }
-        ensures stands { IfOk result (StandsFor (table_of self.new.table.now)
-            (thunk_in (table_of self.old.table.now) St.meaning thunk)) }
-        ensures nothing_kept { IfOk result (IsKept (table_of self.new.table.now) false) }
-        ensures adds { OnlyAdds (table_of self.old.table.now) (table_of self.new.table.now) }
-        ensures larger { OnOk result ((table_of self.new.table.now).size ≡ option_map suc
-            (table_of self.old.table.now).size) }
-        ensures refused { OnErr result ((table_of self.new.table.now).size ≡
-            (table_of self.old.table.now).size) }
+        requires belong { HasThunk (shared_table self.old) thunk }
+        requires fits { Fits (shared_table self.old).program
+            (thunk_in (shared_table self.old) St.meaning thunk) }
+        ensures stands { IfOk result (StandsFor (shared_table self.new)
+            (thunk_in (shared_table self.old) St.meaning thunk)) }
+        ensures nothing_kept { IfOk result (IsKept (shared_table self.new) false) }
+        ensures adds { OnlyAdds (shared_table self.old) (shared_table self.new) }
+        ensures larger { OnOk result ((shared_table self.new).size ≡ option_map suc
+            (shared_table self.old).size) }
+        ensures refused { OnErr result ((shared_table self.new).size ≡
+            (shared_table self.old).size) }
     {
         self.table.suspend(self.rt, thunk)
     }
@@ -136,12 +136,12 @@ impl<'a, St: Store, G: Gate, R: Wait> Nodes<St> for SharedNodes<'a, St, G, R> {
         _around: (),
         inside: Stream<Susp<St>, St>,
     ) -> Result<Closed<(), Susp<St>, St>, Memory>
-        requires { is_small (table_of self.now.table.now).program ≡ true }
+        requires { is_small (shared_table self.now).program ≡ true }
         ensures { IfOk result (λ closed. (whole : Suspension) →
-            Fits (table_of self.now.table.now).program whole →
-            IsForceWithin (table_of self.now.table.now) (λ around. []) St.meaning whole
+            Fits (shared_table self.now).program whole →
+            IsForceWithin (shared_table self.now) (λ around. []) St.meaning whole
             _around inside →
-            StandsClosed (table_of self.now.table.now) (λ around. []) St.meaning whole
+            StandsClosed (shared_table self.now) (λ around. []) St.meaning whole
             _around closed) }
     {
         Ok(Closed::Made(inside))
@@ -167,16 +167,16 @@ impl<'a, St: Store, G: Gate, R: Wait> Nodes<St> for SharedNodes<'a, St, G, R> {
         id: &Susp<St>,
         stream: Stream<Susp<St>, St>,
     ) -> Result<Stream<Susp<St>, St>, Memory>
-        requires belongs { (table_of self.old.table.now).belongs id.now }
-        requires force { IsForce (table_of self.old.table.now) St.meaning
-            ((table_of self.old.table.now).tree id.now) stream }
-        ensures force { IfOk result (IsForce (table_of self.new.table.now) St.meaning
-            ((table_of self.old.table.now).tree id.now)) }
-        ensures kept { OnOk result (GrowsBy (KeepsMore id.now) (table_of self.old.table.now)
-            (table_of self.new.table.now)) }
+        requires belongs { (shared_table self.old).belongs id.now }
+        requires force { IsForce (shared_table self.old) St.meaning
+            ((shared_table self.old).tree id.now) stream }
+        ensures force { IfOk result (IsForce (shared_table self.new) St.meaning
+            ((shared_table self.old).tree id.now)) }
+        ensures kept { OnOk result (GrowsBy (KeepsMore id.now) (shared_table self.old)
+            (shared_table self.new)) }
         ensures unchanged { OnErr result
-            (OnlyAdds (table_of self.old.table.now) (table_of self.new.table.now)) }
-        ensures size { (table_of self.new.table.now).size ≡ (table_of self.old.table.now).size }
+            (OnlyAdds (shared_table self.old) (shared_table self.new)) }
+        ensures size { (shared_table self.new).size ≡ (shared_table self.old).size }
     {
         let of = id.again()?;
         let Stream { heads, tail } = stream;

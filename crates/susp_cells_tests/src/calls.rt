@@ -2,7 +2,7 @@
 
 ghost use Rattle.std.specs.Prelude.{◌≡◌, ◌≤◌, ◌^◌, IfOk};
 ghost use Rattle.kan_model.specs.Programs.Closed as programs;
-ghost use Rattle.susp_cells.specs.Places.{label_tree, names_of};
+ghost use Rattle.susp_cells.specs.Places.{label_tree};
 ghost use Rattle.susp_cells.specs.Tables.{program_of, IsIn};
 ghost use Rattle.susp_cells_tests.specs.Small.{small, small_call, small_tables};
 

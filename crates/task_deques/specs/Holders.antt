@@ -3,6 +3,7 @@ use Rattle.std.specs.Prelude.{◌≡◌, ◌≢◌, ℕ, List, [], ◌++◌, map
 use mathlib.Core.Option.{some}
 use lib.ListN.{get_elem?}
 use Rattle.crossbeam_deque.specs.Handles.{worker_deque, worker_view, stealer_deque, view}
+use Rattle.task_deques.specs.declared.shares.Share.{Share}
 use Rattle.task_deques.specs.declared.holders.TaskDeque.{TaskDeque}
 use Rattle.task_deques.specs.declared.holders.TaskStealer.{TaskStealer}
 use Rattle.task_deques.specs.declared.holders.HolderOf.{HolderOf}
@@ -14,6 +15,12 @@ Holder T = HolderOf (TaskDeque T) (TaskStealer T)
 
 -- what was pushed and taken, and the home of the tasks
 module _ {T : Type 0} where
+  abbrev pub deque_share : TaskDeque T → Share T
+  deque_share d = worker_view d.worker
+
+  abbrev pub stealer_share : TaskStealer T → Share T
+  stealer_share s = view s.pass
+
   abbrev pub pushed : TaskDeque T → List T
   pushed d = (worker_view d.worker).put
 

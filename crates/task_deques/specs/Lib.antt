@@ -3,3 +3,4 @@ pub mod Whole
 pub mod Holders
 pub mod Turns
 pub mod InTurn
+pub mod Deals

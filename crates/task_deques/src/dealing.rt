@@ -10,6 +10,7 @@ ghost use Rattle.task_deques.specs.Holders.{pushed, taken, deque_home, deque_par
 ghost use Rattle.task_deques.specs.Holders.{stealer_part, holder_part, AreWhole, AreReady};
 ghost use Rattle.task_deques.specs.Holders.{IsUnusedDeque, IsUnusedStealer, IsUnusedHolder};
 ghost use Rattle.task_deques.specs.Holders.{IsLoneHolder, IsWholeDeque, parts_lent};
+ghost use Rattle.task_deques.specs.Deals.{tasks_home, deque_count, has_dealt, AreSameDeques};
 ghost use Rattle.task_deques.specs.Turns.{after};
 ghost use Rattle.task_deques.specs.InTurn.{AreGiven, AreInTurn};
 
@@ -209,9 +210,9 @@ pub struct Deques {
 
 /// So many deques for tasks of a home. They are made when they are dealt.
 pub fn task_deques(alloc: Global, home: Tag, count: u32) -> Deques
-    ensures home { result.home.numbers ≡ home.numbers }
-    ensures count { result.count ≡ count }
-    ensures dealt { result.dealt ≡ false }
+    ensures home { tasks_home result ≡ home.numbers }
+    ensures count { deque_count result ≡ count }
+    ensures dealt { has_dealt result ≡ false }
 {
     Deques {
         alloc,
@@ -225,14 +226,14 @@ impl Deques {
     /// The holders. Each has a deque, and a stealer for every other holder, beginning with the next
     /// higher number. After want of memory none is handed out, and they can be dealt again.
     pub fn deal<T: Task>(&mut self) -> Result<Vec<Holder<T>>, Memory>
-        requires dealt { self.old.dealt ≡ false }
-        requires few { self.old.count ≤ 65 }
-        ensures same { (self.new.home ≡ self.old.home) × (self.new.count ≡ self.old.count) }
-        ensures ok { OnOk result (self.new.dealt ≡ true) }
-        ensures err { OnErr result (self.new.dealt ≡ false) }
-        ensures length { IfOk result (λ holders. length holders.items ≡ self.old.count) }
+        requires dealt { has_dealt self.old ≡ false }
+        requires few { deque_count self.old ≤ 65 }
+        ensures same { AreSameDeques self.old self.new }
+        ensures ok { OnOk result (has_dealt self.new ≡ true) }
+        ensures err { OnErr result (has_dealt self.new ≡ false) }
+        ensures length { IfOk result (λ holders. length holders.items ≡ deque_count self.old) }
         ensures whole { IfOk result (λ holders. AreWhole (map holder_part holders.items)) }
-        ensures unused { IfOk result (λ holders. Every (IsUnusedHolder self.old.home.numbers)
+        ensures unused { IfOk result (λ holders. Every (IsUnusedHolder (tasks_home self.old))
             holders.items) }
         ensures turns { IfOk result (λ holders. AreInTurn holders.items) }
     {

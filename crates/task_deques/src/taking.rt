@@ -2,11 +2,11 @@
 
 ghost use Rattle.std.specs.Prelude.{◌≡◌, ◌≤◌, ◌<◌, ◌++◌, [], ◌∷◌, ℕ, List, length};
 ghost use Rattle.std.specs.Prelude.{OnOk, IfErr, IfSome, IfNone, IsPermutation};
-ghost use Rattle.crossbeam_deque.specs.Handles.{view, worker_view};
 ghost use Rattle.task_deques.specs.Shares.{whole, WasEmpty};
 ghost use Rattle.task_deques.specs.Holders.{pushed, taken, deque_home, deque_part};
 ghost use Rattle.task_deques.specs.Holders.{pushed_through, taken_through, stealer_home};
 ghost use Rattle.task_deques.specs.Holders.{stealer_part, holder_part, pushed_by, taken_by};
+ghost use Rattle.task_deques.specs.Holders.{deque_share, stealer_share, victim_of};
 ghost use Rattle.task_deques.specs.Holders.{IsHolderOf, IsSameBut, FoundEmpty};
 
 use crate::holders::{HolderOf, TaskDeque, TaskStealer};
@@ -38,7 +38,7 @@ impl<T: Task> TaskDeque<T> {
         ensures bound { IfSome result (λ _. (deque_part self.old).1 ≡ whole
             → length (taken self.new) ≤ length (pushed self.new)) }
         ensures none { IfNone result (taken self.new ≡ taken self.old) }
-        ensures empty { IfNone result (WasEmpty (worker_view self.old.worker)) }
+        ensures empty { IfNone result (WasEmpty (deque_share self.old)) }
     {
         self.worker.pop_as::<Takes>()
     }
@@ -55,7 +55,7 @@ impl<T: Task> TaskStealer<T> {
             ++ task ∷ []) }
         ensures task { IfSome result (λ task. T.home task ≡ stealer_home self.old) }
         ensures none { IfNone result (taken_through self.new ≡ taken_through self.old) }
-        ensures empty { IfNone result (WasEmpty (view self.old.pass)) }
+        ensures empty { IfNone result (WasEmpty (stealer_share self.old)) }
     {
         for _ in rt.forever() {
             match self.thief.steal_as::<Takes>(&mut self.pass) {
@@ -69,7 +69,7 @@ impl<T: Task> TaskStealer<T> {
 
     /// The number of the holder whose tasks it takes.
     pub fn victim(&self) -> u32
-        ensures { result ≡ self.now.victim }
+        ensures { result ≡ victim_of self.now }
     {
         self.victim
     }

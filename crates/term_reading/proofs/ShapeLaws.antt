@@ -19,7 +19,7 @@ use Rattle.term_reading.specs.declared.shapes.Lead.TheVariants as fronts
 use Rattle.term_reading.specs.declared.shapes.Step.{Step}
 use Rattle.term_reading.specs.declared.shapes.Step.TheVariants as turns
 use Rattle.term_reading.specs.Words.{Continues, IsSpelled, ends, is_fine, is_worded}
-use Rattle.term_reading.specs.Reading.{GetsDotted, GetsOpen, GetsShape, GetsTruth, follows, front, is_atom, opens, turn}
+use Rattle.term_reading.specs.Reading.{GetsDotted, GetsBegun, GetsShape, GetsTruth, follows, front, is_atom, begins_element, turn}
 use Rattle.term_reading.proofs.WordLaws.{digits_all, digits_begin, plain_of, plain_parts, symbol_spelled}
 
 -- bytes of words
@@ -111,8 +111,8 @@ name_got n bytes more k low over is known =
 
 -- what an element begins with
 abbrev pub front_of : Shape → Lead
-front_of Pair = fronts.Open
-front_of Nil = fronts.Open
+front_of Pair = fronts.Bracket
+front_of Nil = fronts.Bracket
 front_of (Truth b) = fronts.Hash
 front_of (Str s) = fronts.Mark
 front_of (Name n) = fronts.Word
@@ -120,17 +120,17 @@ front_of (Sym s) = fronts.Word
 front_of (Num z) = fronts.Word
 
 abbrev pub code : Lead → ℕ
-code fronts.Open = 0
+code fronts.Bracket = 0
 code fronts.Hash = 1
 code fronts.Mark = 2
 code fronts.Word = 3
 
 word_front : (b : ℕ) (bs : List ℕ) → is_word_byte b ≡ true → front (b ∷ bs) ≡ fronts.Word
 word_front b bs h =
-    let open_byte : eqb b 40 ≡ false = grind (arith, nat_tests) in
+    let bracket_byte : eqb b 40 ≡ false = grind (arith, nat_tests) in
     let hash : eqb b 35 ≡ false = grind (arith, nat_tests) in
     let mark : eqb b 34 ≡ false = grind (arith, nat_tests) in
-    rw (open_byte, hash, mark) refl
+    rw (bracket_byte, hash, mark) refl
 
 words_front : (w more : List ℕ) → list_all is_word_byte w ≡ true → 0 < length w → front (w ++ more) ≡ fronts.Word
 words_front [] more all some = absurd (let none : ⊥ = omega (arith, some) in none)
@@ -152,20 +152,20 @@ element_front table (Num z) more ok fine = worded_front table (Num z) more ok re
 front_known : (table : Table) (x : Shape) (bytes more : List ℕ) (f : Lead) → IsSpelled table → is_fine table x ≡ true → bytes ≡ element_text table x ++ more → front bytes ≡ f → code f ≡ code (front_of x)
 front_known table x bytes more f ok fine is found = ap code (sym found ∙ ap front is ∙ element_front table x more ok fine)
 
-pub open_got : (new : Table) (bytes behind left : List ℕ) (shape : Shape) → front bytes ≡ fronts.Open → behind ≡ drop 1 bytes → GetsOpen behind shape left → GetsShape new true bytes shape left
-open_got new bytes behind left shape found cut got table on Pair more fine over is = got.0 more over (cut ∙ ap (drop 1) is)
-open_got new bytes behind left shape found cut got table on Nil more fine over is = got.1 more (cut ∙ ap (drop 1) is)
-open_got new bytes behind left shape found cut got table on (Truth b) more fine over is = absurd (let e : 0 ≡ 1 = front_known table (Truth b) bytes more fronts.Open on.spelled fine is found in omega (arith, e))
-open_got new bytes behind left shape found cut got table on (Str s) more fine over is = absurd (let e : 0 ≡ 2 = front_known table (Str s) bytes more fronts.Open on.spelled fine is found in omega (arith, e))
-open_got new bytes behind left shape found cut got table on (Name n) more fine over is = absurd (let e : 0 ≡ 3 = front_known table (Name n) bytes more fronts.Open on.spelled fine is found in omega (arith, e))
-open_got new bytes behind left shape found cut got table on (Sym s) more fine over is = absurd (let e : 0 ≡ 3 = front_known table (Sym s) bytes more fronts.Open on.spelled fine is found in omega (arith, e))
-open_got new bytes behind left shape found cut got table on (Num z) more fine over is = absurd (let e : 0 ≡ 3 = front_known table (Num z) bytes more fronts.Open on.spelled fine is found in omega (arith, e))
+pub begun_got : (new : Table) (bytes behind left : List ℕ) (shape : Shape) → front bytes ≡ fronts.Bracket → behind ≡ drop 1 bytes → GetsBegun behind shape left → GetsShape new true bytes shape left
+begun_got new bytes behind left shape found cut got table on Pair more fine over is = got.0 more over (cut ∙ ap (drop 1) is)
+begun_got new bytes behind left shape found cut got table on Nil more fine over is = got.1 more (cut ∙ ap (drop 1) is)
+begun_got new bytes behind left shape found cut got table on (Truth b) more fine over is = absurd (let e : 0 ≡ 1 = front_known table (Truth b) bytes more fronts.Bracket on.spelled fine is found in omega (arith, e))
+begun_got new bytes behind left shape found cut got table on (Str s) more fine over is = absurd (let e : 0 ≡ 2 = front_known table (Str s) bytes more fronts.Bracket on.spelled fine is found in omega (arith, e))
+begun_got new bytes behind left shape found cut got table on (Name n) more fine over is = absurd (let e : 0 ≡ 3 = front_known table (Name n) bytes more fronts.Bracket on.spelled fine is found in omega (arith, e))
+begun_got new bytes behind left shape found cut got table on (Sym s) more fine over is = absurd (let e : 0 ≡ 3 = front_known table (Sym s) bytes more fronts.Bracket on.spelled fine is found in omega (arith, e))
+begun_got new bytes behind left shape found cut got table on (Num z) more fine over is = absurd (let e : 0 ≡ 3 = front_known table (Num z) bytes more fronts.Bracket on.spelled fine is found in omega (arith, e))
 
 hash_begun : (bytes : List ℕ) → front bytes ≡ fronts.Hash → bytes ≡ 35 ∷ drop 1 bytes
 hash_begun [] h = absurd (let e : 3 ≡ 1 = ap code h in omega (arith, e))
 hash_begun (b ∷ bs) h = by (eqb b 40) (eqb b 35) (eqb b 34) refl h
   where
-    by : (x y z : Bool) → eqb b 35 ≡ y → (if x then fronts.Open else (if y then fronts.Hash else (if z then fronts.Mark else fronts.Word))) ≡ fronts.Hash → b ∷ bs ≡ 35 ∷ bs
+    by : (x y z : Bool) → eqb b 35 ≡ y → (if x then fronts.Bracket else (if y then fronts.Hash else (if z then fronts.Mark else fronts.Word))) ≡ fronts.Hash → b ∷ bs ≡ 35 ∷ bs
     by true y z e h = absurd (let e : 0 ≡ 1 = ap code h in omega (arith, e))
     by false true z e h = ap (λ c. c ∷ bs) (eqb-true b 35 e)
     by false false true e h = absurd (let e : 2 ≡ 1 = ap code h in omega (arith, e))
@@ -175,7 +175,7 @@ mark_begun : (bytes : List ℕ) → front bytes ≡ fronts.Mark → bytes ≡ 34
 mark_begun [] h = absurd (let e : 3 ≡ 2 = ap code h in omega (arith, e))
 mark_begun (b ∷ bs) h = by (eqb b 40) (eqb b 35) (eqb b 34) refl h
   where
-    by : (x y z : Bool) → eqb b 34 ≡ z → (if x then fronts.Open else (if y then fronts.Hash else (if z then fronts.Mark else fronts.Word))) ≡ fronts.Mark → b ∷ bs ≡ 34 ∷ bs
+    by : (x y z : Bool) → eqb b 34 ≡ z → (if x then fronts.Bracket else (if y then fronts.Hash else (if z then fronts.Mark else fronts.Word))) ≡ fronts.Mark → b ∷ bs ≡ 34 ∷ bs
     by true y z e h = absurd (let e : 0 ≡ 2 = ap code h in omega (arith, e))
     by false true z e h = absurd (let e : 1 ≡ 2 = ap code h in omega (arith, e))
     by false false true e h = ap (λ c. c ∷ bs) (eqb-true b 34 e)
@@ -221,7 +221,7 @@ turn_code turns.Next = 0
 turn_code turns.Close = 1
 turn_code turns.Dot = 2
 
-next_turn : (more : List ℕ) → opens more ≡ true → turn (32 ∷ more) ≡ turns.Next
+next_turn : (more : List ℕ) → begins_element more ≡ true → turn (32 ∷ more) ≡ turns.Next
 next_turn [] over = refl
 next_turn (b ∷ []) over = refl
 next_turn (b ∷ c ∷ cs) over = by (b == 46 && c == 32) (and_parts (not (b == 41)) (not (b == 46 && c == 32)) over).1

@@ -18,7 +18,7 @@ use Rattle.reify.specs.Printing.{element_text, rest_text}
 use Rattle.reify.specs.Shapes.{spelling, spells}
 use Rattle.kan_grammar.proofs.Texts.NameLaws.{goes_on_further}
 use Rattle.term_reading.specs.Words.{Continues, IsSpelled, Moves, ends, is_fine}
-use Rattle.term_reading.specs.Reading.{GetsShape, GetsTerm, follows, is_open, is_pair, next_open, opens, text_from}
+use Rattle.term_reading.specs.Reading.{GetsShape, GetsTerm, follows, is_unfinished, is_pair, unclosed_after, begins_element, text_from}
 use Rattle.term_reading.proofs.WordLaws.{digits_begin}
 use Rattle.term_reading.proofs.ShapeLaws.{symbol_parts, word_bytes}
 
@@ -35,25 +35,25 @@ rests_end table (suc n) (Str s ∷ xs) more whole over = refl
 rests_end table (suc n) (Num z ∷ xs) more whole over = refl
 rests_end table (suc n) (Truth b ∷ xs) more whole over = refl
 
--- an element opens
-plain_opens : (b : ℕ) (bs : List ℕ) → eqb b 41 ≡ false → eqb b 46 ≡ false → opens (b ∷ bs) ≡ true
-plain_opens b [] shut point = ap not shut
-plain_opens b (c ∷ cs) shut point = ap₂ (λ x y. not x && not (y && c == 32)) shut point
+-- an element begins_element
+plain_begins : (b : ℕ) (bs : List ℕ) → eqb b 41 ≡ false → eqb b 46 ≡ false → begins_element (b ∷ bs) ≡ true
+plain_begins b [] shut point = ap not shut
+plain_begins b (c ∷ cs) shut point = ap₂ (λ x y. not x && not (y && c == 32)) shut point
 
-digits_open : (ds more : List ℕ) → begins_with_digit ds ≡ true → opens (ds ++ more) ≡ true
-digits_open [] more h = absurd (true≢false (sym h))
-digits_open (d ∷ ds) more h =
+digits_begin_element : (ds more : List ℕ) → begins_with_digit ds ≡ true → begins_element (ds ++ more) ≡ true
+digits_begin_element [] more h = absurd (true≢false (sym h))
+digits_begin_element (d ∷ ds) more h =
     let shut : eqb d 41 ≡ false = grind (arith, nat_tests) in
     let point : eqb d 46 ≡ false = grind (arith, nat_tests) in
-    plain_opens d (ds ++ more) shut point
+    plain_begins d (ds ++ more) shut point
 
-word_opens : (w more : List ℕ) → list_all is_word_byte w ≡ true → is_dot w ≡ false → 0 < length w → opens (w ++ more) ≡ true
-word_opens [] more all dot some = absurd (let none : ⊥ = omega (arith, some) in none)
-word_opens (b ∷ []) more all dot some =
+word_begins : (w more : List ℕ) → list_all is_word_byte w ≡ true → is_dot w ≡ false → 0 < length w → begins_element (w ++ more) ≡ true
+word_begins [] more all dot some = absurd (let none : ⊥ = omega (arith, some) in none)
+word_begins (b ∷ []) more all dot some =
     let word : is_word_byte b ≡ true = (and_parts (is_word_byte b) true all).0 in
     let shut : eqb b 41 ≡ false = grind (arith, nat_tests) in
-    plain_opens b more shut dot
-word_opens (b ∷ c ∷ cs) more all dot some =
+    plain_begins b more shut dot
+word_begins (b ∷ c ∷ cs) more all dot some =
     let parts = and_parts (is_word_byte b) (is_word_byte c && list_all is_word_byte cs) all in
     let word : is_word_byte b ≡ true = parts.0 in
     let next : is_word_byte c ≡ true = (and_parts (is_word_byte c) (list_all is_word_byte cs) parts.1).0 in
@@ -65,23 +65,23 @@ word_opens (b ∷ c ∷ cs) more all dot some =
     and_none true = refl
     and_none false = refl
 
-element_opens : (table : Table) (x : Shape) (more : List ℕ) → IsSpelled table → is_fine table x ≡ true → opens (element_text table x ++ more) ≡ true
-element_opens table Pair [] ok fine = refl
-element_opens table Pair (b ∷ bs) ok fine = refl
-element_opens table Nil more ok fine = refl
-element_opens table (Name n) more ok fine = plain_opens 95 (decimal_text n ++ more) refl refl
-element_opens table (Sym s) more ok fine = let parts = symbol_parts table s ok fine in word_opens (symbol_text table s) more parts.0 parts.1 parts.2
-element_opens table (Str s) more ok fine = plain_opens 34 _ refl refl
-element_opens table (Num (pos n)) more ok fine = digits_open (decimal_text n) more (digits_begin n (let low : n ≤ 2 ^ 127 = grind (arith, nat_tests) in low))
-element_opens table (Num (negsuc n)) more ok fine = plain_opens 45 (decimal_text (suc n) ++ more) refl refl
-element_opens table (Truth true) more ok fine = refl
-element_opens table (Truth false) more ok fine = refl
+element_begins : (table : Table) (x : Shape) (more : List ℕ) → IsSpelled table → is_fine table x ≡ true → begins_element (element_text table x ++ more) ≡ true
+element_begins table Pair [] ok fine = refl
+element_begins table Pair (b ∷ bs) ok fine = refl
+element_begins table Nil more ok fine = refl
+element_begins table (Name n) more ok fine = plain_begins 95 (decimal_text n ++ more) refl refl
+element_begins table (Sym s) more ok fine = let parts = symbol_parts table s ok fine in word_begins (symbol_text table s) more parts.0 parts.1 parts.2
+element_begins table (Str s) more ok fine = plain_begins 34 _ refl refl
+element_begins table (Num (pos n)) more ok fine = digits_begin_element (decimal_text n) more (digits_begin n (let low : n ≤ 2 ^ 127 = grind (arith, nat_tests) in low))
+element_begins table (Num (negsuc n)) more ok fine = plain_begins 45 (decimal_text (suc n) ++ more) refl refl
+element_begins table (Truth true) more ok fine = refl
+element_begins table (Truth false) more ok fine = refl
 
-elements_open : (table : Table) (n : ℕ) (xs : List Shape) (more : List ℕ) → IsSpelled table → spells (suc n) xs ≡ true → list_all (is_fine table) xs ≡ true → opens (text_from table true n xs ++ more) ≡ true
-elements_open table n [] more ok whole fine = absurd (true≢false (sym whole))
-elements_open table n (x ∷ xs) more ok whole fine =
-    let behind : List ℕ = text_from table (is_pair x) (next_open n true (is_pair x)) xs in
-    ap opens (append_assoc (element_text table x) behind more) ∙ element_opens table x (behind ++ more) ok (and_parts (is_fine table x) (list_all (is_fine table) xs) fine).0
+elements_begin : (table : Table) (n : ℕ) (xs : List Shape) (more : List ℕ) → IsSpelled table → spells (suc n) xs ≡ true → list_all (is_fine table) xs ≡ true → begins_element (text_from table true n xs ++ more) ≡ true
+elements_begin table n [] more ok whole fine = absurd (true≢false (sym whole))
+elements_begin table n (x ∷ xs) more ok whole fine =
+    let behind : List ℕ = text_from table (is_pair x) (unclosed_after n true (is_pair x)) xs in
+    ap begins_element (append_assoc (element_text table x) behind more) ∙ element_begins table x (behind ++ more) ok (and_parts (is_fine table x) (list_all (is_fine table) xs) fine).0
 
 -- how many terms are wanted
 abbrev pub terms_wanted : Bool → ℕ → ℕ
@@ -98,7 +98,7 @@ pub continues_back : (old new table : Table) → GoesOn old new → Continues ne
 continues_back old new table goes on = record { goes_on = goes_on_further old new table goes on.goes_on; spelled = on.spelled }
 
 -- how many terms are wanted behind a shape
-element_next : (n : ℕ) (x : Shape) (xs : List Shape) → spells (suc n) (x ∷ xs) ≡ true → spells (terms_wanted (is_pair x) (next_open n true (is_pair x))) xs ≡ true
+element_next : (n : ℕ) (x : Shape) (xs : List Shape) → spells (suc n) (x ∷ xs) ≡ true → spells (terms_wanted (is_pair x) (unclosed_after n true (is_pair x))) xs ≡ true
 element_next n Pair xs whole = whole
 element_next n (Name m) xs whole = whole
 element_next n (Sym s) xs whole = whole
@@ -107,7 +107,7 @@ element_next n (Str s) xs whole = whole
 element_next n (Truth b) xs whole = whole
 element_next n Nil xs whole = whole
 
-rest_next : (n : ℕ) (x : Shape) (xs : List Shape) → spells (suc n) (x ∷ xs) ≡ true → spells (terms_wanted (is_pair x) (next_open (suc n) false (is_pair x))) xs ≡ true
+rest_next : (n : ℕ) (x : Shape) (xs : List Shape) → spells (suc n) (x ∷ xs) ≡ true → spells (terms_wanted (is_pair x) (unclosed_after (suc n) false (is_pair x))) xs ≡ true
 rest_next n Pair xs whole = whole
 rest_next n (Name m) xs whole = whole
 rest_next n (Sym s) xs whole = whole
@@ -118,8 +118,8 @@ rest_next n Nil xs whole = whole
 
 -- what follows it
 follow_element : (table : Table) (n : ℕ) (x : Shape) (xs : List Shape) (more : List ℕ) → IsSpelled table → spells (suc n) (x ∷ xs) ≡ true → list_all (is_fine table) xs ≡ true → ends more ≡ true →
-    follows true x (text_from table (is_pair x) (next_open n true (is_pair x)) xs ++ more) ≡ true
-follow_element table n Pair xs more ok whole fine over = elements_open table (suc n) xs more ok whole fine
+    follows true x (text_from table (is_pair x) (unclosed_after n true (is_pair x)) xs ++ more) ≡ true
+follow_element table n Pair xs more ok whole fine over = elements_begin table (suc n) xs more ok whole fine
 follow_element table n (Name m) xs more ok whole fine over = rests_end table n xs more whole over
 follow_element table n (Sym s) xs more ok whole fine over = rests_end table n xs more whole over
 follow_element table n (Num z) xs more ok whole fine over = rests_end table n xs more whole over
@@ -128,8 +128,8 @@ follow_element table n (Truth b) xs more ok whole fine over = refl
 follow_element table n Nil xs more ok whole fine over = refl
 
 follow_rest : (table : Table) (n : ℕ) (x : Shape) (xs : List Shape) (more : List ℕ) → IsSpelled table → spells (suc n) (x ∷ xs) ≡ true → list_all (is_fine table) xs ≡ true →
-    follows false x (text_from table (is_pair x) (next_open (suc n) false (is_pair x)) xs ++ more) ≡ true
-follow_rest table n Pair xs more ok whole fine = elements_open table (suc n) xs more ok whole fine
+    follows false x (text_from table (is_pair x) (unclosed_after (suc n) false (is_pair x)) xs ++ more) ≡ true
+follow_rest table n Pair xs more ok whole fine = elements_begin table (suc n) xs more ok whole fine
 follow_rest table n (Name m) xs more ok whole fine = refl
 follow_rest table n (Sym s) xs more ok whole fine = refl
 follow_rest table n (Num z) xs more ok whole fine = refl
@@ -139,7 +139,7 @@ follow_rest table n Nil xs more ok whole fine = refl
 
 -- one shape
 pub term_goes_on : (old new : Table) (start rest left : List ℕ) (made grown : List Shape) (element pair : Bool) (lists next : ℕ) (shape : Shape) →
-    (element ≡ false → 0 < lists) → GoesOn old new → GetsShape new element rest shape left → grown ≡ made ++ shape ∷ [] → pair ≡ is_pair shape → next ≡ next_open lists element pair →
+    (element ≡ false → 0 < lists) → GoesOn old new → GetsShape new element rest shape left → grown ≡ made ++ shape ∷ [] → pair ≡ is_pair shape → next ≡ unclosed_after lists element pair →
     LeftTerm old start made element lists rest → LeftTerm new start grown pair next left
 term_goes_on old new start rest left made grown element pair lists next shape some goes got add tells counts held table on xs more whole fine over is =
     let h = held table (continues_back old new table goes on) xs more whole fine over is in
@@ -148,11 +148,11 @@ term_goes_on old new start rest left made grown element pair lists next shape so
     Goal : Type 0
     Goal = (ls : List Shape) × (xs ≡ grown ++ ls) × (spells (terms_wanted pair next) ls ≡ true) × (list_all (is_fine table) ls ≡ true) × (left ≡ text_from table pair next ls ++ more)
 
-    finish : (e : Bool) (n : ℕ) (x : Shape) (ls : List Shape) → next ≡ next_open n e pair → shape ≡ x → xs ≡ made ++ x ∷ ls → list_all (is_fine table) ls ≡ true →
-        spells (terms_wanted (is_pair x) (next_open n e (is_pair x))) ls ≡ true → left ≡ text_from table (is_pair x) (next_open n e (is_pair x)) ls ++ more → Goal
+    finish : (e : Bool) (n : ℕ) (x : Shape) (ls : List Shape) → next ≡ unclosed_after n e pair → shape ≡ x → xs ≡ made ++ x ∷ ls → list_all (is_fine table) ls ≡ true →
+        spells (terms_wanted (is_pair x) (unclosed_after n e (is_pair x))) ls ≡ true → left ≡ text_from table (is_pair x) (unclosed_after n e (is_pair x)) ls ++ more → Goal
     finish e n x ls c same p f w l =
         let which : pair ≡ is_pair x = tells ∙ ap is_pair same in
-        let many : next ≡ next_open n e (is_pair x) = c ∙ ap (next_open n e) which in (
+        let many : next ≡ unclosed_after n e (is_pair x) = c ∙ ap (unclosed_after n e) which in (
           ls,
           p ∙ sym (append_assoc made (x ∷ []) ls) ∙ ap (λ l. l ++ ls) (sym (add ∙ ap (λ y. made ++ y ∷ []) same)),
           ap₂ (λ b k. spells (terms_wanted b k) ls) which many ∙ w,
@@ -160,19 +160,19 @@ term_goes_on old new start rest left made grown element pair lists next shape so
           l ∙ ap₂ (λ b k. text_from table b k ls ++ more) (sym which) (sym many),
         )
 
-    by : (e : Bool) (n : ℕ) → (e ≡ false → 0 < n) → GetsShape new e rest shape left → next ≡ next_open n e pair → (ls : List Shape) → xs ≡ made ++ ls → spells (terms_wanted e n) ls ≡ true → list_all (is_fine table) ls ≡ true →
+    by : (e : Bool) (n : ℕ) → (e ≡ false → 0 < n) → GetsShape new e rest shape left → next ≡ unclosed_after n e pair → (ls : List Shape) → xs ≡ made ++ ls → spells (terms_wanted e n) ls ≡ true → list_all (is_fine table) ls ≡ true →
         rest ≡ text_from table e n ls ++ more → Goal
     by true n s g c [] p w f r = absurd (true≢false (sym w))
     by true n s g c (x ∷ ls) p w f r =
         let parts = and_parts (is_fine table x) (list_all (is_fine table) ls) f in
-        let behind : List ℕ = text_from table (is_pair x) (next_open n true (is_pair x)) ls in
+        let behind : List ℕ = text_from table (is_pair x) (unclosed_after n true (is_pair x)) ls in
         let read = g table on x (behind ++ more) parts.0 (follow_element table n x ls more on.spelled w parts.1 over) (r ∙ append_assoc (element_text table x) behind more) in
         finish true n x ls c read.0 p parts.1 (element_next n x ls w) read.1
     by false zero s g c ls p w f r = absurd (let some : 0 < 0 = s refl in let none : ⊥ = omega (arith, some) in none)
     by false (suc n) s g c [] p w f r = absurd (true≢false (sym w))
     by false (suc n) s g c (x ∷ ls) p w f r =
         let parts = and_parts (is_fine table x) (list_all (is_fine table) ls) f in
-        let behind : List ℕ = text_from table (is_pair x) (next_open (suc n) false (is_pair x)) ls in
+        let behind : List ℕ = text_from table (is_pair x) (unclosed_after (suc n) false (is_pair x)) ls in
         let read = g table on x (behind ++ more) parts.0 (follow_rest table n x ls more on.spelled w parts.1) (r ∙ append_assoc (rest_text table x) behind more) in
         finish false (suc n) x ls c read.0 p parts.1 (rest_next n x ls w) read.1
 
@@ -263,29 +263,29 @@ moves_on old middle new size left less m n = record {
 }
 
 -- whether the loop goes on
-pub open_lists : (e : Bool) (n : ℕ) (rest : List ℕ) → is_open e n rest ≡ true → e ≡ false → 0 < n
-open_lists true n rest h e = absurd (true≢false e)
-open_lists false n rest h e = let some : nat_lt 0 n ≡ true = (and_parts (nat_lt 0 n) (is_filled rest) h).0 in grind (arith, nat_tests)
+pub unfinished_lists : (e : Bool) (n : ℕ) (rest : List ℕ) → is_unfinished e n rest ≡ true → e ≡ false → 0 < n
+unfinished_lists true n rest h e = absurd (true≢false e)
+unfinished_lists false n rest h e = let some : nat_lt 0 n ≡ true = (and_parts (nat_lt 0 n) (is_filled rest) h).0 in grind (arith, nat_tests)
 
-pub open_some : (e : Bool) (n : ℕ) (rest : List ℕ) → is_open e n rest ≡ true → 0 < length rest
-open_some e n [] h = absurd (true≢false (sym (and_parts (e || nat_lt 0 n) false h).1))
-open_some e n (b ∷ bs) h = omega arith
+pub unfinished_some : (e : Bool) (n : ℕ) (rest : List ℕ) → is_unfinished e n rest ≡ true → 0 < length rest
+unfinished_some e n [] h = absurd (true≢false (sym (and_parts (e || nat_lt 0 n) false h).1))
+unfinished_some e n (b ∷ bs) h = omega arith
 
-pub open_ends : (e : Bool) (n : ℕ) (rest : List ℕ) → is_open e n rest ≡ false → ((e ≡ true → ⊥) × (n ≡ 0)) ⊎ (length rest ≡ 0)
-open_ends e n [] h = inr refl
-open_ends true n (b ∷ bs) h = absurd (true≢false h)
-open_ends false zero (b ∷ bs) h = inl ((λ e. true≢false (sym e)), refl)
-open_ends false (suc n) (b ∷ bs) h = absurd (true≢false (sym (ap (λ t. t && true) (let some : nat_lt 0 (suc n) ≡ true = grind (arith, nat_tests) in some)) ∙ h))
+pub unfinished_ends : (e : Bool) (n : ℕ) (rest : List ℕ) → is_unfinished e n rest ≡ false → ((e ≡ true → ⊥) × (n ≡ 0)) ⊎ (length rest ≡ 0)
+unfinished_ends e n [] h = inr refl
+unfinished_ends true n (b ∷ bs) h = absurd (true≢false h)
+unfinished_ends false zero (b ∷ bs) h = inl ((λ e. true≢false (sym e)), refl)
+unfinished_ends false (suc n) (b ∷ bs) h = absurd (true≢false (sym (ap (λ t. t && true) (let some : nat_lt 0 (suc n) ≡ true = grind (arith, nat_tests) in some)) ∙ h))
 
-one_more_open : (n : ℕ) (e p : Bool) → next_open n e p ≤ n + 1
-one_more_open n true true = omega arith
-one_more_open n true false = omega arith
-one_more_open n false true = omega arith
-one_more_open zero false false = omega arith
-one_more_open (suc n) false false = omega arith
+one_more_unclosed : (n : ℕ) (e p : Bool) → unclosed_after n e p ≤ n + 1
+one_more_unclosed n true true = omega arith
+one_more_unclosed n true false = omega arith
+one_more_unclosed n false true = omega arith
+one_more_unclosed zero false false = omega arith
+one_more_unclosed (suc n) false false = omega arith
 
-pub open_bound : (lists next : ℕ) (e p : Bool) (rest left bytes : List ℕ) → next ≡ next_open lists e p → lists + length rest ≤ length bytes → length left < length rest → next + length left ≤ length bytes
-open_bound lists next e p rest left bytes is fits less = let most : next_open lists e p ≤ lists + 1 = one_more_open lists e p in omega (arith, is, most, fits, less)
+pub unclosed_bound : (lists next : ℕ) (e p : Bool) (rest left bytes : List ℕ) → next ≡ unclosed_after lists e p → lists + length rest ≤ length bytes → length left < length rest → next + length left ≤ length bytes
+unclosed_bound lists next e p rest left bytes is fits less = let most : unclosed_after lists e p ≤ lists + 1 = one_more_unclosed lists e p in omega (arith, is, most, fits, less)
 
 pub moves_less : (old new : Table) (size left less : ℕ) → Moves old size new left → less ≤ left → Moves old size new less
 moves_less old new size left less m h = record { goes_on = m.goes_on; symbols = omega (arith, m.symbols, h); strings = omega (arith, m.strings, h); spelled = m.spelled }

@@ -19,7 +19,7 @@ use Rattle.term_reading.specs.Words.{Continues, ends, is_fine}
 abbrev pub front : List ℕ → Lead
 front [] = fronts.Word
 front (b ∷ bs) =
-    if b == 40 then fronts.Open
+    if b == 40 then fronts.Bracket
     else (if b == 35 then fronts.Hash else (if b == 34 then fronts.Mark else fronts.Word))
 
 -- what comes behind an element
@@ -31,14 +31,14 @@ turn (a ∷ b ∷ c ∷ cs) =
     if a == 32 then (if b == 46 && c == 32 then turns.Dot else turns.Next) else turns.Close
 
 -- a text goes on neither with the close of a list nor with a point alone
-abbrev pub opens : List ℕ → Bool
-opens [] = true
-opens (b ∷ []) = not (b == 41)
-opens (b ∷ c ∷ cs) = not (b == 41) && not (b == 46 && c == 32)
+abbrev pub begins_element : List ℕ → Bool
+begins_element [] = true
+begins_element (b ∷ []) = not (b == 41)
+begins_element (b ∷ c ∷ cs) = not (b == 41) && not (b == 46 && c == 32)
 
 -- what may come behind a shape, which is an element or stands behind one
 abbrev pub follows : Bool → Shape → List ℕ → Bool
-follows element Pair more = opens more
+follows element Pair more = begins_element more
 follows true (Name n) more = ends more
 follows true (Sym s) more = ends more
 follows true (Num z) more = ends more
@@ -57,22 +57,22 @@ abbrev pub one_less : ℕ → ℕ
 one_less zero = zero
 one_less (suc n) = n
 
--- how many lists are open behind a shape, by whether it is an element, and whether a pair
-abbrev pub next_open : ℕ → Bool → Bool → ℕ
-next_open n true true = suc n
-next_open n true false = n
-next_open n false true = n
-next_open n false false = one_less n
+-- how many lists are unclosed behind a shape, by whether it is an element, and whether a pair
+abbrev pub unclosed_after : ℕ → Bool → Bool → ℕ
+unclosed_after n true true = suc n
+unclosed_after n true false = n
+unclosed_after n false true = n
+unclosed_after n false false = one_less n
 
 -- the text of shapes, the first of which is an element or stands behind one in the last of so many
--- open lists
+-- unclosed lists
 abbrev pub text_from : Table → Bool → ℕ → List Shape → List ℕ
 text_from table element n [] = []
 text_from table true n (x ∷ xs) =
-    element_text table x ++ text_from table (is_pair x) (next_open n true (is_pair x)) xs
+    element_text table x ++ text_from table (is_pair x) (unclosed_after n true (is_pair x)) xs
 text_from table false zero (x ∷ xs) = []
 text_from table false (suc n) (x ∷ xs) =
-    rest_text table x ++ text_from table (is_pair x) (next_open (suc n) false (is_pair x)) xs
+    rest_text table x ++ text_from table (is_pair x) (unclosed_after (suc n) false (is_pair x)) xs
 
 -- where these bytes begin with the text of a shape, it is this one, and this is left
 abbrev pub GetsShape : Table → Bool → List ℕ → Shape → List ℕ → Type 0
@@ -88,10 +88,10 @@ GetsTerm new bytes shapes left =
     list_all (is_fine table) xs ≡ true → ends more ≡ true →
     bytes ≡ text_from table true 0 xs ++ more → (shapes ≡ xs) × (left ≡ more)
 
--- behind the open of a list: the empty one, or what goes on
-abbrev pub GetsOpen : List ℕ → Shape → List ℕ → Type 0
-GetsOpen bytes shape left =
-    ((more : List ℕ) → opens more ≡ true → bytes ≡ more → (shape ≡ Pair) × (left ≡ more))
+-- behind the first bracket of a list: the empty one, or what goes on
+abbrev pub GetsBegun : List ℕ → Shape → List ℕ → Type 0
+GetsBegun bytes shape left =
+    ((more : List ℕ) → begins_element more ≡ true → bytes ≡ more → (shape ≡ Pair) × (left ≡ more))
     × ((more : List ℕ) → bytes ≡ 41 ∷ more → (shape ≡ Nil) × (left ≡ more))
 
 -- behind a number sign: a truth value
@@ -113,5 +113,5 @@ GetsDotted new bytes shape left =
     bytes ≡ atom_text table x ++ 41 ∷ more → (shape ≡ x) × (left ≡ more)
 
 -- a shape is wanted, and something is left
-abbrev pub is_open : Bool → ℕ → List ℕ → Bool
-is_open element n rest = (element || nat_lt 0 n) && is_filled rest
+abbrev pub is_unfinished : Bool → ℕ → List ℕ → Bool
+is_unfinished element n rest = (element || nat_lt 0 n) && is_filled rest

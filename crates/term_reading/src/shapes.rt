@@ -8,7 +8,7 @@ ghost use Rattle.kan_terms.specs.Table.{Table};
 ghost use Rattle.reify.specs.declared.shaping.Shape.{Shape};
 ghost use Rattle.reify.specs.declared.shaping.Shape.TheVariants.{Pair};
 ghost use Rattle.reify.specs.Printing.{atom_text};
-ghost use Rattle.term_reading.specs.Reading.{GetsDotted, GetsOpen, GetsShape, GetsTruth};
+ghost use Rattle.term_reading.specs.Reading.{GetsDotted, GetsBegun, GetsShape, GetsTruth};
 ghost use Rattle.term_reading.specs.Reading.{front, turn};
 ghost use Rattle.term_reading.specs.Words.{Continues, HasRoom, Moves, ends, is_fine, is_known};
 ghost use Rattle.term_reading.specs.Words.{is_worded};
@@ -24,7 +24,7 @@ use std::alloc::Global;
 #[derive(Clone, Copy)]
 pub(crate) enum Lead {
     /// A list.
-    Open,
+    Bracket,
     /// A truth value.
     Hash,
     /// A string.
@@ -49,7 +49,7 @@ fn front(bytes: &[u8]) -> Lead
     ensures { result ≡ front bytes.now }
 {
     match bytes.first() {
-        Some(b'(') => Lead::Open,
+        Some(b'(') => Lead::Bracket,
         Some(b'#') => Lead::Hash,
         Some(b'"') => Lead::Mark,
         _ => Lead::Word,
@@ -101,9 +101,9 @@ pub fn read_word<'a>(bytes: &'a [u8], names: &mut Names) -> Result<(Shape, &'a [
     Ok((shape, &bytes[length..]))
 }
 
-// The list whose open stands before these bytes, if it is the empty one, or else a pair.
+// The list whose first bracket stands before these bytes, if it is the empty one, or else a pair.
 fn list_begun(bytes: &[u8]) -> (Shape, &[u8])
-    ensures reads { GetsOpen bytes.now result.0 result.1.now }
+    ensures reads { GetsBegun bytes.now result.0 result.1.now }
     ensures known { (table : Table) → is_known table result.0 ≡ true }
     ensures within { length result.1.now ≤ length bytes.now }
 {
@@ -142,7 +142,7 @@ fn read_element<'a>(
         0 < length bytes.now → length read.1.now < length bytes.now) }
 {
     match front(bytes) {
-        Lead::Open => Ok(list_begun(behind(bytes, 1))),
+        Lead::Bracket => Ok(list_begun(behind(bytes, 1))),
         Lead::Hash => Ok(truth(behind(bytes, 1))),
         Lead::Mark => read_string(alloc, behind(bytes, 1), names),
         Lead::Word => read_word(bytes, names),

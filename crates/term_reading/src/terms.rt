@@ -3,7 +3,7 @@
 ghost use Rattle.std.specs.Prelude.{◌≡◌, ◌<◌, ◌^◌, true, false, length, IfOk};
 ghost use Rattle.std.specs.List.{list_all};
 ghost use Rattle.reify.specs.declared.shaping.Shape.TheVariants.{Pair};
-ghost use Rattle.term_reading.specs.Reading.{GetsTerm, is_open, is_pair, next_open};
+ghost use Rattle.term_reading.specs.Reading.{GetsTerm, is_unfinished, is_pair, unclosed_after};
 ghost use Rattle.term_reading.specs.Words.{HasRoom, Moves, is_known};
 
 use crate::shapes::read_shape;
@@ -18,11 +18,11 @@ fn is_pair(shape: Shape) -> bool
     matches!(shape, Shape::Pair)
 }
 
-// How many lists are open behind a shape, where so many were open before it.
-fn next_open(lists: usize, element: bool, pair: bool) -> usize
+// How many lists are unclosed behind a shape, where so many were unclosed before it.
+fn unclosed_after(lists: usize, element: bool, pair: bool) -> usize
     requires some { element ≡ false → 0 < lists }
     requires few { lists < 2 ^ 63 }
-    ensures { result ≡ next_open lists element pair }
+    ensures { result ≡ unclosed_after lists element pair }
 {
     match (element, pair) {
         (true, true) => lists + 1,
@@ -32,8 +32,8 @@ fn next_open(lists: usize, element: bool, pair: bool) -> usize
 }
 
 // Whether a shape is wanted, and something is left.
-fn is_open(element: bool, lists: usize, rest: &[u8]) -> bool
-    ensures { result ≡ is_open element lists rest.now }
+fn is_unfinished(element: bool, lists: usize, rest: &[u8]) -> bool
+    ensures { result ≡ is_unfinished element lists rest.now }
 {
     (element | (lists > 0)) & !rest.is_empty()
 }
@@ -55,13 +55,13 @@ pub fn read_term<'a>(
     let mut rest = bytes;
     let mut lists: usize = 0;
     let mut element = true;
-    while is_open(element, lists, rest) {
+    while is_unfinished(element, lists, rest) {
         let (shape, left) = read_shape(alloc, rest, element, names)?;
         let Ok(()) = made.push(shape) else {
             return Err(Memory);
         };
         rest = left;
-        lists = next_open(lists, element, is_pair(shape));
+        lists = unclosed_after(lists, element, is_pair(shape));
         element = is_pair(shape);
     }
     Ok((made, rest))

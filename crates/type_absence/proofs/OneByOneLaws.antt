@@ -2,7 +2,7 @@
 use Rattle.std.proofs.Common.{◌≡◌, ◌↔◌, ℕ, Bool, true, false, ◌||◌, not, eqb, List, [], ◌∷◌, ◌++◌, Option, Some, None, sym, ap, refl, ◌∙◌, if◌then◌else◌}
 use Rattle.std.proofs.lemmas.Bool.{and_from, and_parts, or_parts, or_from, or_left, not-true, not_from_false}
 use Rattle.kan_terms.specs.Tree.{Tm, occurs, has_symbol}
-use Rattle.unify_core.proofs.Grown.{eqb-turn}
+use Rattle.unify_core.proofs.GrowthLaws.{eqb-turn}
 use Rattle.type_absence.specs.Tags.{is_listed, with_tag, with_tags, has_any, is_once}
 use Rattle.type_absence.specs.Absent.{TagsOf, GivesTag, GivesTags}
 use Rattle.type_absence.specs.Laws.{OneByOne}

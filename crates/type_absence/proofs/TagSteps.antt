@@ -8,7 +8,7 @@ use Rattle.kan_terms.proofs.TreeLaws.{size-positive}
 use Rattle.unify_core.specs.Walking.{Pairs, walk, full}
 use Rattle.unify_core.specs.Cycles.{HasNoCycle}
 use Rattle.kan_terms.specs.Waiting.{waiting_trees, parts_of}
-use Rattle.unify_core.proofs.Grown.{ends-unbound}
+use Rattle.unify_core.proofs.GrowthLaws.{ends-unbound}
 use Rattle.unify_core.proofs.CycleLaws.{grown}
 use Rattle.unify_core.proofs.WalkLaws.{full-walk, walk-end}
 use Rattle.unify_core.proofs.Steps.OccursSteps.{stands_in, nodes}

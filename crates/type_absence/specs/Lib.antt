@@ -1,6 +1,6 @@
 pub mod Absent
 pub mod Laws
-pub mod Seen
+pub mod Meaning
 pub mod Tags
 pub mod Types
 pub mod Waiting

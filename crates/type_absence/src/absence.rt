@@ -1,13 +1,12 @@
 //! Tags that stand nowhere in variables.
 
-ghost use Rattle.std.specs.Prelude.{◌≡◌, ◌++◌, ℕ, [], ◌∷◌, false, eqb, IfOk, OnOk, option_map};
+ghost use Rattle.std.specs.Prelude.{◌≡◌, ◌++◌, ℕ, [], false, eqb, IfOk, OnOk, option_map};
 ghost use Rattle.std.specs.Prelude.{if◌then◌else◌, IsTrue};
 ghost use Rattle.kan_terms.specs.Terms.{tree};
-ghost use Rattle.kan_terms.specs.Tree.{Tm, occurs};
 ghost use Rattle.type_absence.specs.Absent.{GivesTag, GivesTags};
-ghost use Rattle.type_absence.specs.Seen.{tags};
+ghost use Rattle.type_absence.specs.Meaning.{tags};
 ghost use Rattle.type_absence.specs.Types.{made_if};
-ghost use Rattle.type_absence.specs.Tags.{has_any, with_tags};
+ghost use Rattle.type_absence.specs.Tags.{with_tags};
 ghost use Rattle.type_absence.specs.Waiting.{names_one, put_on, Tagged};
 ghost use Rattle.unify_core.specs.Cycles.{HasNoCycle};
 ghost use Rattle.kan_terms.specs.Waiting.{waiting_trees, parts_of};
@@ -176,25 +175,6 @@ impl Absences {
         Ok(!found)
     }
 
-    /// What `add` gives, made of these absences themselves: in place where nobody else holds them.
-    pub fn add_owned<B: Bindings>(
-        self,
-        alloc: Global,
-        tag: u32,
-        term: &Term,
-        bindings: &B,
-    ) -> Result<Option<Absences>, Memory>
-        requires { HasNoCycle (B.pairs bindings.now) }
-        ensures { IfOk result (λ made. GivesTag (tags self) tag
-            (full (B.pairs bindings.now) (tree term.now)) (option_map tags made)) }
-    {
-        let mut made = self;
-        if made.put_inside(alloc, &[tag], term, bindings)? {
-            return Ok(None);
-        }
-        Ok(Some(made))
-    }
-
     /// The absences with a tag more for each variable of a term, and None exactly where the tag
     /// stands in the term under the bindings.
     pub fn add<B: Bindings>(
@@ -208,7 +188,11 @@ impl Absences {
         ensures { IfOk result (λ made. GivesTag (tags self.now) tag
             (full (B.pairs bindings.now) (tree term.now)) (option_map tags made)) }
     {
-        self.again()?.add_owned(alloc, tag, term, bindings)
+        let mut made = self.again()?;
+        if made.put_inside(alloc, &[tag], term, bindings)? {
+            return Ok(None);
+        }
+        Ok(Some(made))
     }
 
     /// Puts the tags of a variable, which was just bound, on its term; false where one of them
@@ -232,26 +216,6 @@ impl Absences {
         Ok(!found)
     }
 
-    /// What `moved` gives, made of these absences themselves: in place where nobody else holds
-    /// them.
-    pub fn moved_owned<B: Bindings>(
-        self,
-        alloc: Global,
-        var: u64,
-        term: &Term,
-        bindings: &B,
-    ) -> Result<Option<Absences>, Memory>
-        requires { HasNoCycle (B.pairs bindings.now) }
-        ensures { IfOk result (λ made. GivesTags (tags self) (tags self var)
-            (full (B.pairs bindings.now) (tree term.now)) (option_map tags made)) }
-    {
-        let mut made = self;
-        if !made.move_over(alloc, var, term, bindings)? {
-            return Ok(None);
-        }
-        Ok(Some(made))
-    }
-
     /// The absences where the tags of a variable, which was just bound, go over to its term: `add`
     /// of each, one after the other.
     pub fn moved<B: Bindings>(
@@ -265,6 +229,10 @@ impl Absences {
         ensures { IfOk result (λ made. GivesTags (tags self.now) (tags self.now var)
             (full (B.pairs bindings.now) (tree term.now)) (option_map tags made)) }
     {
-        self.again()?.moved_owned(alloc, var, term, bindings)
+        let mut made = self.again()?;
+        if !made.move_over(alloc, var, term, bindings)? {
+            return Ok(None);
+        }
+        Ok(Some(made))
     }
 }

@@ -1,11 +1,11 @@
 //! Types of variables.
 
-ghost use Rattle.std.specs.Prelude.{◌≡◌, ℕ, Some, None, eqb, IfOk, IsTrue, OnOk, option_map};
+ghost use Rattle.std.specs.Prelude.{◌≡◌, ℕ, Some, None, IfOk, IsTrue, OnOk, option_map};
 ghost use Rattle.kan_model.specs.declared.prims.Kind.{Kind};
 ghost use Rattle.kan_model.specs.Stores.Kept.{may_be};
 ghost use Rattle.kan_terms.specs.Terms.{tree};
-ghost use Rattle.type_absence.specs.Seen.{types};
-ghost use Rattle.type_absence.specs.Types.{GivesTypes, MovesTypes, made_if, may_have, no_other};
+ghost use Rattle.type_absence.specs.Meaning.{types};
+ghost use Rattle.type_absence.specs.Types.{GivesTypes, MovesTypes, made_if, may_have};
 ghost use Rattle.type_absence.specs.Types.{same_kind, with_type};
 ghost use Rattle.unify_core.specs.Cycles.{HasNoCycle};
 ghost use Rattle.unify_core.specs.Walking.{walk};
@@ -142,24 +142,6 @@ impl Kinds {
         Ok(true)
     }
 
-    /// What `add` gives, made of these types themselves: in place where nobody else holds them.
-    pub fn add_owned<B: Bindings>(
-        self,
-        kind: Kind,
-        term: &Term,
-        bindings: &B,
-    ) -> Result<Option<Kinds>, Memory>
-        requires { HasNoCycle (B.pairs bindings.now) }
-        ensures { IfOk result (λ made. GivesTypes (types self) kind
-            (walk (B.pairs bindings.now) (tree term.now)) (option_map types made)) }
-    {
-        let mut made = self;
-        if !made.put_on(kind, term, bindings)? {
-            return Ok(None);
-        }
-        Ok(Some(made))
-    }
-
     /// The types with that of a term, and None exactly where what the term walks to can't have it.
     pub fn add<B: Bindings>(
         &self,
@@ -171,7 +153,11 @@ impl Kinds {
         ensures { IfOk result (λ made. GivesTypes (types self.now) kind
             (walk (B.pairs bindings.now) (tree term.now)) (option_map types made)) }
     {
-        self.again()?.add_owned(kind, term, bindings)
+        let mut made = self.again()?;
+        if !made.put_on(kind, term, bindings)? {
+            return Ok(None);
+        }
+        Ok(Some(made))
     }
 
     /// Puts the type of a variable, which was just bound, on its term; false where that can't have
@@ -192,24 +178,6 @@ impl Kinds {
         }
     }
 
-    /// What `moved` gives, made of these types themselves: in place where nobody else holds them.
-    pub fn moved_owned<B: Bindings>(
-        self,
-        var: u64,
-        term: &Term,
-        bindings: &B,
-    ) -> Result<Option<Kinds>, Memory>
-        requires { HasNoCycle (B.pairs bindings.now) }
-        ensures { IfOk result (λ made. MovesTypes (types self) (types self var)
-            (walk (B.pairs bindings.now) (tree term.now)) (option_map types made)) }
-    {
-        let mut made = self;
-        if !made.move_over(var, term, bindings)? {
-            return Ok(None);
-        }
-        Ok(Some(made))
-    }
-
     /// The types where that of a variable, which was just bound, goes over to its term.
     pub fn moved<B: Bindings>(
         &self,
@@ -221,6 +189,10 @@ impl Kinds {
         ensures { IfOk result (λ made. MovesTypes (types self.now) (types self.now var)
             (walk (B.pairs bindings.now) (tree term.now)) (option_map types made)) }
     {
-        self.again()?.moved_owned(var, term, bindings)
+        let mut made = self.again()?;
+        if !made.move_over(var, term, bindings)? {
+            return Ok(None);
+        }
+        Ok(Some(made))
     }
 }

@@ -14,7 +14,7 @@ use Rattle.kan_model.proofs.Solving.VariableCount.{occurs_replace}
 use Rattle.unify_core.specs.Walking.{Pairs, ends, full}
 use Rattle.unify_core.specs.Solutions.{IsSolution, bindings_solved, equation}
 use Rattle.unify_core.specs.Unifying.{Unifying}
-use Rattle.unify_core.proofs.Grown.{Grown, full-newest, bound-newest, bound-older, unbound_parts}
+use Rattle.unify_core.proofs.GrowthLaws.{Grown, full-newest, bound-newest, bound-older, unbound_parts}
 use Rattle.unify_core.proofs.Relation.LeftLaws.{Lefts, Lefts-like, Lefts-push, replaces_lefts}
 use Rattle.unify_core.proofs.SolutionLaws.{fill-full, solution_of, solution_unifies, unifier_solves, Unifies-push, Unifies-parts}
 use Rattle.unify_core.proofs.Relation.UnifyingLaws.{unifying_makes}

@@ -3,7 +3,7 @@ use Rattle.std.proofs.Common.{◌≡◌, refl}
 use Rattle.kan_terms.specs.Tree.{Tree, Tm}
 use Rattle.unify_core.specs.Walking.{Pairs, walk}
 use Rattle.unify_core.specs.Laws.{IsEnd, WalksToEnd, FullValues, BindingsReplace}
-use Rattle.unify_core.proofs.Grown.{ends-unbound, ends-bound}
+use Rattle.unify_core.proofs.GrowthLaws.{ends-unbound, ends-bound}
 use Rattle.unify_core.proofs.CycleLaws.{grown}
 use Rattle.unify_core.proofs.WalkLaws.{full-walk, walk-end, walk-bound, walk-unbound, walk-term}
 use Rattle.unify_core.proofs.AnswerLaws.{answered, full_unbound, answer_full, solution_factors, factors_solve}

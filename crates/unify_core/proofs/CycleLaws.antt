@@ -6,7 +6,7 @@ use Rattle.kan_terms.specs.Bound.{bound_to}
 use Rattle.kan_terms.proofs.TreeLaws.{occurs-fill, fill-occurs}
 use Rattle.unify_core.specs.Walking.{Pairs, ends, full}
 use Rattle.unify_core.specs.Cycles.{BoundOnce, HasNoCycle}
-use Rattle.unify_core.proofs.Grown.{Grown, full-newest, bound-newest, bound-older, ends-unbound, ends-bound}
+use Rattle.unify_core.proofs.GrowthLaws.{Grown, full-newest, bound-newest, bound-older, ends-unbound, ends-bound}
 
 -- each variable of a term has a lower rank than the variable that is bound to the term
 abbrev pub Falls : (ℕ → ℕ) → Pairs → Type 0

@@ -2,7 +2,7 @@ pub mod AddedLaws
 pub mod AnswerLaws
 pub mod CycleLaws
 mod Examples
-pub mod Grown
+pub mod GrowthLaws
 pub mod CentralLaw
 pub mod Relation
 pub mod Steps

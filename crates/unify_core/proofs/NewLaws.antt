@@ -7,7 +7,7 @@ use Rattle.kan_terms.proofs.TreeLaws.{occurs-fill}
 use Rattle.unify_core.specs.declared.walking.LentBinding.{LentBinding}
 use Rattle.unify_core.specs.LentBindings.{AllAbove, lent_pair, with_lent}
 use Rattle.unify_core.specs.Walking.{Pairs, ends, full}
-use Rattle.unify_core.proofs.Grown.{full-newest, replace_absent}
+use Rattle.unify_core.proofs.GrowthLaws.{full-newest, replace_absent}
 
 -- a variable is at most the greatest one
 abbrev pub IsUpTo : ℕ → Option ℕ → Type 0

@@ -9,7 +9,7 @@ use Rattle.kan_model.specs.Stores.Unifiers.{Unifies}
 use Rattle.kan_model.proofs.Solving.UnifierLaws.{given, fill-replace}
 use Rattle.unify_core.specs.Walking.{Pairs, walk, ends, full}
 use Rattle.unify_core.specs.Solutions.{IsSolution, bindings_solved, equation}
-use Rattle.unify_core.proofs.Grown.{Grown, full-newest, bound-newest, ends-bound}
+use Rattle.unify_core.proofs.GrowthLaws.{Grown, full-newest, bound-newest, ends-bound}
 use Rattle.unify_core.proofs.WalkLaws.{full-walk}
 
 -- replacing a variable by a term that has its value changes no value

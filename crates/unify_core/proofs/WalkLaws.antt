@@ -5,7 +5,7 @@ use Rattle.kan_terms.specs.Tree.{Tree, Tm, occurs}
 use Rattle.kan_terms.specs.Bound.{bound_to}
 use Rattle.kan_model.specs.Stores.Solve.{replace}
 use Rattle.unify_core.specs.Walking.{Pairs, go_on, walk, full}
-use Rattle.unify_core.proofs.Grown.{Grown, eqb-turn, full-newest, bound-newest, bound-older, unbound_parts, ends-unbound, ends-bound}
+use Rattle.unify_core.proofs.GrowthLaws.{Grown, eqb-turn, full-newest, bound-newest, bound-older, unbound_parts, ends-unbound, ends-bound}
 
 -- what a term walks to has the term's full value
 pub full-walk : (bound : Pairs) → Grown bound → (u : Tm) → full bound (walk bound u) ≡ full bound u

@@ -25,8 +25,8 @@ with_lent [] bound = bound
 with_lent (one ∷ more) bound = with_lent more (lent_pair one ∷ bound)
 
 -- the parts of a pair in which a variable stands, and nothing of other terms
-abbrev pub open_parts : Tm → List Tm
-open_parts t = if is_some (greatest_in t) then parts_of t else []
+abbrev pub parts_unless_ground : Tm → List Tm
+parts_unless_ground t = if is_some (greatest_in t) then parts_of t else []
 
 -- all lent variables are above a number
 abbrev pub AllAbove : ℕ → List LentBinding → Type 0

@@ -32,29 +32,29 @@ meeting t (Tree.leaf y) = Meeting.binding y t
 meeting a b = taken_apart a b
 
 -- what the two sides of an equation ask for under bindings
-abbrev pub met : Pairs → Equation → Meeting
-met bound e = meeting (walk bound e.left) (walk bound e.right)
+abbrev pub asked_by : Pairs → Equation → Meeting
+asked_by bound e = meeting (walk bound e.left) (walk bound e.right)
 
 -- Under bindings these equations, the first one first, add these pairs in this order, or there is
 -- no unifier.
 pub data Unifying : Pairs → List Equation → Option (List (Tm × Tm)) → Type 0 where
   no_equation : {bound : Pairs} → Unifying bound [] (Some [])
   same : {bound : Pairs} {e : Equation} {es : List Equation} {added : Option (List (Tm × Tm))} →
-      met bound e ≡ Meeting.nothing → Unifying bound es added → Unifying bound (e ∷ es) added
+      asked_by bound e ≡ Meeting.nothing → Unifying bound es added → Unifying bound (e ∷ es) added
   parted : {bound : Pairs} {e first rest : Equation} {es : List Equation}
       {added : Option (List (Tm × Tm))} →
-      met bound e ≡ Meeting.parts first rest → Unifying bound (first ∷ rest ∷ es) added →
+      asked_by bound e ≡ Meeting.parts first rest → Unifying bound (first ∷ rest ∷ es) added →
       Unifying bound (e ∷ es) added
   bound_one : {bound : Pairs} {e : Equation} {x : ℕ} {t : Tm} {es : List Equation}
       {added : Option (List (Tm × Tm))} →
-      met bound e ≡ Meeting.binding x t → occurs x (full bound t) ≡ false →
+      asked_by bound e ≡ Meeting.binding x t → occurs x (full bound t) ≡ false →
       Unifying ((x, t) ∷ bound) es added →
       Unifying bound (e ∷ es) (option_map (λ more. (Tree.leaf x, t) ∷ more) added)
   inside : {bound : Pairs} {e : Equation} {x : ℕ} {t : Tm} {es : List Equation} →
-      met bound e ≡ Meeting.binding x t → occurs x (full bound t) ≡ true →
+      asked_by bound e ≡ Meeting.binding x t → occurs x (full bound t) ≡ true →
       Unifying bound (e ∷ es) None
   apart : {bound : Pairs} {e : Equation} {es : List Equation} →
-      met bound e ≡ Meeting.clash → Unifying bound (e ∷ es) None
+      asked_by bound e ≡ Meeting.clash → Unifying bound (e ∷ es) None
 
 -- what one binding adds, or none where its variable stands in its term
 abbrev pub AddsBinding : Pairs → ℕ → Tm → Option (List (Tm × Tm)) → Type 0

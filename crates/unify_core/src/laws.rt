@@ -16,8 +16,8 @@ pub fn full_values_follow()
 {}
 
 /// Bindings in which nothing is ever replaced have exactly the solutions of the replacement that
-/// the solver answers for them, and what a term
-/// walks to, fully, is what the replacement makes of it.
+/// the solver answers for them, and what a term walks to, fully, is what the replacement makes of
+/// it.
 #[tactic(auto, using(crate::proofs::CentralLaw::bindings_replace))]
 pub fn bindings_are_a_replacement()
     ensures { BindingsReplace }

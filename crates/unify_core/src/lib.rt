@@ -7,5 +7,5 @@ mod unifying;
 mod walking;
 
 pub use occurring::occurs;
-pub use unifying::{Unified, unify, unify_owned, would_add};
+pub use unifying::{Unified, unify, unify_owned, would_add, would_add_all};
 pub use walking::walk;

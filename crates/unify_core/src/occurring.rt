@@ -5,7 +5,7 @@ ghost use Rattle.kan_model.specs.Stores.Kept as kept;
 ghost use Rattle.kan_terms.specs.Terms.{tree};
 ghost use Rattle.kan_terms.specs.Tree as trees;
 ghost use Rattle.unify_core.specs.Cycles.{HasNoCycle};
-ghost use Rattle.unify_core.specs.LentBindings.{AllAbove, open_parts, with_lent};
+ghost use Rattle.unify_core.specs.LentBindings.{AllAbove, parts_unless_ground, with_lent};
 ghost use Rattle.kan_terms.specs.Waiting.{waiting_trees};
 ghost use Rattle.unify_core.specs.Walking.{IsOtherEnd, full, walk};
 
@@ -24,8 +24,8 @@ pub fn is_variable(term: &Term, var: u64) -> bool
 }
 
 // Puts the parts of a pair on a stack of waiting terms, unless it has no variable.
-fn wait_for_open_parts<'a>(term: &'a Term, waiting: &mut Vec<&'a Term>) -> Result<(), Memory>
-    ensures { OnOk result (waiting_trees waiting.new.items ≡ open_parts (tree term.now) ++
+fn wait_unless_ground<'a>(term: &'a Term, waiting: &mut Vec<&'a Term>) -> Result<(), Memory>
+    ensures { OnOk result (waiting_trees waiting.new.items ≡ parts_unless_ground (tree term.now) ++
         waiting_trees waiting.old.items) }
 {
     if term.greatest_variable().is_none() {
@@ -47,14 +47,14 @@ fn look_at<'a, B: Bindings>(
         kept.is_variable var (walk (with_lent lent.now (B.pairs bindings.now)) (tree term.now))) }
     ensures waits { IfOk result (λ found. found ≡ false →
         waiting_trees waiting.new.items ≡
-        open_parts (walk (with_lent lent.now (B.pairs bindings.now)) (tree term.now)) ++
+        parts_unless_ground (walk (with_lent lent.now (B.pairs bindings.now)) (tree term.now)) ++
         waiting_trees waiting.old.items) }
 {
     let reached = walk_on(term, bindings, lent);
     if is_variable(reached, var) {
         return Ok(true);
     }
-    wait_for_open_parts(reached, waiting)?;
+    wait_unless_ground(reached, waiting)?;
     Ok(false)
 }
 

@@ -11,7 +11,7 @@ ghost use Rattle.unify_core.specs.LentBindings.{Binds, MeetsTo, StepTo, equation
 ghost use Rattle.unify_core.specs.LentBindings.{equations_ahead, left_by, lent_sides};
 ghost use Rattle.unify_core.specs.LentBindings.{waiting_equations, with_lent, with_next};
 ghost use Rattle.unify_core.specs.Solutions.{AddedTo, IsSolution, bindings_solved, equation};
-ghost use Rattle.unify_core.specs.Unifying.{Adds, AddsBinding, Unifying, meeting, met};
+ghost use Rattle.unify_core.specs.Unifying.{Adds, AddsBinding, Unifying, meeting, asked_by};
 ghost use Rattle.unify_core.specs.Unifying.{same_atoms, taken_apart};
 ghost use Rattle.unify_core.specs.Walking as walking;
 ghost use Rattle.unify_core.specs.Walking.{IsOtherEnd, Pairs};
@@ -122,7 +122,7 @@ fn meet<'a, B: Bindings>(
     requires { HasNoCycle (with_lent lent.old.items (B.pairs bindings.now)) }
     ensures { IfOk result
         (λ left. MeetsTo (B.pairs bindings.now) lent.old.items left lent.new.items
-        (met (with_lent lent.old.items (B.pairs bindings.now)) (equation_of next.entry))) }
+        (asked_by (with_lent lent.old.items (B.pairs bindings.now)) (equation_of next.entry))) }
 {
     let left = walk_on(next.left, bindings, lent);
     let right = walk_on(next.right, bindings, lent);
@@ -184,7 +184,7 @@ fn step<'a, B: Bindings>(
         (λ after.
         StepTo (B.pairs bindings.now) lent.old.items (equations_ahead ahead.old)
         (option_map (λ next. with_next next (equations_ahead ahead.new)) after) lent.new.items
-        (met (with_lent lent.old.items (B.pairs bindings.now)) (equation_of next.entry))) }
+        (asked_by (with_lent lent.old.items (B.pairs bindings.now)) (equation_of next.entry))) }
 {
     match meet(alloc, next, bindings, lent)? {
         Met::Same => Ok(Some(take_ahead(ahead))),
@@ -278,7 +278,7 @@ fn added_in_order<'a, B: Bindings>(
 
 /// What unification of the sides of all pairs, the first pair first, would add to bindings; None
 /// where there is no unifier. It makes no bindings.
-pub fn would_add<B: Bindings>(
+pub fn would_add_all<B: Bindings>(
     alloc: Global,
     pairs: &[TermPair],
     bindings: &B,
@@ -348,8 +348,9 @@ fn added_by_ends<B: Bindings>(
     )
 }
 
-// What unification of two terms would add to bindings.
-fn added_by<B: Bindings>(
+/// What unification of two terms would add to bindings; None where there is no unifier. It makes no
+/// bindings.
+pub fn would_add<B: Bindings>(
     alloc: Global,
     left: &Term,
     right: &Term,
@@ -404,7 +405,7 @@ pub fn unify_owned<B: Bindings>(
         (solver.solve (bindings_solved (B.pairs bindings) ++
         equation (tree left.now) (tree right.now) ∷ []) ≡ None)) }
 {
-    match added_by(alloc, left, right, &bindings)? {
+    match would_add(alloc, left, right, &bindings)? {
         None => Ok(None),
         Some(added) => {
             let bindings = bind_all(bindings, added.items())?;

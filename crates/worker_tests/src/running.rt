@@ -4,8 +4,7 @@ ghost use Rattle.std.specs.Prelude.{◌≡◌, true, false};
 ghost use Rattle.pull_budget.specs.Seats.{view, IsSeatOf};
 ghost use Rattle.stream_core.specs.Tables.{IsTableOf};
 ghost use Rattle.task_deques.specs.Holders.{holder_part, IsHolderOf};
-ghost use Rattle.susp_cells.specs.Places.{names_of};
-ghost use Rattle.susp_cells.specs.Tables.{table_of};
+ghost use Rattle.susp_cells.specs.Tables.{home_of, table_of};
 
 use crew::{Offered, Tally, work};
 use kan_model::{Program, Store};
@@ -77,7 +76,7 @@ fn work_on<St: Store, R: Wait>(
     requires table { IsTableOf program.now (table_of table.now) }
     requires seat { IsSeatOf budget.now seat }
     requires hired { ((view seat).puller ≡ false) × ((view seat).set ≡ false) }
-    requires home { IsHolderOf (names_of table.now.labels) holder }
+    requires home { IsHolderOf (home_of table.now) holder }
     ensures seat { IsSeatOf budget.now result.seat × ((view result.seat).puller ≡ false) }
     ensures part { holder_part result.holder ≡ holder_part holder }
 {
@@ -116,7 +115,7 @@ pub fn beside<St: Store + Send + Sync, R: Threads + Wait + Sync>(
     requires seat { IsSeatOf budget.now seat × ((view seat).puller ≡ true) }
     requires other { IsSeatOf budget.now other }
     requires hired { ((view other).puller ≡ false) × ((view other).set ≡ false) }
-    requires home { IsHolderOf (names_of table.now.labels) holder }
+    requires home { IsHolderOf (home_of table.now) holder }
     ensures seat { IsSeatOf budget.now result.0 × ((view result.0).puller ≡ true) }
     ensures other { IsSeatOf budget.now result.1.seat × ((view result.1.seat).puller ≡ false) }
     ensures part { holder_part result.1.holder ≡ holder_part holder }
@@ -130,7 +129,7 @@ pub fn beside<St: Store + Send + Sync, R: Threads + Wait + Sync>(
         move ||
             requires { IsTableOf program.now (table_of table.now) × IsSeatOf budget.now other
                 × ((view other).puller ≡ false) × ((view other).set ≡ false)
-                × IsHolderOf (names_of table.now.labels) holder }
+                × IsHolderOf (home_of table.now) holder }
             ensures { IsSeatOf budget.entry.now result.seat
                 × ((view result.seat).puller ≡ false)
                 × (holder_part result.holder ≡ holder_part holder) }

@@ -5,8 +5,7 @@ ghost use Rattle.kan_model.specs.Programs.Closed as programs;
 ghost use Rattle.pull_budget.specs.Seats.{view, IsSeatOf};
 ghost use Rattle.stream_core.specs.Tables.{IsTableOf};
 ghost use Rattle.task_deques.specs.Holders.{holder_part, AreWhole, IsUnusedHolder};
-ghost use Rattle.susp_cells.specs.Places.{names_of};
-ghost use Rattle.susp_cells.specs.Tables.{table_of, program_of, IsIn};
+ghost use Rattle.susp_cells.specs.Tables.{home_of, table_of, program_of, IsIn};
 ghost use Rattle.worker_tests.specs.Endless.{endless_tables, endless};
 
 use crate::chains::compared;
@@ -36,8 +35,8 @@ fn two_holders<St: Store>(
     table: &Table<'_, St>,
 ) -> Result<(Holder<Offered<St>>, Holder<Offered<St>>), Memory>
     ensures whole { IfOk result (λ two. AreWhole (holder_part two.0 ∷ holder_part two.1 ∷ [])) }
-    ensures first { IfOk result (λ two. IsUnusedHolder (names_of table.now.labels) two.0) }
-    ensures second { IfOk result (λ two. IsUnusedHolder (names_of table.now.labels) two.1) }
+    ensures first { IfOk result (λ two. IsUnusedHolder (home_of table.now) two.0) }
+    ensures second { IfOk result (λ two. IsUnusedHolder (home_of table.now) two.1) }
 {
     let mut deques = crew_deques(alloc, table, 2);
     let mut all = deques.deal()?;

@@ -4,6 +4,7 @@ use Rattle.std.specs.Prelude.{Bool, true, false, ◌==◌, Option, Some, None, o
 use Rattle.std.specs.List.{list_all, flat_map}
 use Rattle.std.proofs.lemmas.Bool.{eqb-true, eq-eqb, and_from, and_parts}
 use Rattle.std.proofs.lemmas.Option.{slice_get-map}
+use Rattle.kan_refusals.specs.declared.refusals.Refusal.{Refusal}
 use Rattle.kan_model.specs.Programs.Goals.{Goal, Relation}
 use Rattle.kan_grammar.specs.declared.dialect.Dialect.{Dialect}
 use Rattle.kan_grammar.specs.declared.dialect.Dialect.TheVariants.{Book, All}
@@ -47,7 +48,7 @@ call_takes : (r : Option ℕ) (at n : ℕ) → call_faults r at n ≡ [] → r �
 call_takes None at n h = absurd cc
 call_takes (Some k) at n h = ap Some (by_test (n == k) refl h)
   where
-    by_test : (b : Bool) → (n == k) ≡ b → unless b (fault at 13) ≡ [] → k ≡ n
+    by_test : (b : Bool) → (n == k) ≡ b → unless b (fault at Refusal.WrongCount) ≡ [] → k ≡ n
     by_test true e i = sym (eqb-true n k e)
     by_test false e i = absurd cc
 

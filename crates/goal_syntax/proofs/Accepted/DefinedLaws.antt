@@ -2,6 +2,7 @@
 use Rattle.std.proofs.Common.{◌≡◌, ℕ, suc, List, [], ◌∷◌, ◌++◌, map, length, refl, sym, ◌∙◌, ap, ap₂}
 use Rattle.std.specs.Prelude.{Bool, true, false, ◌&&◌, Option, Some, None, is_some, option_map, if◌then◌else◌}
 use Rattle.std.proofs.lemmas.List.{map-append}
+use Rattle.kan_refusals.specs.declared.refusals.Refusal.{Refusal}
 use Rattle.kan_terms.specs.Table.{Table}
 use Rattle.kan_grammar.specs.declared.dialect.Dialect.{Dialect}
 use Rattle.kan_grammar.specs.Data.Faults.{fault}
@@ -44,11 +45,11 @@ bound_count t before (Sited.pair at (Sited.name a s) d) es h e =
 
 -- a head that is no proper list
 abbrev no_head : ℕ → Checked (List ℕ)
-no_head at = record { value = []; faults = fault at 10 ∷ [] }
+no_head at = record { value = []; faults = fault at Refusal.BadShape ∷ [] }
 
 -- a head whose name is no symbol
 abbrev nameless_head : ℕ → Table → Sited → Checked (List ℕ)
-nameless_head at t params = record { value = bound_names params; faults = fault at 10 ∷ [] ++ names_faults t [] params }
+nameless_head at t params = record { value = bound_names params; faults = fault at Refusal.BadShape ∷ [] ++ names_faults t [] params }
 
 -- a head whose name is a symbol
 abbrev named_head : Table → Sited → Checked (List ℕ)
@@ -74,11 +75,11 @@ head_defines t before (Sited.pair at (Sited.nil a) params) h k = absurd (bad_hea
 head_defines t before (Sited.pair at (Sited.pair a b c) params) h k = absurd (bad_head (is_proper params) a at t params k)
 head_defines t before (Sited.pair at (Sited.name a s) params) h k = by_params (elements params) refl h k
   where
-    by_word : (w : Word) (new : Bool) (es : List Sited) → length (bound_names params) ≡ length es → unless (is_other w && new) (fault a 14) ≡ [] →
+    by_word : (w : Word) (new : Bool) (es : List Sited) → length (bound_names params) ≡ length es → unless (is_other w && new) (fault a Refusal.DefinedTwice) ≡ [] →
         defined_params (if is_other w then record { name = s; params = length es } ∷ [] else []) ≡ length (bound_names params) ∷ []
     by_word w new es same e = by_other (is_other w) e
       where
-        by_other : (b : Bool) → unless (b && new) (fault a 14) ≡ [] → defined_params (if b then record { name = s; params = length es } ∷ [] else []) ≡ length (bound_names params) ∷ []
+        by_other : (b : Bool) → unless (b && new) (fault a Refusal.DefinedTwice) ≡ [] → defined_params (if b then record { name = s; params = length es } ∷ [] else []) ≡ length (bound_names params) ∷ []
         by_other true f = ap (λ n. n ∷ []) (sym same)
         by_other false f = absurd cc
 

@@ -5,6 +5,7 @@ use Rattle.std.specs.List.{list_all, flat_map}
 use Rattle.std.proofs.lemmas.Bool.{lt-ltb, and_from, and_parts}
 use Rattle.std.proofs.lemmas.Grind.{flat_map-append}
 use Rattle.std.proofs.lemmas.List.{length-map}
+use Rattle.kan_refusals.specs.declared.refusals.Refusal.{Refusal}
 use Rattle.kan_terms.specs.Tree.{Tree, leaves}
 use Rattle.kan_model.specs.Programs.Goals.{Goal}
 use Rattle.kan_grammar.specs.declared.dialect.Dialect.{Dialect}
@@ -40,7 +41,7 @@ slot_there (n ∷ ns) s i e = by_tests (is_named n s) (slot_of ns s) (λ k h. sl
 use_below : (ns : Names) (u : Use) → use_faults ns u ≡ [] → all_below (length ns) (leaf_in ns u) ≡ true
 use_below ns (variable at s) h = by_slot (slot_of ns s) refl h
   where
-    by_slot : (r : Option ℕ) → slot_of ns s ≡ r → unless (is_some r) (fault at 11) ≡ [] → nat_lt (unwrap_or r 0) (length ns) ≡ true
+    by_slot : (r : Option ℕ) → slot_of ns s ≡ r → unless (is_some r) (fault at Refusal.UnboundName) ≡ [] → nat_lt (unwrap_or r 0) (length ns) ≡ true
     by_slot None e k = absurd cc
     by_slot (Some i) e k = lt-ltb i (length ns) (slot_there ns s i e)
 use_below ns (misshapen at) h = absurd cc

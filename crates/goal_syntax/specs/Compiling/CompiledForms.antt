@@ -36,6 +36,6 @@ CompilesForms dialect names library text (Ok c) =
     × IsMeant (text_meaning dialect names library text) c.program c.queries
     × (are_named names (programs.tables c.program) ≡ true)
     × (entry_names (programs.tables c.program) ≡ relation_names names (library ++ text))
-CompilesForms dialect names library text (Err (Fault at number)) =
-    least (faults_of names library text) ≡ Some (faults.fault at number)
+CompilesForms dialect names library text (Err (Fault at r)) =
+    least (faults_of names library text) ≡ Some (faults.fault at r)
 CompilesForms dialect names library text (Err Memory) = Unit {0}

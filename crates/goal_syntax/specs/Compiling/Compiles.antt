@@ -68,15 +68,15 @@ abbrev pub Compiles : Dialect → Table → List Datum → List Datum → Result
     Type 0
 Compiles dialect names library text (Ok c) =
     IsCompiled dialect names library text c.program c.queries
-Compiles dialect names library text (Err (Fault at number)) =
-    fault_found names library text ≡ Some (faults.fault at number)
+Compiles dialect names library text (Err (Fault at r)) =
+    fault_found names library text ≡ Some (faults.fault at r)
 Compiles dialect names library text (Err Memory) = Unit {0}
 
 -- the table afterwards has the symbols that prefixes stand for; where memory is wanting, maybe not
 -- all of them
 abbrev pub TableAfter : Table → Table → Result Compiled SyntaxError → Type 0
 TableAfter before after (Ok c) = after ≡ with_prefixes before
-TableAfter before after (Err (Fault at number)) = after ≡ with_prefixes before
+TableAfter before after (Err (Fault at r)) = after ≡ with_prefixes before
 TableAfter before after (Err Memory) = Extends 3 before after
 
 -- data are those of a text, which is at most 1,048,576 bytes long

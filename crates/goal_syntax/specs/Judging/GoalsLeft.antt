@@ -1,6 +1,7 @@
 -- The faults of what waits to be judged.
 use Rattle.std.specs.Prelude.{ℕ, ◌+◌, List, [], ◌∷◌, ◌++◌, length, take}
 use Rattle.std.specs.List.{flat_map}
+use Rattle.kan_refusals.specs.declared.refusals.Refusal.{Refusal}
 use Rattle.kan_terms.specs.Table.{Table}
 use Rattle.kan_grammar.specs.Texts.Sited.{Sited}
 use Rattle.kan_grammar.specs.Data.Faults.{Fault, fault}
@@ -33,7 +34,7 @@ own_faults rs t ds ns (Absent a b) =
 own_faults rs t ds ns (Call at s args) =
     call_faults (arity rs s) at (length (term_forms t (site_at ds args)))
     ++ flat_map (term_faults ns) (term_forms t (site_at ds args))
-own_faults rs t ds ns (Misshapen at) = fault at 10 ∷ []
+own_faults rs t ds ns (Misshapen at) = fault at Refusal.BadShape ∷ []
 own_faults rs t ds ns g = []
 
 -- the faults of its binder, and of its goals

@@ -1,13 +1,14 @@
 -- Texts that stand as deep as a datum may, and one deeper.
 use Rattle.std.specs.Prelude.{◌≡◌, true, [], ◌∷◌, ◌++◌, replicate, refl}
+use Rattle.kan_refusals.specs.declared.refusals.Refusal.{Refusal}
 use Rattle.kan_grammar.specs.Data.Faults.{refused, fault}
 use Rattle.kan_grammar.proofs.Data.Examples.{read_ascii, is_read}
 
-openings_deep : read_ascii (replicate 2049 40) ≡ refused (fault 2048 2)
+openings_deep : read_ascii (replicate 2049 40) ≡ refused (fault 2048 Refusal.UnclosedList)
 unfolding read_ascii
 openings_deep = refl
 
-openings_too_deep : read_ascii (replicate 2050 40) ≡ refused (fault 2049 6)
+openings_too_deep : read_ascii (replicate 2050 40) ≡ refused (fault 2049 Refusal.TooDeep)
 unfolding read_ascii
 openings_too_deep = refl
 
@@ -16,14 +17,14 @@ atom_in_prefixes : is_read (read_ascii (replicate 1024 39 ++ 97 ∷ [])) ≡ tru
 unfolding read_ascii
 atom_in_prefixes = refl
 
-atom_too_deep : read_ascii (replicate 1025 39 ++ 97 ∷ []) ≡ refused (fault 1025 6)
+atom_too_deep : read_ascii (replicate 1025 39 ++ 97 ∷ []) ≡ refused (fault 1025 Refusal.TooDeep)
 unfolding read_ascii
 atom_too_deep = refl
 
-close_too_deep : read_ascii (replicate 1025 39 ++ 41 ∷ []) ≡ refused (fault 1024 4)
+close_too_deep : read_ascii (replicate 1025 39 ++ 41 ∷ []) ≡ refused (fault 1024 Refusal.BadToken)
 unfolding read_ascii
 close_too_deep = refl
 
-prefix_too_deep : read_ascii (replicate 1026 39) ≡ refused (fault 1025 6)
+prefix_too_deep : read_ascii (replicate 1026 39) ≡ refused (fault 1025 Refusal.TooDeep)
 unfolding read_ascii
 prefix_too_deep = refl

@@ -1,5 +1,6 @@
 -- Strings: their tokens, what no string may hold, and their printing.
 use Rattle.std.specs.Prelude.{◌≡◌, ℕ, List, [], ◌∷◌, map, refl}
+use Rattle.kan_refusals.specs.declared.refusals.Refusal.{Refusal}
 use Rattle.kan_grammar.specs.Data.Tokens.{placed}
 use Rattle.kan_grammar.specs.Data.Words.{symbol, string, opening, closing, round, prefix, quote, atom, bad, bad_string}
 use Rattle.kan_grammar.specs.Data.Faults.{Reading, refused, fault}
@@ -54,40 +55,40 @@ abbrev around : ℕ → Reading Written
 around b = read (34 ∷ b ∷ 34 ∷ [])
 
 abbrev bad_at_start : Reading Written
-bad_at_start = refused (fault 0 16)
+bad_at_start = refused (fault 0 Refusal.BadString)
 
 control_characters : map around control_bytes ≡ map (λ b. bad_at_start) control_bytes
 unfolding read
 control_characters = refl
 
 -- a string that isn't closed: at the end of the text, before a line feed, and behind a backslash
-not_closed : read (codes "(run* q (== q \"a))") ≡ refused (fault 14 16)
+not_closed : read (codes "(run* q (== q \"a))") ≡ refused (fault 14 Refusal.BadString)
 unfolding read
 not_closed = refl
 
-closed_on_the_next_line : read (codes "(a \"b\nc\")") ≡ refused (fault 3 16)
+closed_on_the_next_line : read (codes "(a \"b\nc\")") ≡ refused (fault 3 Refusal.BadString)
 unfolding read
 closed_on_the_next_line = refl
 
-ends_behind_a_backslash : read (codes "\"a\\") ≡ refused (fault 0 16)
+ends_behind_a_backslash : read (codes "\"a\\") ≡ refused (fault 0 Refusal.BadString)
 unfolding read
 ends_behind_a_backslash = refl
 
-mark_behind_a_backslash : read (codes "\"a\\\"") ≡ refused (fault 0 16)
+mark_behind_a_backslash : read (codes "\"a\\\"") ≡ refused (fault 0 Refusal.BadString)
 unfolding read
 mark_behind_a_backslash = refl
 
 -- it is asked before a second datum after a dot, and a bad token that stands before it comes first
-before_the_dot : read (codes "(a . b \"c") ≡ refused (fault 7 16)
+before_the_dot : read (codes "(a . b \"c") ≡ refused (fault 7 Refusal.BadString)
 unfolding read
 before_the_dot = refl
 
-behind_a_bad_token : read (codes "| \"c") ≡ refused (fault 0 4)
+behind_a_bad_token : read (codes "| \"c") ≡ refused (fault 0 Refusal.BadToken)
 unfolding read
 behind_a_bad_token = refl
 
 -- a string after the datum after a dot
-second_after_a_dot : read (codes "(a . b \"c\")") ≡ refused (fault 3 5)
+second_after_a_dot : read (codes "(a . b \"c\")") ≡ refused (fault 3 Refusal.BadDot)
 unfolding read
 second_after_a_dot = refl
 

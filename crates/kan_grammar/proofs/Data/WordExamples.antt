@@ -1,5 +1,6 @@
 -- Words that look alike, read as texts, and a datum as it is written.
 use Rattle.std.specs.Prelude.{◌≡◌, true, [], ◌∷◌, refl}
+use Rattle.kan_refusals.specs.declared.refusals.Refusal.{Refusal}
 use Rattle.kan_grammar.specs.Data.Words.{symbol, round, square}
 use Rattle.kan_grammar.specs.Data.Written.{single, list, element, dotted, close}
 use Rattle.kan_grammar.specs.Data.Faults.{data_are, refused, fault}
@@ -7,27 +8,27 @@ use Rattle.kan_grammar.proofs.Data.Examples.{read, is_read}
 use lib.Chars.{codes}
 
 -- a bad word
-one_and_plus : read (codes "1+") ≡ refused (fault 0 4)
+one_and_plus : read (codes "1+") ≡ refused (fault 0 Refusal.BadToken)
 unfolding read
 one_and_plus = refl
 
 -- a bad word
-point_five : read (codes ".5") ≡ refused (fault 0 4)
+point_five : read (codes ".5") ≡ refused (fault 0 Refusal.BadToken)
 unfolding read
 point_five = refl
 
 -- a bad word
-true_twice : read (codes "#tt") ≡ refused (fault 0 4)
+true_twice : read (codes "#tt") ≡ refused (fault 0 Refusal.BadToken)
 unfolding read
 true_twice = refl
 
 -- a comma before an at sign
-comma_at : read (codes ",@x") ≡ refused (fault 0 4)
+comma_at : read (codes ",@x") ≡ refused (fault 0 Refusal.BadToken)
 unfolding read
 comma_at = refl
 
 -- an underscore and a digit
-underscore_zero : read (codes "_0") ≡ refused (fault 0 8)
+underscore_zero : read (codes "_0") ≡ refused (fault 0 Refusal.ReservedName)
 unfolding read
 underscore_zero = refl
 

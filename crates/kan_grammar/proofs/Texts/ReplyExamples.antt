@@ -2,6 +2,7 @@
 use Rattle.std.specs.Prelude.{◌≡◌, ℕ, List, [], ◌∷◌, None, refl}
 use Rattle.std.specs.Str.{is_utf8, chars}
 use Rattle.std.specs.Char.{encode_utf8}
+use Rattle.kan_refusals.specs.declared.refusals.Refusal.{Refusal}
 use Rattle.kan_terms.specs.Tree.{Tree}
 use Rattle.std.specs.Fmt.{digits}
 use Rattle.kan_model.specs.Stores.Solve.{solve_by, rounds, steps}
@@ -39,11 +40,11 @@ unfolding reply_in_book
 accepted_text = refl
 
 -- a fault of its data comes before one of its forms
-refused_for_data : reply_in_book [] (codes "(foo) (run* q (== q \"a))") ≡ Reply.refusal (fault 20 16)
+refused_for_data : reply_in_book [] (codes "(foo) (run* q (== q \"a))") ≡ Reply.refusal (fault 20 Refusal.BadString)
 unfolding reply_in_book
 refused_for_data = refl
 
-refused_for_forms : reply_in_book [] (codes "(run* q (== q x) (foo q))") ≡ Reply.refusal (fault 14 11)
+refused_for_forms : reply_in_book [] (codes "(run* q (== q x) (foo q))") ≡ Reply.refusal (fault 14 Refusal.UnboundName)
 unfolding reply_in_book
 refused_for_forms = refl
 
@@ -56,7 +57,7 @@ unfolding reply_in_book
 spelled_in_a_library = refl
 
 -- a call of a relation of the library with too many arguments
-refused_behind_a_library : reply_in_book (codes "(defrel (two p) (fresh (a) (== p `(a . ,a))))") (codes "(run* q (two q q))") ≡ Reply.refusal (fault 9 13)
+refused_behind_a_library : reply_in_book (codes "(defrel (two p) (fresh (a) (== p `(a . ,a))))") (codes "(run* q (two q q))") ≡ Reply.refusal (fault 9 Refusal.WrongCount)
 unfolding reply_in_book
 refused_behind_a_library = refl
 

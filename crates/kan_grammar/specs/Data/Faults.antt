@@ -4,6 +4,7 @@ use Rattle.std.specs.Prelude.{ℕ, Bool, true, false, nat_le, if◌then◌else�
 use Rattle.std.specs.Prelude.{Some, None}
 use Rattle.std.specs.Str.{is_utf8}
 use Rattle.std.specs.Str.Lossy.{utf8_valid_len}
+use Rattle.kan_refusals.specs.declared.refusals.Refusal.{Refusal}
 use Rattle.kan_grammar.specs.Data.Tokens.{Placed, placed, tokens}
 use Rattle.kan_grammar.specs.Data.Words.{out_of_range, reserved, Shape, round, square, Token}
 use Rattle.kan_grammar.specs.Data.Words.{opening, closing, prefix, dot, atom, bad_string, bad}
@@ -12,23 +13,23 @@ use Rattle.kan_grammar.specs.Data.Enclosing.{Build, top, in_list, after_dot, aft
 use Rattle.kan_grammar.specs.Data.Enclosing.{Enclosing, awaiting, ended, depth, innermost_shape}
 use Rattle.kan_grammar.specs.Data.Enclosing.{put}
 
--- an offset and the number of a refusal
+-- an offset and the refusal that stands there
 pub data Fault : Type 0 where
-  fault : ℕ → ℕ → Fault
+  fault : ℕ → Refusal → Fault
 
 -- the token is bad
 abbrev pub is_bad : ℕ → Token → Option Fault
-is_bad at bad = Some (fault at 4)
+is_bad at bad = Some (fault at Refusal.BadToken)
 is_bad at _ = None
 
 -- the token begins with a quotation mark and is no string
 abbrev pub is_bad_string : ℕ → Token → Option Fault
-is_bad_string at bad_string = Some (fault at 16)
+is_bad_string at bad_string = Some (fault at Refusal.BadString)
 is_bad_string at _ = None
 
 -- the token is a close, directly after a prefix
 abbrev pub closes_prefix : {D : Type 0} → Token → Enclosing D → Option Fault
-closes_prefix (closing s) (awaiting (after_prefix outer at p)) = Some (fault at 4)
+closes_prefix (closing s) (awaiting (after_prefix outer at p)) = Some (fault at Refusal.BadToken)
 closes_prefix _ _ = None
 
 -- the shape of the innermost list
@@ -44,18 +45,20 @@ is_shape _ _ = false
 
 -- the token is a close, and no list is open or the innermost open list has the other shape
 abbrev pub is_stray : {D : Type 0} → ℕ → Token → Enclosing D → Option Fault
-is_stray at (closing s) o = if is_shape (innermost o) s then None else Some (fault at 3)
+is_stray at (closing s) o =
+    if is_shape (innermost o) s then None else Some (fault at Refusal.StrayClose)
 is_stray at _ o = None
 
 -- the token is a close, directly after a dot
 abbrev pub closes_dot : {D : Type 0} → Token → Enclosing D → Option Fault
-closes_dot (closing r) (awaiting (after_dot outer at s e ds point)) = Some (fault point 5)
+closes_dot (closing r) (awaiting (after_dot outer at s e ds point)) =
+    Some (fault point Refusal.BadDot)
 closes_dot _ _ = None
 
 -- the token is a dot, and not one directly inside a list after an element and after no other dot
 abbrev pub is_misplaced : {D : Type 0} → ℕ → Token → Enclosing D → Option Fault
 is_misplaced at dot (awaiting (in_list outer start s (d ∷ ds))) = None
-is_misplaced at dot _ = Some (fault at 5)
+is_misplaced at dot _ = Some (fault at Refusal.BadDot)
 is_misplaced at _ _ = None
 
 -- the token begins a datum
@@ -67,23 +70,25 @@ begins _ = false
 
 -- the token begins a second datum after a dot in its list
 abbrev pub is_second : {D : Type 0} → Token → Enclosing D → Option Fault
-is_second t (ended outer start s e ds point d) = if begins t then Some (fault point 5) else None
+is_second t (ended outer start s e ds point d) =
+    if begins t then Some (fault point Refusal.BadDot) else None
 is_second t (awaiting p) = None
 
 -- the token begins a datum that stands too deep
 abbrev pub is_too_deep : {D : Type 0} → ℕ → Token → Enclosing D → Option Fault
 is_too_deep at t (awaiting p) =
-    if begins t then (if nat_le (depth p) deepest then None else Some (fault at 6)) else None
+    if begins t
+    then (if nat_le (depth p) deepest then None else Some (fault at Refusal.TooDeep)) else None
 is_too_deep at t (ended outer start s e ds point d) = None
 
 -- the token is a number out of range
 abbrev pub is_out_of_range : ℕ → Token → Option Fault
-is_out_of_range at (atom out_of_range) = Some (fault at 7)
+is_out_of_range at (atom out_of_range) = Some (fault at Refusal.NumberRange)
 is_out_of_range at _ = None
 
 -- the token is a reserved name
 abbrev pub is_reserved_name : ℕ → Token → Option Fault
-is_reserved_name at (atom reserved) = Some (fault at 8)
+is_reserved_name at (atom reserved) = Some (fault at Refusal.ReservedName)
 is_reserved_name at _ = None
 
 -- the first answer
@@ -139,10 +144,10 @@ pub data Reading (D : Type 0) : Type 0 where
 -- at the end: a prefix without its datum, and no list opened after it; else an open list
 abbrev pub answer_at_end : {D : Type 0} → Enclosing D → Reading D
 answer_at_end (awaiting (top ds)) = data_are ds
-answer_at_end (awaiting (after_prefix outer at p)) = refused (fault at 4)
-answer_at_end (awaiting (in_list outer at s ds)) = refused (fault at 2)
-answer_at_end (awaiting (after_dot outer at s e ds point)) = refused (fault at 2)
-answer_at_end (ended outer at s e ds point d) = refused (fault at 2)
+answer_at_end (awaiting (after_prefix outer at p)) = refused (fault at Refusal.BadToken)
+answer_at_end (awaiting (in_list outer at s ds)) = refused (fault at Refusal.UnclosedList)
+answer_at_end (awaiting (after_dot outer at s e ds point)) = refused (fault at Refusal.UnclosedList)
+answer_at_end (ended outer at s e ds point d) = refused (fault at Refusal.UnclosedList)
 
 -- what a reading comes to at the end
 abbrev pub finish : {D : Type 0} → Progress D → Reading D
@@ -160,7 +165,7 @@ read_tokens b ts = finish (run b beginning ts)
 -- bytes that are no UTF-8 are refused first, where they stop being it
 abbrev pub read_if : {D : Type 0} → Build D → Bool → List ℕ → Reading D
 read_if b true bytes = read_tokens b (tokens bytes)
-read_if b false bytes = refused (fault (utf8_valid_len bytes) 1)
+read_if b false bytes = refused (fault (utf8_valid_len bytes) Refusal.NotUtf8)
 
 -- the data that a text's bytes are, or the first fault
 unfoldable pub read_text : {D : Type 0} → Build D → List ℕ → Reading D

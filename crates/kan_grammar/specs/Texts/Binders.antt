@@ -2,6 +2,7 @@
 use Rattle.std.specs.Prelude.{ℕ, Bool, not, ◌&&◌, ◌==◌, List, [], ◌∷◌, ◌++◌, Option, Some, None}
 use Rattle.std.specs.Prelude.{if◌then◌else◌}
 use Rattle.std.specs.List.{list_any}
+use Rattle.kan_refusals.specs.declared.refusals.Refusal.{Refusal}
 use Rattle.kan_terms.specs.Table.{Table}
 use Rattle.kan_grammar.specs.Data.Faults.{Fault, fault}
 use Rattle.kan_grammar.specs.Texts.Sited.{Sited, site, is_proper}
@@ -22,8 +23,9 @@ may_bind t before s = is_other (word t s) && not (is_among before s)
 
 -- a part of a binder, which is a symbol and may be a name of it
 abbrev pub binder_faults : Table → List ℕ → Sited → List Fault
-binder_faults t before (Sited.name at s) = if may_bind t before s then [] else fault at 10 ∷ []
-binder_faults t before d = fault (site d) 10 ∷ []
+binder_faults t before (Sited.name at s) =
+    if may_bind t before s then [] else fault at Refusal.BadShape ∷ []
+binder_faults t before d = fault (site d) Refusal.BadShape ∷ []
 
 -- the symbol of a part of a binder
 abbrev pub names_of : Sited → List ℕ
@@ -45,7 +47,7 @@ names_faults t before d = []
 abbrev pub binder : Table → Sited → Checked (List ℕ)
 binder t d =
     if is_proper d then record { value = bound_names d; faults = names_faults t [] d }
-    else record { value = []; faults = fault (site d) 10 ∷ [] }
+    else record { value = []; faults = fault (site d) Refusal.BadShape ∷ [] }
 
 -- the tag of an absento is a quoted symbol
 abbrev pub quoted_symbol : Table → Sited → Option ℕ
@@ -56,7 +58,7 @@ quoted_symbol t d = None
 -- the tag, where it is one
 abbrev pub tag_or : Option ℕ → ℕ → Checked ℕ
 tag_or (Some s) at = record { value = s; faults = [] }
-tag_or None at = record { value = 0; faults = fault at 15 ∷ [] }
+tag_or None at = record { value = 0; faults = fault at Refusal.BadTag ∷ [] }
 
 abbrev pub tag : Table → Sited → Checked ℕ
 tag t d = tag_or (quoted_symbol t d) (site d)

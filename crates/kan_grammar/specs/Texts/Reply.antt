@@ -4,7 +4,7 @@ use Rattle.std.specs.Prelude.{◌≡◌, ℕ, Bool, true, false, List, [], ◌�
 use Rattle.std.specs.Prelude.{codes}
 use Rattle.std.specs.List.{list_any}
 use Rattle.kan_terms.specs.Table.{Table}
-use Rattle.kan_refusals.specs.Refusals.{number_of, refusal_of, text_of}
+use Rattle.kan_refusals.specs.Refusals.{number_of, text_of}
 use Rattle.kan_refusals.specs.declared.refusals.Refusal.{Refusal}
 use Rattle.kan_model.specs.Programs.Goals.{Program, Query}
 use Rattle.kan_model.specs.Streams.Taking.{Ending, take_query}
@@ -64,12 +64,8 @@ line_at at r =
     (codes "error " ++ decimal_text (number_of r) ++ codes " at " ++ decimal_text at ++ codes ": "
     ++ text_of r) ++ 10 ∷ []
 
-abbrev pub line_of : Option Refusal → ℕ → List ℕ
-line_of (Some r) at = line_at at r
-line_of None at = []
-
 abbrev pub refusal_line : Fault → List ℕ
-refusal_line (fault at number) = line_of (refusal_of number) at
+refusal_line (fault at r) = line_at at r
 
 -- what is written for a reply at a fuel: the line of its refusal, or the output of its runs
 abbrev pub reply_bytes : ℕ → Reply → List ℕ

@@ -2,6 +2,8 @@
 use Rattle.std.specs.Prelude.{◌≡◌, ℕ, Bool, true, false, ◌==◌, ◌&&◌, ◌||◌, nat_lt, nat_le, List, []}
 use Rattle.std.specs.Prelude.{◌∷◌, ◌++◌, Option, Some, None, map, length, is_some, if◌then◌else◌}
 use Rattle.std.specs.List.{flat_map}
+use Rattle.kan_refusals.specs.Refusals.{number_of}
+use Rattle.kan_refusals.specs.declared.refusals.Refusal.{Refusal}
 use Rattle.kan_terms.specs.Tree.{leaves}
 use Rattle.kan_terms.specs.Table.{Table}
 use Rattle.kan_grammar.specs.Data.Written.{Written}
@@ -22,8 +24,8 @@ unless false f = f ∷ []
 
 -- a variable has a slot, and no part has a bad shape
 abbrev pub use_faults : Names → Use → List Fault
-use_faults ns (variable at s) = unless (is_some (slot_of ns s)) (fault at 11)
-use_faults ns (misshapen at) = fault at 10 ∷ []
+use_faults ns (variable at s) = unless (is_some (slot_of ns s)) (fault at Refusal.UnboundName)
+use_faults ns (misshapen at) = fault at Refusal.BadShape ∷ []
 
 -- the faults of a term
 abbrev pub term_faults : Names → TermForm → List Fault
@@ -31,8 +33,8 @@ term_faults ns u = flat_map (use_faults ns) (leaves u)
 
 -- a call names a relation that is there, and has as many arguments as that takes
 abbrev pub call_faults : Option ℕ → ℕ → ℕ → List Fault
-call_faults None at n = fault at 12 ∷ []
-call_faults (Some k) at n = unless (n == k) (fault at 13)
+call_faults None at n = fault at Refusal.UnknownRelation ∷ []
+call_faults (Some k) at n = unless (n == k) (fault at Refusal.WrongCount)
 
 -- the faults of a goal where these relations and names are there
 abbrev mutual
@@ -51,7 +53,7 @@ abbrev mutual
   goal_faults ds ns (GoalForm.clauses gs) = goals_faults ds ns gs
   goal_faults ds ns (GoalForm.call at s args) =
       call_faults (arity ds s) at (length args) ++ flat_map (term_faults ns) args
-  goal_faults ds ns (GoalForm.misshapen at) = fault at 10 ∷ []
+  goal_faults ds ns (GoalForm.misshapen at) = fault at Refusal.BadShape ∷ []
 
   pub goals_faults : List Defined → Names → GoalForms → List Fault
   goals_faults ds ns none = []
@@ -66,7 +68,7 @@ is_new (Some k) = false
 abbrev pub again_faults : Table → List Defined → Option NameAt → List Fault
 again_faults t before None = []
 again_faults t before (Some (name_at at s)) =
-    unless (is_other (word t s) && is_new (arity before s)) (fault at 14)
+    unless (is_other (word t s) && is_new (arity before s)) (fault at Refusal.DefinedTwice)
 
 -- the faults of a top form, where all these relations are there, and those before it
 abbrev pub form_faults : Table → List Defined → List Defined → Form → List Fault
@@ -76,8 +78,8 @@ form_faults t ds before (run_of_one limit q gs) =
     limit.faults ++ q.faults ++ goals_faults ds (within [] q.value) gs
 form_faults t ds before (run_of_list limit xs gs) =
     limit.faults ++ xs.faults ++ goals_faults ds (within (None ∷ []) xs.value) gs
-form_faults t ds before (Form.misshapen at) = fault at 10 ∷ []
-form_faults t ds before (unknown at) = fault at 9 ∷ []
+form_faults t ds before (Form.misshapen at) = fault at Refusal.BadShape ∷ []
+form_faults t ds before (unknown at) = fault at Refusal.UnknownForm ∷ []
 
 -- the faults of top forms in a row
 abbrev pub forms_faults : Table → List Defined → List Defined → List Sited → List Fault
@@ -92,7 +94,8 @@ faults_of t library text =
 
 -- a fault comes before another: by its offset, and at one offset by its number
 abbrev pub is_before : Fault → Fault → Bool
-is_before (fault a k) (fault b n) = nat_lt a b || a == b && nat_le k n
+is_before (fault a r) (fault b s) =
+    nat_lt a b || a == b && nat_le (number_of r) (number_of s)
 
 -- the first of a fault and maybe another
 abbrev pub first_of : Fault → Option Fault → Fault

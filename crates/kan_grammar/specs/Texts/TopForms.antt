@@ -2,6 +2,7 @@
 use Rattle.std.specs.Prelude.{ℕ, ◌^◌, pos, false, nat_lt, List, [], ◌∷◌, ◌++◌, Option, Some, None}
 use Rattle.std.specs.Prelude.{length, if◌then◌else◌}
 use Rattle.std.specs.List.{flat_map}
+use Rattle.kan_refusals.specs.declared.refusals.Refusal.{Refusal}
 use Rattle.kan_terms.specs.Table.{Table}
 use Rattle.kan_grammar.specs.Data.Faults.{Fault, fault}
 use Rattle.kan_grammar.specs.Texts.Sited.{Sited, site, elements, is_proper}
@@ -36,7 +37,7 @@ head_name d = None
 -- the name of a relation is a symbol
 abbrev pub name_faults : Sited → List Fault
 name_faults (Sited.name at s) = []
-name_faults d = fault (site d) 10 ∷ []
+name_faults d = fault (site d) Refusal.BadShape ∷ []
 
 -- the arguments of a relation, which are a binder behind its name
 abbrev pub head : Table → Sited → Checked (List ℕ)
@@ -46,23 +47,23 @@ head t (Sited.pair at a params) =
       faults = name_faults a ++ names_faults t [] params;
     } else record {
       value = [];
-      faults = fault at 10 ∷ [];
+      faults = fault at Refusal.BadShape ∷ [];
     }
-head t d = record { value = []; faults = fault (site d) 10 ∷ [] }
+head t d = record { value = []; faults = fault (site d) Refusal.BadShape ∷ [] }
 
 -- a limit of so many answers, where that is allowed
 abbrev pub limit_of : ℕ → ℕ → Checked (Option ℕ)
 limit_of at n =
     if nat_lt n (2 ^ 63) then record { value = Some n; faults = [] } else record {
       value = None;
-      faults = fault at 10 ∷ [];
+      faults = fault at Refusal.BadShape ∷ [];
     }
 
 -- the limit of a run: a number, or false for none
 abbrev pub limit : Sited → Checked (Option ℕ)
 limit (Sited.num at (pos n)) = limit_of at n
 limit (Sited.bool at false) = record { value = None; faults = [] }
-limit d = record { value = None; faults = fault (site d) 10 ∷ [] }
+limit d = record { value = None; faults = fault (site d) Refusal.BadShape ∷ [] }
 
 abbrev pub no_limit : Checked (Option ℕ)
 no_limit = record { value = None; faults = [] }

@@ -1,5 +1,5 @@
 -- What a program of the code stands for.
-use Rattle.std.specs.Prelude.{◌≡◌, ℕ, List, true, false, Result, Ok, Err}
+use Rattle.std.specs.Prelude.{◌≡◌, ℕ, ◌+◌, ◌≤◌, List, length, true, false, Result, Ok, Err}
 use Rattle.kan_model.specs.Programs.Goals as model
 use Rattle.kan_model.specs.Programs.Goals.{Template, Goal}
 use Rattle.kan_model.specs.Programs.Tables as facts
@@ -34,6 +34,11 @@ goal p i = facts.goal_at (goals p) i
 -- the goal of an entry, from the goals of the program
 abbrev pub entry_goal : Program → facts.GoalEntry → Goal
 entry_goal p e = facts.goal_of (templates p) (tables p).arguments (goals p) e
+
+-- the arguments of an entry that is a call are there
+abbrev pub ArgumentsPlaced : Program → facts.GoalEntry → Type 0
+ArgumentsPlaced p (facts.GoalEntry.call r at count) = at + count ≤ length (tables p).arguments
+ArgumentsPlaced p _ = Unit {0}
 
 -- the run that a query asks for of a program
 abbrev pub query_of : Program → Query → model.Query

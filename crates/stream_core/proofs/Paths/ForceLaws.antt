@@ -1,6 +1,6 @@
 -- What a suspension that may be forced lets its parts do.
 use Rattle.std.proofs.Common.{◌≡◌, ℕ, ◌+◌, ◌≤◌, ◌<◌, ◌^◌, true, false, List, [], map, refl, sym, ◌∙◌, ap, subst, arith, length, ltb-true}
-use Rattle.std.specs.Prelude.{Option, Some, None, option_map, slice_get, nat_lt}
+use Rattle.std.specs.Prelude.{Option, Some, option_map, slice_get, nat_lt}
 use Rattle.std.specs.List.{list_all}
 use Rattle.std.proofs.lemmas.Option.{slice_get-map}
 use Rattle.kan_terms.specs.Tree.{Tm}
@@ -54,9 +54,6 @@ inner-may program (Thunk.bind g env i) may = bind-inner program g env i may
 -- the relation that was found is the program's
 pub relation-found : (tables : Tables) (r : ℕ) (e : RelationEntry) → Some e ≡ slice_get tables.relations r → slice_get (program_of tables).relations r ≡ Some (relation_of (goals_of tables) e)
 relation-found tables r e is = slice_get-map (relation_of (goals_of tables)) tables.relations r ∙ ap (option_map (relation_of (goals_of tables))) (sym is)
-
-pub relation-missing : (tables : Tables) (r : ℕ) → None ≡ slice_get tables.relations r → slice_get (program_of tables).relations r ≡ None
-relation-missing tables r is = slice_get-map (relation_of (goals_of tables)) tables.relations r ∙ ap (option_map (relation_of (goals_of tables))) (sym is)
 
 -- its body is in the table
 pub body-placed : (tables : Tables) (r : ℕ) (e : RelationEntry) → is_grown tables ≡ true → Some e ≡ slice_get tables.relations r → e.body < length (goals_of tables)

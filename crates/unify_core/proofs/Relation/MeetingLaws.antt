@@ -6,7 +6,7 @@ use Rattle.kan_terms.proofs.TreeLaws.{term_eq-true, eq-term_eq}
 use Rattle.kan_model.specs.Stores.Store.{Equation}
 use Rattle.kan_model.proofs.Solving.WorkLaws.{OneIs}
 use Rattle.unify_core.specs.Walking.{Pairs, walk}
-use Rattle.unify_core.specs.Unifying.{Meeting, meeting, met}
+use Rattle.unify_core.specs.Unifying.{Meeting, meeting, asked_by}
 
 -- nothing is asked of the same terms, a binding is of one term, the left variable if there is one, to the other, parts are those of pairs, and a clash has no unifier
 abbrev pub Says : Type 0 → Tm → Tm → Meeting → Type 0
@@ -37,5 +37,5 @@ meeting_says V (Tree.pair a b) (Tree.pair c d) = (refl, refl)
 meeting_says V (Tree.pair a b) t = λ f e. cc
 meeting_says V a b = two_others V a b (λ differ f e. differ (cc))
 
-pub met_says : (V : Type 0) (bound : Pairs) (e : Equation) (m : Meeting) → met bound e ≡ m → Says V (walk bound e.left) (walk bound e.right) m
+pub met_says : (V : Type 0) (bound : Pairs) (e : Equation) (m : Meeting) → asked_by bound e ≡ m → Says V (walk bound e.left) (walk bound e.right) m
 met_says V bound e m h = subst (Says V (walk bound e.left) (walk bound e.right)) h (meeting_says V (walk bound e.left) (walk bound e.right))

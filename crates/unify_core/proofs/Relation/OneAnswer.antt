@@ -3,9 +3,9 @@ use Rattle.std.proofs.Common.{◌≡◌, ℕ, zero, suc, ◌<◌, Bool, true, fa
 use Rattle.kan_terms.specs.Tree.{Tree, Tm, occurs}
 use Rattle.kan_model.specs.Stores.Store.{Equation}
 use Rattle.unify_core.specs.Walking.{Pairs, full}
-use Rattle.unify_core.specs.Unifying.{Meeting, met, Unifying}
+use Rattle.unify_core.specs.Unifying.{Meeting, asked_by, Unifying}
 use Rattle.unify_core.specs.Laws.{AddsOne}
-use Rattle.unify_core.proofs.Grown.{Grown}
+use Rattle.unify_core.proofs.GrowthLaws.{Grown}
 use Rattle.unify_core.proofs.CycleLaws.{grown}
 use Rattle.unify_core.proofs.Steps.LoadLaws.{left_over, falls_same, falls_parts, falls_binding}
 use Rattle.unify_core.proofs.Relation.UnifyingLaws.{binding_grows}
@@ -21,7 +21,7 @@ From bound es r (Meeting.parts first rest) = Unifying bound (first ∷ rest ∷ 
 From bound es r (Meeting.binding x t) = FromBinding bound es r x t (occurs x (full bound t))
 From bound es r Meeting.clash = r ≡ None
 
-from : (bound : Pairs) (e : Equation) (es : List Equation) (r : Option (List (Tm × Tm))) → Unifying bound (e ∷ es) r → From bound es r (met bound e)
+from : (bound : Pairs) (e : Equation) (es : List Equation) (r : Option (List (Tm × Tm))) → Unifying bound (e ∷ es) r → From bound es r (asked_by bound e)
 from bound e es r (Unifying.same h d) = subst (From bound es r) (sym h) d
 from bound e es r (Unifying.parted h d) = subst (From bound es r) (sym h) d
 from bound e es r (Unifying.bound_one {x = x} {t = t} {added = q} h out d) = subst (From bound es r) (sym h) (subst (FromBinding bound es r x t) (sym out) (q, d, refl))
@@ -47,18 +47,18 @@ is_one bound es r q (Unifying.apart {e = e} {es = rest} h) other = sym (subst (F
 some_answer : (n : ℕ) (bound : Pairs) (es : List Equation) → Grown bound → left_over bound es < n → (r : Option (List (Tm × Tm))) × Unifying bound es r
 some_answer zero bound es g small = absurd (omega arith)
 some_answer (suc n) bound [] g small = (Some [], Unifying.no_equation)
-some_answer (suc n) bound (e ∷ es) g small = by (met bound e) refl (λ b fs h less. some_answer n b fs h (omega arith))
+some_answer (suc n) bound (e ∷ es) g small = by (asked_by bound e) refl (λ b fs h less. some_answer n b fs h (omega arith))
   where
     After : Type 0
     After = (b : Pairs) (fs : List Equation) → Grown b → left_over b fs < left_over bound (e ∷ es) → (r : Option (List (Tm × Tm))) × Unifying b fs r
 
-    choose : (x : ℕ) (t : Tm) → met bound e ≡ Meeting.binding x t → (c : Bool) → occurs x (full bound t) ≡ c → After → (r : Option (List (Tm × Tm))) × Unifying bound (e ∷ es) r
+    choose : (x : ℕ) (t : Tm) → asked_by bound e ≡ Meeting.binding x t → (c : Bool) → occurs x (full bound t) ≡ c → After → (r : Option (List (Tm × Tm))) × Unifying bound (e ∷ es) r
     choose x t h true inside after = (None, Unifying.inside h inside)
     choose x t h false out after =
         let (r, d) = after ((x, t) ∷ bound) es (binding_grows ⊥ bound g e x t h out) (falls_binding bound g e es x t h out) in
         (option_map (λ more. (Tree.leaf x, t) ∷ more) r, Unifying.bound_one h out d)
 
-    by : (m : Meeting) → met bound e ≡ m → After → (r : Option (List (Tm × Tm))) × Unifying bound (e ∷ es) r
+    by : (m : Meeting) → asked_by bound e ≡ m → After → (r : Option (List (Tm × Tm))) × Unifying bound (e ∷ es) r
     by Meeting.nothing h after = let (r, d) = after bound es g (falls_same bound g e es h) in (r, Unifying.same h d)
     by (Meeting.parts first rest) h after = let (r, d) = after bound (first ∷ rest ∷ es) g (falls_parts bound g e es first rest h) in (r, Unifying.parted h d)
     by (Meeting.binding x t) h after = choose x t h (occurs x (full bound t)) refl after

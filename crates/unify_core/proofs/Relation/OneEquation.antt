@@ -5,14 +5,14 @@ use Rattle.kan_model.specs.Stores.Store.{Equation}
 use Rattle.kan_model.specs.Stores.Kept.{is_variable}
 use Rattle.unify_core.specs.Walking.{Pairs, walk}
 use Rattle.unify_core.specs.Solutions.{equation}
-use Rattle.unify_core.specs.Unifying.{Meeting, met, meeting, Unifying, Adds, AddsBinding}
+use Rattle.unify_core.specs.Unifying.{Meeting, asked_by, meeting, Unifying, Adds, AddsBinding}
 use Rattle.unify_core.proofs.Relation.OneAnswer.{nothing_added}
 
 -- what is added by what the sides ask for is what unification adds
-pub adds_alone : (bound : Pairs) (e : Equation) (added : Option (List (Tm × Tm))) → Adds bound (met bound e) added → Unifying bound (e ∷ []) added
-adds_alone bound e added adds = by (met bound e) refl added adds
+pub adds_alone : (bound : Pairs) (e : Equation) (added : Option (List (Tm × Tm))) → Adds bound (asked_by bound e) added → Unifying bound (e ∷ []) added
+adds_alone bound e added adds = by (asked_by bound e) refl added adds
   where
-    by : (m : Meeting) → met bound e ≡ m → (r : Option (List (Tm × Tm))) → Adds bound m r → Unifying bound (e ∷ []) r
+    by : (m : Meeting) → asked_by bound e ≡ m → (r : Option (List (Tm × Tm))) → Adds bound m r → Unifying bound (e ∷ []) r
     by Meeting.nothing asks r d = Unifying.same asks d
     by (Meeting.parts first rest) asks r d = Unifying.parted asks d
     by (Meeting.binding x t) asks None inside = Unifying.inside asks inside
@@ -21,7 +21,7 @@ adds_alone bound e added adds = by (met bound e) refl added adds
     by Meeting.clash asks r none = subst (Unifying bound (e ∷ [])) (sym none) (Unifying.apart asks)
 
 -- and what unification adds is what the sides ask for
-alone_adds : (bound : Pairs) (e : Equation) (added : Option (List (Tm × Tm))) → Unifying bound (e ∷ []) added → Adds bound (met bound e) added
+alone_adds : (bound : Pairs) (e : Equation) (added : Option (List (Tm × Tm))) → Unifying bound (e ∷ []) added → Adds bound (asked_by bound e) added
 alone_adds bound e added (Unifying.same asks d) = subst (λ m. Adds bound m added) (sym asks) d
 alone_adds bound e added (Unifying.parted asks d) = subst (λ m. Adds bound m added) (sym asks) d
 alone_adds bound e added (Unifying.bound_one {x = x} {t = t} {added = more} asks out d) =

@@ -8,8 +8,8 @@ use Rattle.kan_model.specs.Stores.Unifiers.{Unifies}
 use Rattle.kan_model.proofs.Solving.WorkLaws.{OneIs}
 use Rattle.unify_core.specs.Walking.{Pairs, walk, full}
 use Rattle.unify_core.specs.Solutions.{IsSolution, AddedTo}
-use Rattle.unify_core.specs.Unifying.{Meeting, met, Unifying}
-use Rattle.unify_core.proofs.Grown.{Grown, ends-unbound}
+use Rattle.unify_core.specs.Unifying.{Meeting, asked_by, Unifying}
+use Rattle.unify_core.proofs.GrowthLaws.{Grown, ends-unbound}
 use Rattle.unify_core.proofs.WalkLaws.{walk-end, walk-twice}
 use Rattle.unify_core.proofs.SolutionLaws.{fill-full, fill-walk}
 use Rattle.unify_core.proofs.Relation.MeetingLaws.{met_says}
@@ -59,10 +59,10 @@ module _ (V : Type 0) (bound : Pairs) (g : Grown bound) (e : Equation) (es : Lis
     λ h. sym (fill-walk f bound g s e.left) ∙ h ∙ fill-walk f bound g s e.right,
   )
 
-  after_same : met bound e ≡ Meeting.nothing → (r : Option (List (Tm × Tm))) → Outcome V bound es r → Outcome V bound (e ∷ es) r
+  after_same : asked_by bound e ≡ Meeting.nothing → (r : Option (List (Tm × Tm))) → Outcome V bound es r → Outcome V bound (e ∷ es) r
   after_same h = outcome_same V bound es (e ∷ es) (λ f s. (λ u. ((sides f s).1 (ap (fill f) (met_says V bound e Meeting.nothing h)), u), λ (same, u). u))
 
-  after_parts : (first rest : Equation) → met bound e ≡ Meeting.parts first rest → (r : Option (List (Tm × Tm))) → Outcome V bound (first ∷ rest ∷ es) r → Outcome V bound (e ∷ es) r
+  after_parts : (first rest : Equation) → asked_by bound e ≡ Meeting.parts first rest → (r : Option (List (Tm × Tm))) → Outcome V bound (first ∷ rest ∷ es) r → Outcome V bound (e ∷ es) r
   after_parts first rest h = outcome_same V bound (first ∷ rest ∷ es) (e ∷ es) (λ f s.
       let (l, r) = met_says V bound e (Meeting.parts first rest) h in (
         λ (one, (two, u)). ((sides f s).1 (ap (fill f) l ∙ ap₂ Tree.pair one two ∙ ap (fill f) (sym r)), u),
@@ -70,7 +70,7 @@ module _ (V : Type 0) (bound : Pairs) (g : Grown bound) (e : Equation) (es : Lis
             ap (fill f) (sym l) ∙ (sides f s).0 same ∙ ap (fill f) r in (cc, (cc, u))),
       ))
 
-  after_binding : (x : ℕ) (t : Tm) → met bound e ≡ Meeting.binding x t → (r : Option (List (Tm × Tm))) → Outcome V ((x, t) ∷ bound) es r →
+  after_binding : (x : ℕ) (t : Tm) → asked_by bound e ≡ Meeting.binding x t → (r : Option (List (Tm × Tm))) → Outcome V ((x, t) ∷ bound) es r →
       Outcome V bound (e ∷ es) (option_map (λ more. (Tree.leaf x, t) ∷ more) r)
   after_binding x t h None out = λ f s (same, u).
       let (one, other, leftmost) = met_says V bound e (Meeting.binding x t) h in
@@ -87,18 +87,18 @@ module _ (V : Type 0) (bound : Pairs) (g : Grown bound) (e : Equation) (es : Lis
         ),
       )
 
-  after_inside : (x : ℕ) (t : Tm) → met bound e ≡ Meeting.binding x t → occurs x (full bound t) ≡ true → Outcome V bound (e ∷ es) None
+  after_inside : (x : ℕ) (t : Tm) → asked_by bound e ≡ Meeting.binding x t → occurs x (full bound t) ≡ true → Outcome V bound (e ∷ es) None
   after_inside x t h inside f s (same, u) =
       let (one, other, leftmost) = met_says V bound e (Meeting.binding x t) h in
       let (unbound, walks) = one_ends bound g e.left e.right x t one in
       occurs-cyclic x f (full bound t) inside (full-apart bound g x t walks other)
       ((one_same f x t (walk bound e.left) (walk bound e.right) one).0 ((sides f s).0 same) ∙ sym (fill-full f bound s t))
 
-  after_clash : met bound e ≡ Meeting.clash → Outcome V bound (e ∷ es) None
+  after_clash : asked_by bound e ≡ Meeting.clash → Outcome V bound (e ∷ es) None
   after_clash h f s (same, u) = met_says V bound e Meeting.clash h f ((sides f s).0 same)
 
 -- a binding to a term in which the variable doesn't stand makes no cycle
-pub binding_grows : (V : Type 0) (bound : Pairs) → Grown bound → (e : Equation) (x : ℕ) (t : Tm) → met bound e ≡ Meeting.binding x t → occurs x (full bound t) ≡ false → Grown ((x, t) ∷ bound)
+pub binding_grows : (V : Type 0) (bound : Pairs) → Grown bound → (e : Equation) (x : ℕ) (t : Tm) → asked_by bound e ≡ Meeting.binding x t → occurs x (full bound t) ≡ false → Grown ((x, t) ∷ bound)
 binding_grows V bound g e x t h out = ((one_ends bound g e.left e.right x t (met_says V bound e (Meeting.binding x t) h).0).0, out, g)
 
 -- unification makes its outcome

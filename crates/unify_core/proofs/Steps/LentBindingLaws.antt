@@ -9,7 +9,7 @@ use Rattle.kan_terms.specs.Bound.{bound_to}
 use Rattle.unify_core.specs.declared.walking.LentBinding.{LentBinding}
 use Rattle.unify_core.specs.LentBindings.{lent_pair, with_lent}
 use Rattle.unify_core.specs.Walking.{Pairs}
-use Rattle.unify_core.proofs.Grown.{bound-newest, bound-older}
+use Rattle.unify_core.proofs.GrowthLaws.{bound-newest, bound-older}
 
 -- the last one stands in front
 pub with_lent-push : (lent : List LentBinding) (one : LentBinding) (bound : Pairs) → with_lent (lent ++ one ∷ []) bound ≡ lent_pair one ∷ with_lent lent bound

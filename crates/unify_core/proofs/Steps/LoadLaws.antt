@@ -8,8 +8,8 @@ use Rattle.kan_model.proofs.Solving.SolveLaws.{solve_by-Solves}
 use Rattle.kan_model.proofs.Solving.WorkLaws.{OneIs}
 use Rattle.unify_core.specs.Walking.{Pairs, walk, full}
 use Rattle.unify_core.specs.Solutions.{equation}
-use Rattle.unify_core.specs.Unifying.{Meeting, met}
-use Rattle.unify_core.proofs.Grown.{Grown, full-newest, ends-unbound}
+use Rattle.unify_core.specs.Unifying.{Meeting, asked_by}
+use Rattle.unify_core.proofs.GrowthLaws.{Grown, full-newest, ends-unbound}
 use Rattle.unify_core.proofs.WalkLaws.{full-walk}
 use Rattle.unify_core.proofs.Relation.MeetingLaws.{met_says}
 use Rattle.unify_core.proofs.Relation.UnifyingLaws.{full-apart, one_ends}
@@ -146,11 +146,11 @@ full-term bound Tree.nil other y e = cc
 full-term bound (Tree.pair a b) other y e = cc
 
 module _ (bound : Pairs) (g : Grown bound) (e : Equation) (es : List Equation) where
-  pub falls_same : met bound e ≡ Meeting.nothing → left_over bound es < left_over bound (e ∷ es)
+  pub falls_same : asked_by bound e ≡ Meeting.nothing → left_over bound es < left_over bound (e ∷ es)
   falls_same h = less_same (full bound e.left) (full bound e.right) (map (full_sides bound) es)
       (sym (full-walk bound g e.left) ∙ ap (full bound) (met_says ⊥ bound e Meeting.nothing h) ∙ full-walk bound g e.right)
 
-  pub falls_parts : (first rest : Equation) → met bound e ≡ Meeting.parts first rest → left_over bound (first ∷ rest ∷ es) < left_over bound (e ∷ es)
+  pub falls_parts : (first rest : Equation) → asked_by bound e ≡ Meeting.parts first rest → left_over bound (first ∷ rest ∷ es) < left_over bound (e ∷ es)
   falls_parts first rest h =
       let (l, r) = met_says ⊥ bound e (Meeting.parts first rest) h in
       let whole : full_sides bound e ≡ equation (Tree.pair (full bound first.left) (full bound rest.left)) (Tree.pair (full bound first.right) (full bound rest.right)) =
@@ -162,7 +162,7 @@ module _ (bound : Pairs) (g : Grown bound) (e : Equation) (es : List Equation) w
       )
 
   -- the solver replaces the variable that is bound by the full value of its term
-  work_binding : (x : ℕ) (t : Tm) → met bound e ≡ Meeting.binding x t → occurs x (full bound t) ≡ false → work left_first (full_sides bound e) ≡ Work.substitute x (full bound t)
+  work_binding : (x : ℕ) (t : Tm) → asked_by bound e ≡ Meeting.binding x t → occurs x (full bound t) ≡ false → work left_first (full_sides bound e) ≡ Work.substitute x (full bound t)
   work_binding x t h out = by (met_says ⊥ bound e (Meeting.binding x t) h)
     where
       by : OneIs x t (walk bound e.left) (walk bound e.right) × (t ≢ Tree.leaf x) × ((y : ℕ) → walk bound e.left ≡ Tree.leaf y → y ≡ x) →
@@ -176,5 +176,5 @@ module _ (bound : Pairs) (g : Grown bound) (e : Equation) (es : List Equation) w
           ap (work left_first) (ap₂ equation (sym (full-walk bound g e.left) ∙ ap (full bound) l) (sym (full-walk bound g e.right) ∙ ap (full bound) r ∙ ends-unbound bound x unbound))
           ∙ work_right x (full bound t) (full-term bound t (λ y same. other (same ∙ ap Tree.leaf (leftmost y (l ∙ same))))) out
 
-  pub falls_binding : (x : ℕ) (t : Tm) → met bound e ≡ Meeting.binding x t → occurs x (full bound t) ≡ false → left_over ((x, t) ∷ bound) es < left_over bound (e ∷ es)
+  pub falls_binding : (x : ℕ) (t : Tm) → asked_by bound e ≡ Meeting.binding x t → occurs x (full bound t) ≡ false → left_over ((x, t) ∷ bound) es < left_over bound (e ∷ es)
   falls_binding x t h out = less_bound x t bound e es (work_binding x t h out)

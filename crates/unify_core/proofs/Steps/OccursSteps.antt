@@ -11,20 +11,20 @@ use Rattle.kan_terms.proofs.WaitingLaws.{waiting-push}
 use Rattle.kan_model.specs.Stores.Kept.{is_variable}
 use Rattle.unify_core.specs.Walking.{Pairs, walk, full}
 use Rattle.unify_core.specs.Cycles.{HasNoCycle}
-use Rattle.unify_core.specs.LentBindings.{open_parts}
+use Rattle.unify_core.specs.LentBindings.{parts_unless_ground}
 use Rattle.kan_terms.specs.Waiting.{waiting_trees, parts_of}
-use Rattle.unify_core.proofs.Grown.{ends-unbound}
+use Rattle.unify_core.proofs.GrowthLaws.{ends-unbound}
 use Rattle.unify_core.proofs.CycleLaws.{grown}
 use Rattle.unify_core.proofs.WalkLaws.{full-walk, walk-end}
 use Rattle.unify_core.proofs.NewLaws.{none_in_full}
 
 -- the parts of a term without variables don't wait
-pub none_open : (t : Tm) (o : Option ℕ) → o ≡ greatest_in t → o ≡ None → open_parts t ≡ []
+pub none_open : (t : Tm) (o : Option ℕ) → o ≡ greatest_in t → o ≡ None → parts_unless_ground t ≡ []
 none_open t o greatest none = ap (λ o. if is_some o then parts_of t else []) (sym greatest ∙ none)
 
-pub some_open : (t : Tm) (o : Option ℕ) → o ≡ greatest_in t → o ≢ None → open_parts t ≡ parts_of t
-some_open t None greatest some = absurd (some refl)
-some_open t (Some g) greatest some = ap (λ o. if is_some o then parts_of t else []) (sym greatest)
+pub parts_with_variables : (t : Tm) (o : Option ℕ) → o ≡ greatest_in t → o ≢ None → parts_unless_ground t ≡ parts_of t
+parts_with_variables t None greatest some = absurd (some refl)
+parts_with_variables t (Some g) greatest some = ap (λ o. if is_some o then parts_of t else []) (sym greatest)
 
 -- a variable stands in the full value of one of some terms
 abbrev pub stands_in : Pairs → ℕ → List Tm → Bool
@@ -52,7 +52,7 @@ found_here bound h x t Tree.nil reached e = cc
 found_here bound h x t (Tree.pair a b) reached e = cc
 
 -- else it is looked for in the parts
-in_parts : (bound : Pairs) → HasNoCycle bound → (x : ℕ) (t w : Tm) (ts : List Tm) → w ≡ walk bound t → is_variable x w ≡ false → stands_in bound x (open_parts w ++ ts) ≡ stands_in bound x (t ∷ ts)
+in_parts : (bound : Pairs) → HasNoCycle bound → (x : ℕ) (t w : Tm) (ts : List Tm) → w ≡ walk bound t → is_variable x w ≡ false → stands_in bound x (parts_unless_ground w ++ ts) ≡ stands_in bound x (t ∷ ts)
 in_parts bound h x t w ts reached e = by w (λ y same. ends-unbound bound y (walk-end bound (grown bound h) t y (sym reached ∙ same))) e ∙ ap (λ u. occurs x u || stands_in bound x ts) whole
   where
     whole : full bound w ≡ full bound t
@@ -63,7 +63,7 @@ in_parts bound h x t w ts reached e = by w (λ y same. ends-unbound bound y (wal
     pair a b None none = sym (ap (λ c. c || stands_in bound x ts) (none_in_full bound x (Tree.pair a b) none))
     pair a b (Some g) some = sym (or_assoc (occurs x (full bound a)) (occurs x (full bound b)) (stands_in bound x ts))
 
-    by : (w : Tm) → ((y : ℕ) → w ≡ Tree.leaf y → full bound (Tree.leaf y) ≡ Tree.leaf y) → is_variable x w ≡ false → stands_in bound x (open_parts w ++ ts) ≡ (occurs x (full bound w) || stands_in bound x ts)
+    by : (w : Tm) → ((y : ℕ) → w ≡ Tree.leaf y → full bound (Tree.leaf y) ≡ Tree.leaf y) → is_variable x w ≡ false → stands_in bound x (parts_unless_ground w ++ ts) ≡ (occurs x (full bound w) || stands_in bound x ts)
     by (Tree.leaf y) own e = sym (ap (λ c. c || stands_in bound x ts) (ap (occurs x) (own y refl) ∙ e))
     by (Tree.sym s) own e = refl
     by (Tree.str s) own e = refl
@@ -73,7 +73,7 @@ in_parts bound h x t w ts reached e = by w (λ y same. ends-unbound bound y (wal
     by (Tree.pair a b) own e = pair a b (greatest_in (Tree.pair a b)) refl
 
 -- fewer nodes wait
-fewer_nodes : (bound : Pairs) → HasNoCycle bound → (t w : Tm) (ts : List Tm) → w ≡ walk bound t → nodes bound (open_parts w ++ ts) < nodes bound (t ∷ ts)
+fewer_nodes : (bound : Pairs) → HasNoCycle bound → (t w : Tm) (ts : List Tm) → w ≡ walk bound t → nodes bound (parts_unless_ground w ++ ts) < nodes bound (t ∷ ts)
 fewer_nodes bound h t w ts reached = by w whole
   where
     whole : size (full bound w) ≡ size (full bound t)
@@ -83,7 +83,7 @@ fewer_nodes bound h t w ts reached = by w whole
     pair a b None same = omega (arith, same)
     pair a b (Some g) same = omega (arith, same)
 
-    by : (w : Tm) → size (full bound w) ≡ size (full bound t) → nodes bound (open_parts w ++ ts) < nodes bound (t ∷ ts)
+    by : (w : Tm) → size (full bound w) ≡ size (full bound t) → nodes bound (parts_unless_ground w ++ ts) < nodes bound (t ∷ ts)
     by (Tree.leaf y) same = omega (arith, size-positive (full bound t))
     by (Tree.sym s) same = omega (arith, same)
     by (Tree.str s) same = omega (arith, same)
@@ -100,14 +100,14 @@ turn_finds bound h x old rest t w whole split reached e kept =
     ∙ ap (stands_in bound x) (sym (waiting-push rest t)) ∙ ap (λ ts. stands_in bound x (waiting_trees ts)) (sym split) ∙ kept
 
 pub turn_keeps : (bound : Pairs) → HasNoCycle bound → (x : ℕ) (old rest new : List (Bor Term)) (t : Bor Term) (w : Tm) (whole : Bool) →
-    old ≡ rest ++ t ∷ [] → w ≡ walk bound (tree t.now) → is_variable x w ≡ false → waiting_trees new ≡ open_parts w ++ waiting_trees rest →
+    old ≡ rest ++ t ∷ [] → w ≡ walk bound (tree t.now) → is_variable x w ≡ false → waiting_trees new ≡ parts_unless_ground w ++ waiting_trees rest →
     stands_in bound x (waiting_trees old) ≡ whole → stands_in bound x (waiting_trees new) ≡ whole
 turn_keeps bound h x old rest new t w whole split reached e parts kept =
     ap (stands_in bound x) parts ∙ in_parts bound h x (tree t.now) w (waiting_trees rest) reached e
     ∙ ap (stands_in bound x) (sym (waiting-push rest t)) ∙ ap (λ ts. stands_in bound x (waiting_trees ts)) (sym split) ∙ kept
 
 pub turn_falls : (bound : Pairs) → HasNoCycle bound → (old rest new : List (Bor Term)) (t : Bor Term) (w : Tm) →
-    old ≡ rest ++ t ∷ [] → w ≡ walk bound (tree t.now) → waiting_trees new ≡ open_parts w ++ waiting_trees rest → nodes bound (waiting_trees new) < nodes bound (waiting_trees old)
+    old ≡ rest ++ t ∷ [] → w ≡ walk bound (tree t.now) → waiting_trees new ≡ parts_unless_ground w ++ waiting_trees rest → nodes bound (waiting_trees new) < nodes bound (waiting_trees old)
 turn_falls bound h old rest new t w split reached parts =
     let before : nodes bound (waiting_trees old) ≡ nodes bound (tree t.now ∷ waiting_trees rest) = ap (nodes bound) (ap waiting_trees split ∙ waiting-push rest t) in
     omega (arith, fewer_nodes bound h (tree t.now) w (waiting_trees rest) reached, ap (nodes bound) parts, before)
@@ -126,7 +126,7 @@ pub first_finds : (bound : Pairs) → HasNoCycle bound → (x : ℕ) (t : Tm) (f
 first_finds bound h x t found is e = sym (found_here bound h x t (walk bound t) refl (sym is ∙ e))
 
 pub first_keeps : (bound : Pairs) → HasNoCycle bound → (x : ℕ) (t : Tm) (found : Bool) (none new : List (Bor Term)) → none ≡ [] → found ≡ is_variable x (walk bound t) →
-    (found ≡ false → waiting_trees new ≡ open_parts (walk bound t) ++ waiting_trees none) → found ≡ false → stands_in bound x (waiting_trees new) ≡ occurs x (full bound t)
+    (found ≡ false → waiting_trees new ≡ parts_unless_ground (walk bound t) ++ waiting_trees none) → found ≡ false → stands_in bound x (waiting_trees new) ≡ occurs x (full bound t)
 first_keeps bound h x t found none new nothing is parts e =
     ap (stands_in bound x) (parts e) ∙ in_parts bound h x t (walk bound t) (waiting_trees none) refl (sym is ∙ e)
     ∙ ap (λ ts. occurs x (full bound t) || stands_in bound x (waiting_trees ts)) nothing ∙ or_nothing (occurs x (full bound t))

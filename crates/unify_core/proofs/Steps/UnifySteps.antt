@@ -13,7 +13,7 @@ use Rattle.unify_core.specs.declared.unifying.Met.{Met}
 use Rattle.unify_core.specs.Walking.{Pairs}
 use Rattle.unify_core.specs.Cycles.{HasNoCycle}
 use Rattle.unify_core.specs.LentBindings.{lent_pair, with_lent, lent_sides, equation_of, waiting_equations, with_top, with_next, MeetsTo, StepTo}
-use Rattle.unify_core.specs.Unifying.{Meeting, met, Unifying}
+use Rattle.unify_core.specs.Unifying.{Meeting, asked_by, Unifying}
 use Rattle.unify_core.proofs.CycleLaws.{grown, no_cycle}
 use Rattle.unify_core.proofs.Steps.LentBindingLaws.{with_lent-push}
 use Rattle.unify_core.proofs.Steps.LoadLaws.{left_over, falls_same, falls_parts, falls_binding}
@@ -90,10 +90,10 @@ module _ (bound : Pairs) (whole : List Equation) (e : Equation) (es : List Equat
   abbrev pub AfterStep : List Equation → Type 0
   AfterStep es' = Leads bound whole lent' es' × HasNoCycle (with_lent lent' bound) × (left_over (with_lent lent' bound) es' < left_over (with_lent lent bound) (e ∷ es))
 
-  pub step_on : (es' : List Equation) → Leads bound whole lent (e ∷ es) → HasNoCycle (with_lent lent bound) → StepTo bound lent es (Some es') lent' (met (with_lent lent bound) e) → AfterStep es'
-  step_on es' leads h moved = by (met (with_lent lent bound) e) refl moved
+  pub step_on : (es' : List Equation) → Leads bound whole lent (e ∷ es) → HasNoCycle (with_lent lent bound) → StepTo bound lent es (Some es') lent' (asked_by (with_lent lent bound) e) → AfterStep es'
+  step_on es' leads h moved = by (asked_by (with_lent lent bound) e) refl moved
     where
-      by : (m : Meeting) → met (with_lent lent bound) e ≡ m → StepTo bound lent es (Some es') lent' m → AfterStep es'
+      by : (m : Meeting) → asked_by (with_lent lent bound) e ≡ m → StepTo bound lent es (Some es') lent' m → AfterStep es'
       by Meeting.nothing asks (same, some) =
           let left : es' ≡ es = cc in
           rw (same, left) (λ r d. leads r (Unifying.same asks d), h, falls_same (with_lent lent bound) (grown (with_lent lent bound) h) e es asks)
@@ -111,10 +111,10 @@ module _ (bound : Pairs) (whole : List Equation) (e : Equation) (es : List Equat
       by Meeting.clash asks stopped = cc
 
   -- a step that doesn't finds that there is no unifier
-  pub step_off : Leads bound whole lent (e ∷ es) → StepTo bound lent es None lent' (met (with_lent lent bound) e) → Unifying bound whole None
-  step_off leads moved = by (met (with_lent lent bound) e) refl moved
+  pub step_off : Leads bound whole lent (e ∷ es) → StepTo bound lent es None lent' (asked_by (with_lent lent bound) e) → Unifying bound whole None
+  step_off leads moved = by (asked_by (with_lent lent bound) e) refl moved
     where
-      by : (m : Meeting) → met (with_lent lent bound) e ≡ m → StepTo bound lent es None lent' m → Unifying bound whole None
+      by : (m : Meeting) → asked_by (with_lent lent bound) e ≡ m → StepTo bound lent es None lent' m → Unifying bound whole None
       by Meeting.nothing asks (same, some) = cc
       by (Meeting.parts one rest) asks (same, some) = cc
       by (Meeting.binding x t) asks inside = leads None (Unifying.inside asks inside)
@@ -123,20 +123,20 @@ module _ (bound : Pairs) (whole : List Equation) (e : Equation) (es : List Equat
 -- one turn of the loop: what was next, and what a step left
 pub turn_on : (bound : Pairs) (whole : List Equation) (behind : List Equation) (next : Option Sides) (s : Sides) (lent lent' : List LentBinding) (left : Option (List Equation)) (es' : List Equation) →
     next ≡ Some s → Leads bound whole lent (with_next next behind) → HasNoCycle (with_lent lent bound) →
-    StepTo bound lent behind left lent' (met (with_lent lent bound) (equation_of s)) → left ≡ Some es' →
+    StepTo bound lent behind left lent' (asked_by (with_lent lent bound) (equation_of s)) → left ≡ Some es' →
     Leads bound whole lent' es' × HasNoCycle (with_lent lent' bound)
     × (left_over (with_lent lent' bound) es' < left_over (with_lent lent bound) (with_next next behind))
 turn_on bound whole behind next s lent lent' left es' is leads h moved goes_on =
     let (leads', h', less) = step_on bound whole (equation_of s) behind lent lent' es' (subst (λ n. Leads bound whole lent (with_next n behind)) is leads) h
-    (subst (λ l. StepTo bound lent behind l lent' (met (with_lent lent bound) (equation_of s))) goes_on moved) in
+    (subst (λ l. StepTo bound lent behind l lent' (asked_by (with_lent lent bound) (equation_of s))) goes_on moved) in
     (leads', h', subst (λ n. left_over (with_lent lent' bound) es' < left_over (with_lent lent bound) (with_next n behind)) (sym is) less)
 
 pub turn_off : (bound : Pairs) (whole : List Equation) (behind : List Equation) (next : Option Sides) (s : Sides) (lent lent' : List LentBinding) (left : Option (List Equation)) →
     next ≡ Some s → Leads bound whole lent (with_next next behind) →
-    StepTo bound lent behind left lent' (met (with_lent lent bound) (equation_of s)) → left ≡ None → Unifying bound whole None
+    StepTo bound lent behind left lent' (asked_by (with_lent lent bound) (equation_of s)) → left ≡ None → Unifying bound whole None
 turn_off bound whole behind next s lent lent' left is leads moved stops =
     step_off bound whole (equation_of s) behind lent lent' (subst (λ n. Leads bound whole lent (with_next n behind)) is leads)
-    (subst (λ l. StepTo bound lent behind l lent' (met (with_lent lent bound) (equation_of s))) stops moved)
+    (subst (λ l. StepTo bound lent behind l lent' (asked_by (with_lent lent bound) (equation_of s))) stops moved)
 
 -- before the first turn nothing is lent
 pub starts : (bound : Pairs) (whole : List Equation) (lent : List LentBinding) → lent ≡ [] → HasNoCycle bound → Leads bound whole lent whole × HasNoCycle (with_lent lent bound)

@@ -9,7 +9,7 @@ use Rattle.kan_model.specs.Stores.Kept.{is_variable}
 use Rattle.unify_core.specs.Walking.{Pairs, IsOtherEnd, walk, full}
 use Rattle.unify_core.specs.Cycles.{HasNoCycle}
 use Rattle.unify_core.proofs.CycleLaws.{grown}
-use Rattle.unify_core.proofs.Grown.{ends-unbound}
+use Rattle.unify_core.proofs.GrowthLaws.{ends-unbound}
 use Rattle.unify_core.proofs.WalkLaws.{way, way-bound, walk-bound, walk-unbound, walk-term, walk-end, walk-twice}
 
 -- a step to a variable's term leaves a shorter way

@@ -1,4 +1,4 @@
--- A name, a space and a term stand between the open and the close.
+-- A name, a space and a term stand between the brackets.
 use Rattle.std.proofs.Common.{refl}
 use Rattle.answer_reading.proofs.ListLaws.{pair_got}
 use Rattle.answer_reading.proofs.constraints.read_pair.Goals as goal

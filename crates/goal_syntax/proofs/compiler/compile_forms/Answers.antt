@@ -1,6 +1,5 @@
 use Rattle.std.proofs.Common.{map, sym, ap, ◌∙◌}
-use Rattle.std.specs.Prelude.{Some, option_map}
-use Rattle.kan_grammar.specs.Data.Faults.{fault}
+use Rattle.std.specs.Prelude.{option_map}
 use Rattle.goal_syntax.specs.Judging.FaultLists.{fault_of}
 use Rattle.goal_forms.specs.Parts.{sites, site_at}
 use Rattle.goal_syntax.proofs.Judging.FormLaws.{first_is}
@@ -12,7 +11,6 @@ returns-in-Some c =
     let ds = sites c.args.flat.now in
     sym (sym (ap (option_map fault_of) c.in-Some.is) ∙ first_is c.args.names.now (map (site_at ds) c.args.library.now) (map (site_at ds) c.args.forms.now) _ _ _
     c.in_ok-relations.ensures.relations c.in_ok-relations.ensures.before c.in_ok-fault.ensures)
-    ∙ ap (λ n. Some (fault c.in-Some.fault.at n)) (sym c.number.ensures.number)
 
 pub returns : goal.returns
 returns c =

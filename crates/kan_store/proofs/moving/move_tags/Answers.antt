@@ -3,7 +3,7 @@ use Rattle.kan_terms.specs.Terms.{tree, sides}
 use Rattle.unify_core.specs.Walking.{full}
 use Rattle.type_absence.specs.Absent.{GivesTags}
 use Rattle.type_absence.specs.Types.{made_if}
-use Rattle.type_absence.specs.Seen.{tags}
+use Rattle.type_absence.specs.Meaning.{tags}
 use Rattle.kan_store.proofs.MovingLaws.{never_other, tags_go_on, tags_end, tags_done, tags_stay}
 use Rattle.kan_store.proofs.moving.move_tags.Goals as goal
 

@@ -1,7 +1,7 @@
 use Rattle.std.proofs.Common.{map, drop, Option}
 use Rattle.kan_terms.specs.Terms.{sides}
 use Rattle.type_absence.specs.Absent.{TagsOf}
-use Rattle.type_absence.specs.Seen.{tags}
+use Rattle.type_absence.specs.Meaning.{tags}
 use Rattle.kan_store.specs.Moving.{TagsMove}
 use Rattle.kan_store.proofs.moving.move_tags.Given as goal
 

@@ -2,7 +2,7 @@ use Rattle.std.proofs.Common.{map, Some, None, true, false, subst, arith, rules}
 use Rattle.kan_terms.specs.Terms.{tree, sides}
 use Rattle.unify_core.specs.Walking.{walk}
 use Rattle.type_absence.specs.Types.{MovesTypes, made_if}
-use Rattle.type_absence.specs.Seen.{types}
+use Rattle.type_absence.specs.Meaning.{types}
 use Rattle.kan_store.proofs.MovingLaws.{never_other, types_go_on, types_end, types_done, types_stay}
 use Rattle.kan_store.proofs.moving.move_types.Goals as goal
 

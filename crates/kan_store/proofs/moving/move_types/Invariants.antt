@@ -1,7 +1,7 @@
 use Rattle.std.proofs.Common.{map, drop, Option}
 use Rattle.kan_terms.specs.Terms.{sides}
 use Rattle.type_absence.specs.Types.{Types}
-use Rattle.type_absence.specs.Seen.{types}
+use Rattle.type_absence.specs.Meaning.{types}
 use Rattle.kan_store.specs.Moving.{TypesMove}
 use Rattle.kan_store.proofs.moving.move_types.Given as goal
 

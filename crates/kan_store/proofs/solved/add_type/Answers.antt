@@ -1,7 +1,7 @@
 use Rattle.std.proofs.lemmas.Result.{IfOk-weaker}
 use Rattle.kan_terms.specs.Terms.{tree}
-use Rattle.type_absence.specs.Seen.{types}
-use Rattle.kan_store.specs.Held.{parts_of}
+use Rattle.type_absence.specs.Meaning.{types}
+use Rattle.kan_store.specs.Meaning.{parts_of}
 use Rattle.kan_store.proofs.SolvedLaws.{typing_puts}
 use Rattle.kan_store.proofs.solved.add_type.Goals as goal
 

@@ -2,11 +2,11 @@ use Rattle.std.proofs.Common.{true, false, map, subst, refl, rules}
 use Rattle.std.proofs.lemmas.Result.{IfOk-weaker}
 use Rattle.kan_terms.specs.Terms.{sides}
 use Rattle.type_absence.specs.Types.{made_if}
-use Rattle.type_absence.specs.Seen.{types, tags}
-use Rattle.diseq.specs.Seen.{disequalities_in}
+use Rattle.type_absence.specs.Meaning.{types, tags}
+use Rattle.diseq.specs.Meaning.{disequalities_in}
 use Rattle.kan_store.specs.Moving.{TypesMove, TagsMove}
 use Rattle.kan_store.specs.Parts.{Carried}
-use Rattle.kan_store.specs.Held.{parts_of}
+use Rattle.kan_store.specs.Meaning.{parts_of}
 use Rattle.kan_store.proofs.SolvedLaws.{added_bind, rechecked}
 use Rattle.kan_store.proofs.solved.carry.Goals as goal
 

@@ -6,7 +6,7 @@ use Rattle.type_absence.specs.Types.{made_if}
 use Rattle.unify_core.specs.Cycles.{HasNoCycle}
 use Rattle.unify_core.specs.Solutions.{AddedTo, equation}
 use Rattle.unify_core.specs.Unifying.{Unifying}
-use Rattle.kan_store.specs.Held.{parts_of}
+use Rattle.kan_store.specs.Meaning.{parts_of}
 use Rattle.kan_store.specs.Parts.{Equated}
 use Rattle.kan_store.proofs.SolvedLaws.{carried_equates}
 use Rattle.kan_store.proofs.solved.equate.Goals as goal

@@ -2,7 +2,7 @@ use Rattle.std.proofs.Common.{◌≡◌, rules, subst}
 use Rattle.std.specs.Option.{IfSome}
 use Rattle.std.specs.Prelude.{Some, None}
 use Rattle.diseq.specs.Kept.{AreWatched}
-use Rattle.diseq.specs.Seen.{asserted_in, disequalities_in, watching_in}
+use Rattle.diseq.specs.Meaning.{asserted_in, disequalities_in, watching_in}
 use Rattle.kan_store.proofs.SolvedLaws.{none_identical, nothing_brought}
 use Rattle.kan_store.specs.Parts.{BroughtUp}
 use Rattle.kan_store.proofs.solved.recheck.Goals as goal

@@ -5,7 +5,7 @@ use Rattle.kan_model.specs.Stores.Prims.{prim as primitive}
 use Rattle.type_absence.specs.Types.{made_if}
 use Rattle.kan_model.specs.Stores.Store.{with_prim}
 use Rattle.kan_store.specs.Parts.{KnownToMake}
-use Rattle.kan_store.specs.Held.{parts_of, store_of}
+use Rattle.kan_store.specs.Meaning.{parts_of, store_of}
 use Rattle.kan_store.proofs.Observing.{no_cycle_known, watched_known}
 use Rattle.kan_store.proofs.StoreLaws.{same_known, seen_known, adding_known}
 use Rattle.kan_store.proofs.store.add_behind.Goals as goal

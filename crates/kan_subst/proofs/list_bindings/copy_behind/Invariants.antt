@@ -1,5 +1,5 @@
 use Rattle.std.proofs.Common.{◌≡◌, ◌++◌, map, take}
-use Rattle.kan_subst.specs.Stored.{pair}
+use Rattle.kan_subst.specs.Meaning.{pair}
 use Rattle.kan_subst.proofs.list_bindings.copy_behind.Given as goal
 
 -- what was written are the bindings up to the index

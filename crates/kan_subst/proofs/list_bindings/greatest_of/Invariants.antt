@@ -1,6 +1,6 @@
 use Rattle.std.proofs.Common.{◌≡◌, ◌≤◌, map, drop, length}
 use Rattle.kan_terms.specs.Greatest.{greatest_bound}
-use Rattle.kan_subst.specs.Stored.{pair}
+use Rattle.kan_subst.specs.Meaning.{pair}
 use Rattle.kan_subst.proofs.list_bindings.greatest_of.Given as goal
 
 -- the greatest of those from the index on

@@ -28,5 +28,5 @@ returns-in-Ok c =
 
 pub returns-in-Err-Fault : goal.returns-in-Err-Fault
 returns-in-Err-Fault c =
-    refused_same c.args.settings _ _ _ _ _ (sym c.in-Err-Fault.at-is) (sym c.in-Err-Fault.number-is)
+    refused_same c.args.settings _ _ _ _ _ (sym c.in-Err-Fault.at-is) (sym c.in-Err-Fault.refusal-is)
     (reading_refused c.args.settings _ c.library_data.new.names c.read.new.names _ _ _ _ c.in_ok-library.ensures.read c.in-Err-Fault.field-0-is (c.in-Err-Fault.ensures.reads c.read.new.names (goes_on_same c.read.new.names)))

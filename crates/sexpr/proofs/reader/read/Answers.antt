@@ -2,6 +2,7 @@
 use Rattle.std.proofs.Common.{◌+◌, ◌<◌, length, sym, ap, ◌∙◌, subst, arith}
 use Rattle.std.specs.Str.{IsUtf8}
 use Rattle.std.proofs.lemmas.Bool.Decides.{nat_tests}
+use Rattle.kan_refusals.specs.declared.refusals.Refusal.{Refusal}
 use Rattle.kan_grammar.specs.Data.Faults.{refused, fault}
 use Rattle.kan_grammar.proofs.Texts.NameLaws.{extends_same, extends_further}
 use Rattle.sexpr.specs.Meaning.{piece_of}
@@ -11,7 +12,7 @@ use Rattle.sexpr.proofs.ReadLaws.{not_a_text, left_first, left_more, left_next, 
 use Rattle.sexpr.proofs.reader.read.Goals as goal
 
 pub returns-in-Err-clause-reads : goal.returns-in-Err-clause-reads
-returns-in-Err-clause-reads c = λ later g. not_a_text c.args.bytes.now c.in-Err.ensures.cases.0 ∙ ap (λ n. refused (fault n 1)) (sym (c.valid_up_to.ensures ∙ c.in-Err.ensures.valid_len))
+returns-in-Err-clause-reads c = λ later g. not_a_text c.args.bytes.now c.in-Err.ensures.cases.0 ∙ ap (λ n. refused (fault n Refusal.NotUtf8)) (sym (c.valid_up_to.ensures ∙ c.in-Err.ensures.valid_len))
 
 pub returns-in-Err-clause-extends : goal.returns-in-Err-clause-extends
 returns-in-Err-clause-extends c = extends_same (length c.args.bytes.now) c.args.names.now

@@ -1,16 +1,16 @@
 use Rattle.stream_core.proofs.Paths.ForceLaws.{around-binds, bound-force, swapped-force, no-around}
 use Rattle.stream_core.proofs.forcing.go_around.Goals as goal
 
-pub bind_later-requires-clause-is : goal.bind_later-requires-clause-is
-bind_later-requires-clause-is g c =
+pub bind_with-requires-clause-is : goal.bind_with-requires-clause-is
+bind_with-requires-clause-is g c =
     (around-binds (g.N.Nodes.table c.args.nodes.now) c.args.program.now g.St.Store.meaning c.requires.table c.args.thunk c.in-Bind.goal c.in-Bind.env _ c.args.inside c.in-Bind.is c.requires.may c.requires.inside).is
 
-pub bind_later-requires-clause-room : goal.bind_later-requires-clause-room
-bind_later-requires-clause-room g c =
+pub bind_with-requires-clause-room : goal.bind_with-requires-clause-room
+bind_with-requires-clause-room g c =
     (around-binds (g.N.Nodes.table c.args.nodes.now) c.args.program.now g.St.Store.meaning c.requires.table c.args.thunk c.in-Bind.goal c.in-Bind.env _ c.args.inside c.in-Bind.is c.requires.may c.requires.inside).room
 
-pub bind_later-requires-clause-below : goal.bind_later-requires-clause-below
-bind_later-requires-clause-below g c =
+pub bind_with-requires-clause-below : goal.bind_with-requires-clause-below
+bind_with-requires-clause-below g c =
     (around-binds (g.N.Nodes.table c.args.nodes.now) c.args.program.now g.St.Store.meaning c.requires.table c.args.thunk c.in-Bind.goal c.in-Bind.env _ c.args.inside c.in-Bind.is c.requires.may c.requires.inside).below
 
 pub returns-in-Bind-clause-made : goal.returns-in-Bind-clause-made

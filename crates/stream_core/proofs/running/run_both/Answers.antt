@@ -17,7 +17,7 @@ pub returns-in-Some-clause-becomes : goal.returns-in-Some-clause-becomes
 returns-in-Some-clause-becomes g c =
     let p = c.args.program.now in
     let means = g.St.Store.meaning in
-    let ran = ap (λ o. ends_with (option_map means o)) (sym c.in-Some.is) ∙ c.in_ok-longer.ensures ∙ ap (λ h. run h (terms_of c.args.env) (means c.args.store)) (sym c.node_at-node.ensures.is) in
+    let ran = ap (λ o. ends_with (option_map means o)) (sym c.in-Some.is) ∙ c.in_ok-longer.ensures ∙ ap (λ h. run h (terms_of c.args.env) (means c.args.store)) (sym c.goal_node-node.ensures.is) in
     let step = becomes-both-one (programs.meaning p) (program-closed p c.requires.small) (programs.goal p c.args.first) (programs.goal p c.args.second) (terms_of c.args.env)
     (means c.args.store) (means c.in-Some.store) _ _ (count-some _ _ _) ran in
     on-ok _ _ _ (λ stacks. becomes-moved (programs.meaning p) _ _ _ _ _ _ step (stacks (programs.goal p)) refl) c.run_alone.ensures
@@ -27,7 +27,7 @@ returns-in_ok-push-in-None-clause-becomes g c =
     let p = c.args.program.now in
     let means = g.St.Store.meaning in
     let was = stream_in (g.N.Nodes.table c.args.table.now) means in
-    let ran = ap (λ o. ends_with (option_map means o)) (sym c.in-None.is) ∙ c.in_ok-longer.ensures ∙ ap (λ h. run h (terms_of c.args.env) (means c.args.store)) (sym c.node_at-node.ensures.is) in
+    let ran = ap (λ o. ends_with (option_map means o)) (sym c.in-None.is) ∙ c.in_ok-longer.ensures ∙ ap (λ h. run h (terms_of c.args.env) (means c.args.store)) (sym c.goal_node-node.ensures.is) in
     let step = becomes-both-none (programs.meaning p) (program-closed p c.requires.small) (programs.goal p c.args.first) (programs.goal p c.args.second) (terms_of c.args.env)
     (means c.args.store) _ _ (count-some _ _ _) ran in
     becomes-moved (programs.meaning p) _ _ _ _ _ _ step refl

@@ -1,11 +1,11 @@
 -- Each element begins in its own way.
 use Rattle.std.proofs.Common.{sym}
-use Rattle.term_reading.proofs.ShapeLaws.{hash_got, mark_got, open_got, word_shape_got}
+use Rattle.term_reading.proofs.ShapeLaws.{hash_got, mark_got, begun_got, word_shape_got}
 use Rattle.term_reading.proofs.WordLaws.{if_ok}
 use Rattle.term_reading.proofs.shapes.read_element.Goals as goal
 
-pub returns-in-Open-clause-reads : goal.returns-in-Open-clause-reads
-returns-in-Open-clause-reads c = open_got c.args.names.now c.args.bytes.now c.behind.result.now _ _ (sym c.in-Open.ensures) c.behind.ensures c.list_begun.ensures.reads
+pub returns-in-Bracket-clause-reads : goal.returns-in-Bracket-clause-reads
+returns-in-Bracket-clause-reads c = begun_got c.args.names.now c.args.bytes.now c.behind.result.now _ _ (sym c.in-Bracket.ensures) c.behind.ensures c.list_begun.ensures.reads
 
 pub returns-in-Hash-clause-reads : goal.returns-in-Hash-clause-reads
 returns-in-Hash-clause-reads c = hash_got c.args.names.now c.args.bytes.now c.behind-in-Hash.result.now _ _ (sym c.in-Hash.ensures) c.behind-in-Hash.ensures c.truth.ensures.reads

@@ -1,6 +1,6 @@
 use Rattle.std.proofs.Common.{rules, map}
 use Rattle.kan_terms.specs.Terms.{sides}
-use Rattle.diseq.specs.Seen.{asserted_in, watching_in, watchers}
+use Rattle.diseq.specs.Meaning.{asserted_in, watching_in, watchers}
 use Rattle.diseq.proofs.KeptLaws.{recheck_none, recheck_watched, recheck_some}
 use Rattle.diseq.proofs.diseqs.Diseqs.recheck.Goals as goal
 

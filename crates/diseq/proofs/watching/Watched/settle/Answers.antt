@@ -1,6 +1,6 @@
 use Rattle.std.proofs.Common.{arith, rules, map}
 use Rattle.kan_terms.specs.Terms.{sides}
-use Rattle.diseq.specs.Seen.{watchers}
+use Rattle.diseq.specs.Meaning.{watchers}
 use Rattle.diseq.proofs.KeptLaws.{fining_on, fining_off, fining_done}
 use Rattle.diseq.proofs.watching.Watched.settle.Goals as goal
 

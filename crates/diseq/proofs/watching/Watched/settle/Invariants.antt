@@ -1,6 +1,6 @@
 use Rattle.std.proofs.Common.{drop, map}
 use Rattle.kan_terms.specs.Terms.{sides}
-use Rattle.diseq.specs.Seen.{watchers}
+use Rattle.diseq.specs.Meaning.{watchers}
 use Rattle.diseq.proofs.KeptLaws.{Fining}
 use Rattle.diseq.proofs.watching.Watched.settle.Given as goal
 

@@ -1,6 +1,6 @@
 use Rattle.std.proofs.lemmas.Result.{IfOk-weaker}
 use Rattle.diseq.specs.Chains.{forms}
-use Rattle.diseq.specs.Seen.{watchers}
+use Rattle.diseq.specs.Meaning.{watchers}
 use Rattle.diseq.proofs.KeptLaws.{taken_nothing, taken_settles}
 use Rattle.diseq.proofs.watching.Watched.settle_bound.Goals as goal
 

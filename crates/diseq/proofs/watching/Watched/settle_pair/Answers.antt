@@ -1,6 +1,6 @@
 use Rattle.std.proofs.Common.{rules}
 use Rattle.kan_terms.specs.Terms.{tree}
-use Rattle.diseq.specs.Seen.{watchers}
+use Rattle.diseq.specs.Meaning.{watchers}
 use Rattle.diseq.proofs.KeptLaws.{settled_both}
 use Rattle.diseq.proofs.watching.Watched.settle_pair.Goals as goal
 

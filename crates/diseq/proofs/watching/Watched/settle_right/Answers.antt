@@ -1,6 +1,6 @@
 use Rattle.kan_terms.specs.Terms.{tree}
 use Rattle.unify_core.proofs.Steps.WalkSteps.{no_leaf}
-use Rattle.diseq.specs.Seen.{watchers}
+use Rattle.diseq.specs.Meaning.{watchers}
 use Rattle.diseq.proofs.KeptLaws.{settled_term}
 use Rattle.diseq.proofs.watching.Watched.settle_right.Goals as goal
 

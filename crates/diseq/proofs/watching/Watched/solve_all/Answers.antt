@@ -1,7 +1,7 @@
 use Rattle.std.proofs.Common.{◌≡◌, ◌++◌, ◌∷◌, [], rules, map}
 use Rattle.kan_model.specs.Stores.Prims.{equation as pair_equation}
 use Rattle.diseq.specs.Chains.{forms}
-use Rattle.diseq.specs.Seen.{watchers}
+use Rattle.diseq.specs.Meaning.{watchers}
 use Rattle.diseq.proofs.KeptLaws.{looking_off}
 use Rattle.diseq.proofs.watching.Watched.solve_all.Goals as goal
 

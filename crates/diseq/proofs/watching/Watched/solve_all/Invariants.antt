@@ -1,6 +1,6 @@
 use Rattle.std.proofs.Common.{length}
 use Rattle.diseq.specs.Chains.{forms}
-use Rattle.diseq.specs.Seen.{watchers}
+use Rattle.diseq.specs.Meaning.{watchers}
 use Rattle.diseq.proofs.KeptLaws.{Looking}
 use Rattle.diseq.proofs.watching.Watched.solve_all.Given as goal
 

@@ -2,7 +2,7 @@ use Rattle.std.proofs.Common.{◌∙◌, map, sym, ap}
 use Rattle.std.proofs.lemmas.Result.{on_ok_weaker}
 use Rattle.kan_model.specs.Stores.Prims.{equation as pair_equation}
 use Rattle.diseq.specs.Looking.{may_be_same}
-use Rattle.diseq.specs.Seen.{watchers}
+use Rattle.diseq.specs.Meaning.{watchers}
 use Rattle.diseq.specs.Watching.{is_watched_by}
 use Rattle.diseq.proofs.KeptLaws.{put_given}
 use Rattle.diseq.proofs.watching.Watched.watch.Goals as goal

@@ -1,7 +1,7 @@
 use Rattle.std.proofs.Common.{ap, arith}
 use Rattle.std.specs.Arc.{arc_value}
 use Rattle.kan_model.specs.Stores.Prims.{prim as primitive}
-use Rattle.kan_store.specs.Held.{parts_of, store_of}
+use Rattle.kan_store.specs.Meaning.{parts_of, store_of}
 use Rattle.kan_store.proofs.StoreLaws.{longer_known, kept_known, longer_counted}
 use Rattle.kan_store.proofs.store.SolvedStoreStore.assert_owned.Goals as goal
 

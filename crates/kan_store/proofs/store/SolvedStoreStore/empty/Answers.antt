@@ -1,5 +1,5 @@
 use Rattle.std.proofs.Common.{refl}
-use Rattle.kan_store.specs.Held.{parts_of}
+use Rattle.kan_store.specs.Meaning.{parts_of}
 use Rattle.kan_store.proofs.StoreLaws.{empty_known, kept_known}
 use Rattle.kan_store.proofs.store.SolvedStoreStore.empty.Goals as goal
 

@@ -1,6 +1,6 @@
 use Rattle.std.proofs.Common.{◌≡◌, ◌∙◌, ◌+◌, ap₂, arith}
 use Rattle.std.specs.Arc.{arc_value}
-use Rattle.kan_store.specs.Held.{parts_of, store_of}
+use Rattle.kan_store.specs.Meaning.{parts_of, store_of}
 use Rattle.kan_store.proofs.StoreLaws.{fresh_known, fresh_counted, kept_known}
 use Rattle.kan_store.proofs.store.SolvedStoreStore.fresh_owned.Goals as goal
 

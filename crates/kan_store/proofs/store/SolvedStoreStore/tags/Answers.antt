@@ -1,6 +1,6 @@
 use Rattle.std.specs.Arc.{arc_value}
 use Rattle.std.proofs.lemmas.Result.{IfOk-weaker}
-use Rattle.kan_store.specs.Held.{parts_of, store_of}
+use Rattle.kan_store.specs.Meaning.{parts_of, store_of}
 use Rattle.kan_store.proofs.Observing.{tags_known}
 use Rattle.kan_store.proofs.StoreLaws.{shown_known}
 use Rattle.kan_store.proofs.store.SolvedStoreStore.tags.Goals as goal

@@ -1,6 +1,6 @@
 use Rattle.std.specs.Arc.{arc_value}
 use Rattle.kan_terms.specs.Terms.{tree}
-use Rattle.kan_store.specs.Held.{parts_of, store_of}
+use Rattle.kan_store.specs.Meaning.{parts_of, store_of}
 use Rattle.kan_store.proofs.Observing.{no_cycle_known}
 use Rattle.kan_store.proofs.StoreLaws.{shown_known, walk_told}
 use Rattle.kan_store.proofs.store.SolvedStoreStore.walk.Goals as goal

@@ -1,6 +1,6 @@
 use Rattle.kan_terms.specs.Terms.{tree}
 use Rattle.unify_core.specs.Walking.{full}
-use Rattle.type_absence.specs.Seen.{tags}
+use Rattle.type_absence.specs.Meaning.{tags}
 use Rattle.type_absence.proofs.TagSteps.{first_found, first_leads, turn_found, turn_leads, turn_falls}
 use Rattle.type_absence.proofs.absence.Absences.put_inside.Goals as goal
 

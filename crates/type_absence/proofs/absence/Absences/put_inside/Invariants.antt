@@ -2,7 +2,7 @@ use Rattle.kan_terms.specs.Terms.{tree}
 use Rattle.kan_terms.specs.Waiting.{waiting_trees}
 use Rattle.unify_core.specs.Walking.{full}
 use Rattle.unify_core.proofs.Steps.OccursSteps.{nodes}
-use Rattle.type_absence.specs.Seen.{tags}
+use Rattle.type_absence.specs.Meaning.{tags}
 use Rattle.type_absence.proofs.TagSteps.{Leads}
 use Rattle.type_absence.proofs.absence.Absences.put_inside.Given as goal
 

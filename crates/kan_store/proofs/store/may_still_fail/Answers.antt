@@ -1,6 +1,6 @@
 use Rattle.std.proofs.Common.{◌≡◌, ◌++◌, ◌∷◌, [], rules}
 use Rattle.kan_store.proofs.ResolvingLaws.{open_on, open_done}
-use Rattle.kan_store.proofs.store.still_open.Goals as goal
+use Rattle.kan_store.proofs.store.may_still_fail.Goals as goal
 
 pub loop-pairs-preserved : goal.loop-pairs-preserved
 loop-pairs-preserved g c =

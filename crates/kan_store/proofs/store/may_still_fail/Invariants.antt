@@ -1,6 +1,6 @@
 use Rattle.std.proofs.Common.{length}
 use Rattle.kan_store.proofs.ResolvingLaws.{StillOpen}
-use Rattle.kan_store.proofs.store.still_open.Given as goal
+use Rattle.kan_store.proofs.store.may_still_fail.Given as goal
 
 -- what is left of the lists that wait, behind what is left so far, is what is left of all
 abbrev pub invariant-loop-pairs : goal.invariant-loop-pairs

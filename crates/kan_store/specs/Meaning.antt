@@ -5,8 +5,8 @@ use Rattle.kan_model.specs.Stores.Prims.{equation}
 use Rattle.kan_model.specs.Stores.Store.{Store, Equation}
 use Rattle.kan_terms.specs.declared.terms.TermPair.{TermPair}
 use Rattle.unify_core.specs.Walking.{Pairs}
-use Rattle.type_absence.specs.Seen.{types, tags}
-use Rattle.diseq.specs.Seen.{disequalities_in}
+use Rattle.type_absence.specs.Meaning.{types, tags}
+use Rattle.diseq.specs.Meaning.{disequalities_in}
 use Rattle.kan_store.specs.Parts.{Parts}
 use Rattle.kan_store.specs.declared.solved.Solved.{Solved}
 use Rattle.kan_store.specs.declared.store.Held.{Held}
