@@ -11,19 +11,34 @@ use std::alloc::Global;
 // How many bytes a line has at most.
 const LONGEST: usize = 1_048_576;
 
-/// Whether a line is an answer that is printed as the line.
-pub(crate) fn is_read(alloc: Global, line: &str, names: &mut Names) -> Result<bool, Memory>
+/// What comes of reading a line.
+#[derive(Clone, Copy, Debug, PartialEq, Eq)]
+pub(crate) enum Reading {
+    /// An answer that is printed as the line.
+    Same,
+    /// An answer that is printed otherwise, or too long a line.
+    Other,
+    /// The line is no answer.
+    Refused,
+}
+
+/// Reads a line, and prints what is read.
+pub(crate) fn read_line(alloc: Global, line: &str, names: &mut Names) -> Result<Reading, Memory>
     requires { names.old ≡ no_names }
 {
     if line.len() > LONGEST {
-        return Ok(false);
+        return Ok(Reading::Other);
     }
     match read_answer(alloc, line.as_bytes(), names) {
         Ok(answer) => {
             let text = print_answer(alloc, &answer, names)?;
-            Ok(text.as_slice() == line.as_bytes())
+            if text.as_slice() == line.as_bytes() {
+                Ok(Reading::Same)
+            } else {
+                Ok(Reading::Other)
+            }
         }
-        Err(AnswerFault::NotAnAnswer) => Ok(false),
+        Err(AnswerFault::NotAnAnswer) => Ok(Reading::Refused),
         Err(AnswerFault::Memory) => Err(Memory),
     }
 }

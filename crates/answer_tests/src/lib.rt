@@ -1,4 +1,4 @@
-//! Tests of lines of answers: which are read back, and which ground terms an answer covers.
+//! Tests of which ground terms the answer of a line covers.
 #![tactic(auto)]
 
 #[cfg(test)]
