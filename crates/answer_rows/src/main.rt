@@ -12,26 +12,21 @@ use std::alloc::Global;
 use std::process::ExitCode;
 use std::{env, io, str};
 
-// How many lines passed, and how many failed; and the number of the last line in its file.
+// How many lines passed, and how many failed.
 #[derive(Clone, Copy)]
 struct Count {
     passed: u64,
     failed: u64,
-    number: u64,
 }
 
 impl Count {
-    // Counts one more line, and prints its number where it failed.
-    fn add(&mut self, rt: &HostRuntime, name: &str, passed: bool) -> io::Result<()> {
-        self.number = self.number.saturating_add(1);
+    // Counts one more line.
+    fn add(&mut self, passed: bool) {
         if passed {
             self.passed = self.passed.saturating_add(1);
         } else {
             self.failed = self.failed.saturating_add(1);
-            let number = self.number;
-            println!(rt; "{name}: line {number} failed")?;
         }
-        Ok(())
     }
 }
 
@@ -51,27 +46,30 @@ fn try_line(alloc: Global, line: &str, wanted: Reading) -> Result<bool, Memory> 
     Ok(read == wanted)
 }
 
-// Tries the lines of a text.
+// Tries the lines of a text, and prints the numbers of those that fail.
 fn try_lines(rt: &HostRuntime, name: &str, text: &str, count: &mut Count) -> io::Result<()> {
     let wanted = wanted_of(name);
-    count.number = 0;
-    for line in text.lines() {
+    for (at, line) in text.lines().enumerate() {
         let passed = try_line(rt.alloc(), line, wanted) == Ok(true);
-        count.add(rt, name, passed)?;
+        count.add(passed);
+        if !passed {
+            let number = at.saturating_add(1);
+            println!(rt; "{name}: line {number} failed")?;
+        }
     }
     Ok(())
 }
 
-// Reads a file and tries its lines.
+// Reads a file and tries its lines. A file without a text counts as a line that fails.
 fn try_file(rt: &HostRuntime, name: &str, count: &mut Count) -> io::Result<()> {
     let mut folder = StdSource::new(*rt);
-    let Ok(bytes) = take_text(rt.alloc(), &mut folder, Place::File(name)) else {
-        return count.add(rt, name, false);
-    };
-    match str::from_utf8(&bytes) {
-        Ok(text) => try_lines(rt, name, text, count),
-        Err(_) => count.add(rt, name, false),
+    if let Ok(bytes) = take_text(rt.alloc(), &mut folder, Place::File(name)) {
+        if let Ok(text) = str::from_utf8(&bytes) {
+            return try_lines(rt, name, text, count);
+        }
     }
+    count.add(false);
+    println!(rt; "{name} is no text")
 }
 
 // Tries the files that the words name.
@@ -79,16 +77,11 @@ fn try_files(rt: &HostRuntime) -> io::Result<Count> {
     let mut count = Count {
         passed: 0,
         failed: 0,
-        number: 0,
     };
     for name in env::args(rt)?.skip(1) {
         try_file(rt, &name, &mut count)?;
     }
-    let Count {
-        passed,
-        failed,
-        number: _,
-    } = count;
+    let Count { passed, failed } = count;
     println!(rt; "{passed} passed, {failed} failed")?;
     Ok(count)
 }

@@ -23,9 +23,6 @@ built_library = filled library_rule
 abbrev pub built_file : Rule
 built_file = record (filled file_rule) { index = Some 1 }
 
-rules_are : rules ≡ built_option (codes "workers") ∷ built_option (codes "fuel") ∷ built_option (codes "ahead") ∷ built_option (codes "round") ∷ built_option (codes "dialect") ∷ built_option (codes "gen") ∷ built_library ∷ built_file ∷ []
-rules_are = refl
-
 -- the rule of a name
 abbrev pub by_name : Option Setting → Bool → Option Rule
 by_name (Some s) lib = Some (built_option (name_of s))

@@ -10,7 +10,7 @@ use Rattle.kan_model.specs.Streams.Stream as model
 use Rattle.stream_core.specs.Suspensions.{going_on}
 use Rattle.susp_cells.specs.Places.{Place, label_tree}
 use Rattle.task_deques.specs.declared.holders.TaskDeque.{TaskDeque}
-use Rattle.task_deques.specs.Holders.{Holder, deque_of, pushed, taken, deque_part, stealer_parts}
+use Rattle.task_deques.specs.Holders.{Holder, deque_of, pushed_to, taken_from, deque_part, stealer_parts}
 use Rattle.crew.specs.declared.tasks.Offered.{Offered}
 use Rattle.crew.specs.Offers.{IsPartOf, Offers, tail_of, tree_of, offered_trees, offered_inside, offered_for}
 use Rattle.crew.specs.Offers.IsPartOf.{none, with, without}
@@ -35,12 +35,12 @@ module _ {St : Type 0} where
 
   -- nothing was pushed
   none_pushed : (h : Holder (Offered St)) (d : TaskDeque (Offered St)) (trees : List model.Thunk) →
-      pushed d ≡ pushed h.deque → deque_part d ≡ deque_part h.deque → taken d ≡ taken h.deque →
+      pushed_to d ≡ pushed_to h.deque → deque_part d ≡ deque_part h.deque → taken_from d ≡ taken_from h.deque →
       Offers h (with_deque h d) trees
   none_pushed h d trees same part kept = record {
     given = [];
     some = part_none trees;
-    pushed_more = same ∙ sym (append-nil (pushed h.deque));
+    pushed_more = same ∙ sym (append-nil (pushed_to h.deque));
     part = ap (λ p. (p, stealer_parts h)) part;
     taken_same = kept;
     others = refl;
@@ -51,9 +51,9 @@ module _ {St : Type 0} where
 
   -- one was pushed, or handed back
   pub one_offered : (h : Holder (Offered St)) (d : TaskDeque (Offered St)) (copy susp : Place) (r : Result (Unit {0}) (Offered St)) →
-      copy ≡ susp → OnOk r (pushed d ≡ pushed h.deque ++ record { susp = copy } ∷ []) →
-      IfErr r (λ back. (back ≡ record { susp = copy }) × (pushed d ≡ pushed h.deque)) →
-      deque_part d ≡ deque_part h.deque → taken d ≡ taken h.deque →
+      copy ≡ susp → OnOk r (pushed_to d ≡ pushed_to h.deque ++ record { susp = copy } ∷ []) →
+      IfErr r (λ back. (back ≡ record { susp = copy }) × (pushed_to d ≡ pushed_to h.deque)) →
+      deque_part d ≡ deque_part h.deque → taken_from d ≡ taken_from h.deque →
       Offers h (record { deque = d; others = h.others }) (label_tree susp ∷ [])
   one_offered h d copy susp (Ok x) is ok err part kept = record {
     given = record { susp = copy } ∷ [];
@@ -71,7 +71,7 @@ module _ {St : Type 0} where
   both_offered before between after trees more p q = record {
     given = p.given ++ q.given;
     some = subst (λ l. IsPartOf l (trees ++ more)) (sym (map-append (λ (t : Offered St). tree_of t) p.given q.given)) (part_join p.some q.some);
-    pushed_more = q.pushed_more ∙ ap (λ l. l ++ q.given) p.pushed_more ∙ append_assoc (pushed (deque_of before)) p.given q.given;
+    pushed_more = q.pushed_more ∙ ap (λ l. l ++ q.given) p.pushed_more ∙ append_assoc (pushed_to (deque_of before)) p.given q.given;
     part = q.part ∙ p.part;
     taken_same = q.taken_same ∙ p.taken_same;
     others = q.others ∙ p.others;

@@ -3,7 +3,7 @@ use Rattle.std.proofs.Common.{◌≡◌, ℕ, ◌+◌, Bool, true, false, cond, 
 use Rattle.std.specs.Prelude.{flat_map, IsPermutation}
 use Rattle.std.proofs.lemmas.List.{append-nil}
 use Rattle.kan_model.specs.Programs.Goals.{Program}
-use Rattle.task_deques.specs.Holders.{Holder, holder_part, deque_of, others_of, pushed, pushed_by, pushed_through, taken_by, taken_through}
+use Rattle.task_deques.specs.Holders.{Holder, holder_part, deque_of, others_of, pushed_to, pushed_by, pushed_through, taken_by, taken_through}
 use Rattle.task_deques.proofs.Lists.{like, then, before, to_end}
 use Rattle.crew.specs.declared.tasks.Offered.{Offered}
 use Rattle.crew.specs.Offers.{Offers, tree_of}
@@ -52,7 +52,7 @@ module _ {St : Type 0} where
         (more (taken_by between) (taken_by here) (taken_by start) s.took (task ∷ []) took s.taken);
     pushed =
         then (like _ _ (λ i. o.pushed_more i ++ flat_map pushed_through (o.others i)))
-        (then (to_end (pushed (deque_of between)) o.given (flat_map pushed_through (others_of between)))
+        (then (to_end (pushed_to (deque_of between)) o.given (flat_map pushed_through (others_of between)))
         (more (pushed_by between ++ o.given) (pushed_by here) (pushed_by start) s.gave o.given (like _ _ (ap (λ l. l ++ o.given) same)) s.pushed));
     part = o.part ∙ part ∙ s.part;
   }

@@ -3,7 +3,7 @@ use Rattle.std.specs.Prelude.{◌≡◌, List, [], ◌∷◌, ◌++◌, map, Opt
 use Rattle.std.specs.Option.{option_to_list}
 use Rattle.kan_model.specs.Streams.Stream as model
 use Rattle.susp_cells.specs.Places.{label_tree}
-use Rattle.task_deques.specs.Holders.{Holder, holder_part, deque_of, others_of, pushed, taken}
+use Rattle.task_deques.specs.Holders.{Holder, holder_part, deque_of, others_of, pushed_to, taken_from}
 use Rattle.crew.specs.declared.tasks.Offered.{Offered}
 
 -- how a stream goes on
@@ -43,7 +43,7 @@ module _ {St : Type 0} where
   pub record Offers (before after : Holder (Offered St)) (trees : List model.Thunk) : Type 0 where
     pub given : List (Offered St)
     pub some : IsPartOf (map tree_of given) trees
-    pub pushed_more : pushed (deque_of after) ≡ pushed (deque_of before) ++ given
+    pub pushed_more : pushed_to (deque_of after) ≡ pushed_to (deque_of before) ++ given
     pub part : holder_part after ≡ holder_part before
-    pub taken_same : taken (deque_of after) ≡ taken (deque_of before)
+    pub taken_same : taken_from (deque_of after) ≡ taken_from (deque_of before)
     pub others : others_of after ≡ others_of before

@@ -1,5 +1,5 @@
 -- Disequalities stay kept as they are looked at again.
-use Rattle.std.proofs.Common.{◌≡◌, ◌≢◌, ◌↔◌, ℕ, suc, ◌<◌, ◌+◌, Bool, true, false, ◌&&◌, ◌||◌, not, eqb, List, [], ◌∷◌, ◌++◌, ◌⊎◌, length, drop, drop-cons, map, get_or, Option, Some, None, inl, inr, unwrap_or, sym, ap, subst, refl, arith, ◌∙◌, if◌then◌else◌, append-nil, append_assoc}
+use Rattle.std.proofs.Common.{◌≡◌, ◌≢◌, ◌↔◌, ℕ, suc, ◌<◌, ◌+◌, Bool, true, false, ◌&&◌, ◌||◌, not, eqb, List, [], ◌∷◌, ◌++◌, ◌⊎◌, length, drop, drop-cons, map, get_or, Option, Some, None, inl, inr, sym, ap, subst, refl, arith, ◌∙◌, if◌then◌else◌, append_assoc}
 use Rattle.std.specs.List.{list_any}
 use Rattle.std.specs.Coded.{Coded-set, coded_bool}
 use Rattle.std.proofs.Math.Logic.{∥∥₁_elim, ∥∥₁_map}
@@ -8,7 +8,6 @@ use Rattle.std.proofs.lemmas.List.{drop_all}
 use Rattle.kan_terms.specs.Tree.{Tree, Tm}
 use Rattle.kan_terms.specs.Terms.{sides, tree}
 use Rattle.kan_terms.specs.declared.terms.TermPair.{TermPair}
-use Rattle.kan_tree.specs.UnderKeys.{under_key}
 use Rattle.kan_model.specs.Stores.Kept.{is_variable}
 use Rattle.unify_core.specs.Walking.{Pairs, ends}
 use Rattle.unify_core.specs.Cycles.{HasNoCycle}
@@ -17,13 +16,10 @@ use Rattle.unify_core.proofs.GrowthLaws.{Grown}
 use Rattle.unify_core.proofs.CycleLaws.{grown}
 use Rattle.unify_core.proofs.AddedLaws.{added_solutions}
 use Rattle.diseq.specs.Among.{Among}
-use Rattle.diseq.specs.Chains.{forms}
 use Rattle.diseq.specs.Disequalities.{Disequality, SaysAsMuch, NeverEqual, is_identical}
 use Rattle.diseq.specs.Kept.{Watchers, IsKept, StandsFor, AreKept, AreWatched}
 use Rattle.diseq.specs.Looking.{IsGiven, IsPut, IsTaken, IsWeaker, LooksAt, Settles, SettlesAll, is_settled, is_fine}
-use Rattle.diseq.specs.Meaning.{watchers}
 use Rattle.diseq.specs.Watching.{is_watchable, is_apart, is_watched_by, watches, is_woken}
-use Rattle.diseq.specs.declared.watching.Watched.{Watched}
 use Rattle.diseq.proofs.AmongLaws.{among-left, among-last, among-cases, any-among, none-among}
 use Rattle.diseq.proofs.BroughtLaws.{full_solves, unifies_identical, identical_unifies}
 use Rattle.diseq.proofs.ListLaws.{and_both}
@@ -62,31 +58,6 @@ has_watcher bound (e ∷ es) h = by e.left h
     by Tree.nil h = cc
     by (Tree.pair a b) h = cc
 
--- what a variable watches, where a chain was put
-module _ (old new : Watched) (x : ℕ) (fs : List Disequality) (put : (k : ℕ) → under_key forms new.chains k ≡ (if eqb k x then Some fs else under_key forms old.chains k)) where
-  at_key : (y : ℕ) (c : Bool) → eqb y x ≡ c → watchers new y ≡ (if c then fs else watchers old y)
-  at_key y true e = ap (λ o. unwrap_or o []) (put y ∙ ap (λ c. if c then Some fs else under_key forms old.chains y) e)
-  at_key y false e = ap (λ o. unwrap_or o []) (put y ∙ ap (λ c. if c then Some fs else under_key forms old.chains y) e)
-
-  -- one more
-  pub put_behind : (es : Disequality) → fs ≡ watchers old x ++ es ∷ [] → IsPut (watchers old) x es (watchers new)
-  put_behind es is y = by (eqb y x) refl
-    where
-      by : (c : Bool) → eqb y x ≡ c → watchers new y ≡ (if c then watchers old y ++ es ∷ [] else watchers old y)
-      by true e = at_key y true e ∙ is ∙ ap (λ z. watchers old z ++ es ∷ []) (sym (eqb-true y x e))
-      by false e = at_key y false e
-
-  -- or none
-  pub put_none : fs ≡ [] → IsTaken (watchers old) x (watchers new)
-  put_none is = record {
-    others = λ y e gs a. subst (Among gs) (sym (at_key y false e)) a;
-    fewer = λ y gs a. by y gs a (eqb y x) refl;
-  }
-    where
-      by : (y : ℕ) (gs : Disequality) → Among gs (watchers new y) → (c : Bool) → eqb y x ≡ c → Among gs (watchers old y)
-      by y gs a true e = absurd (subst (Among gs) (at_key y true e ∙ is) a)
-      by y gs a false e = subst (Among gs) (at_key y false e) a
-
 pub taken_nothing : (old : Watchers) (x : ℕ) → IsTaken old x old
 taken_nothing old x = record { others = λ y e fs a. a; fewer = λ y fs a. a }
 
@@ -109,13 +80,6 @@ module _ (old new : Watchers) (x : ℕ) (es : Disequality) (watcher : (y : ℕ) 
     more = λ y fs a. put_more y fs a (eqb y x) refl;
     only = λ y fs a. put_only y fs a (eqb y x) refl;
   }
-
-pub given_nobody : (old : Watchers) (es : Disequality) → ((y : ℕ) → is_watched_by y es ≡ false) → IsGiven old es old
-given_nobody old es none = record {
-  listed = λ y h. absurd (true≢false (sym h ∙ none y));
-  more = λ y fs a. a;
-  only = λ y fs a. inl a;
-}
 
 -- a weaker test
 pub kept_weaker : (bound : Pairs) (test weak : Disequality → Bool) → ((es : Disequality) → test es ≡ true → weak es ≡ true) → (asserted waiting : List Disequality) (watching : Watchers) →
@@ -181,19 +145,10 @@ abbrev pub Looking : Pairs → List Disequality → List Disequality → Watcher
 Looking bound all left old new =
     (test : Disequality → Bool) → IsWeaker bound test → (asserted rest : List Disequality) → AreKept bound test asserted (rest ++ all) old → AreKept bound test asserted (rest ++ left) new
 
-pub looking_on : (bound : Pairs) (all left older : List Disequality) (newest : Disequality) (start old new : Watchers) → left ≡ older ++ newest ∷ [] → Looking bound all left start old →
-    LooksAt bound (newest ∷ []) old new true → Looking bound all older start new
-looking_on bound all left older newest start old new split looking looked test weaker asserted rest kept =
-    looked test weaker asserted (rest ++ older) (subst (λ ws. AreKept bound test asserted ws old) (ap (λ ws. rest ++ ws) split ∙ sym (append_assoc rest older (newest ∷ []))) (looking test weaker asserted rest kept))
-
 pub looking_off : (bound : Pairs) (all left older : List Disequality) (newest : Disequality) (start old new : Watchers) → left ≡ older ++ newest ∷ [] → Looking bound all left start old →
     LooksAt bound (newest ∷ []) old new false → LooksAt bound all start new false
 looking_off bound all left older newest start old new split looking looked test weaker asserted rest kept =
     looked test weaker asserted (rest ++ older) (subst (λ ws. AreKept bound test asserted ws old) (ap (λ ws. rest ++ ws) split ∙ sym (append_assoc rest older (newest ∷ []))) (looking test weaker asserted rest kept))
-
-pub looking_done : (bound : Pairs) (all left : List Disequality) (old new : Watchers) → left ≡ [] → Looking bound all left old new → LooksAt bound all old new true
-looking_done bound all left old new none looking test weaker asserted rest kept =
-    subst (λ ws. AreKept bound test asserted ws new) (ap (λ ws. rest ++ ws) none ∙ append-nil rest) (looking test weaker asserted rest kept)
 
 -- all that a variable watches wait, and are looked at
 module _ (bound : Pairs) (x : ℕ) (old taken : Watchers) (take : IsTaken old x taken) where

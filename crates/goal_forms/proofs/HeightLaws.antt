@@ -13,7 +13,7 @@ use Rattle.kan_grammar.specs.Data.Tokens.{tokens}
 use Rattle.kan_grammar.specs.Data.Faults.{Reading, data_are, refused, read_if, read_text}
 use Rattle.kan_grammar.specs.Data.Builds.{build_datum, map_reading}
 use Rattle.kan_grammar.specs.Data.Printed.{pairs, pairs_within, atom_tree}
-use Rattle.kan_grammar.proofs.Data.Exactly.{reads_exactly}
+use Rattle.kan_grammar.proofs.Data.ReadingLaws.{reads_exactly}
 use Rattle.kan_grammar.specs.Texts.Sited.{Sited, with_sites, within_sites, atom_with_site, constant, is_proper}
 use Rattle.kan_grammar.specs.Texts.Language.{Word, head_word}
 use Rattle.kan_model.specs.Programs.Scope.{height}

@@ -20,7 +20,7 @@ use Rattle.sexpr.specs.declared.data.Datum.{Datum}
 use Rattle.sexpr.specs.declared.data.DatumKind.TheVariants as kinds
 use Rattle.sexpr.specs.declared.data.Prefix as prefixes
 use Rattle.sexpr.proofs.PrintLaws.{within_cons}
-use Rattle.goal_forms.specs.TermSteps.{site_size}
+use Rattle.goal_forms.specs.Steps.TermSteps.{site_size}
 use Rattle.goal_forms.specs.Flattening.{meaning}
 use Rattle.goal_forms.specs.Sizes.{parts_in, work_parts, works_parts}
 use Rattle.goal_forms.specs.declared.flatten.Work.{Work}

@@ -8,7 +8,7 @@ use Rattle.kan_grammar.specs.Texts.Binders.{Checked, binder}
 use Rattle.kan_grammar.specs.Texts.TopForms.{Defined, Form, head}
 use Rattle.goal_forms.specs.Parts.{sites, site_at}
 use Rattle.goal_forms.specs.RelationTables.{relations}
-use Rattle.goal_forms.specs.FormSteps.{step_top}
+use Rattle.goal_forms.specs.Steps.FormSteps.{step_top}
 use Rattle.goal_forms.specs.declared.context.Context.{Context}
 use Rattle.goal_forms.specs.declared.form.Form as parsed
 

@@ -2,9 +2,6 @@ pub mod Words
 pub mod PartRows
 pub mod Parts
 pub mod Shapes
-pub mod TermSteps
-pub mod GoalSteps
-pub mod FormSteps
 pub mod DefinedRelations
 pub mod RelationTables
 pub mod Places
@@ -14,3 +11,4 @@ pub mod Heights
 pub mod Sizes
 pub mod Unnamed
 pub mod Contexts
+pub mod Steps

@@ -4,7 +4,7 @@ use Rattle.kan_terms.specs.Table.{Table}
 use Rattle.kan_grammar.specs.Texts.Sited.{Sited, with_sites, within_sites}
 use Rattle.sexpr.specs.WrittenForms.{written_form}
 use Rattle.sexpr.specs.Printing.{within}
-use Rattle.goal_forms.specs.TermSteps.{site_size}
+use Rattle.goal_forms.specs.Steps.TermSteps.{site_size}
 use Rattle.goal_forms.specs.declared.flatten.Work.{Work}
 use Rattle.goal_forms.specs.declared.flatten.Work.TheVariants as works
 

@@ -16,7 +16,7 @@ ghost use Rattle.goal_forms.specs.PartRows.{is_there};
 ghost use Rattle.goal_forms.specs.FlatHeights.{WorksLow};
 ghost use Rattle.goal_forms.specs.Flattening.{AreNumbered, finish, meaning, work_size, works_size};
 ghost use Rattle.goal_forms.specs.Sizes.{parts_in, work_parts, works_parts};
-ghost use Rattle.goal_forms.specs.TermSteps.{site_size};
+ghost use Rattle.goal_forms.specs.Steps.TermSteps.{site_size};
 ghost use Rattle.goal_forms.specs.declared.flatten.Work.TheVariants as works_of;
 ghost use Rattle.goal_forms.specs.Places.{are_below, stack_sites, pair_of_last_two, prefixed_last};
 ghost use Rattle.goal_forms.specs.Unnamed.{AreNamed, site_unnamed, sites_unnamed};

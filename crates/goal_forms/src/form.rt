@@ -4,7 +4,7 @@ ghost use Rattle.std.specs.Prelude.{◌≡◌};
 ghost use Rattle.kan_grammar.specs.Texts.TopForms.{form, relation_form, run_form, limited_form};
 ghost use Rattle.kan_grammar.specs.Texts.TopForms.{definitions_of, definitions_of_head};
 ghost use Rattle.kan_grammar.specs.Texts.Sited.{elements};
-ghost use Rattle.goal_forms.specs.FormSteps.{step_top, limit_at, run_with};
+ghost use Rattle.goal_forms.specs.Steps.FormSteps.{step_top, limit_at, run_with};
 ghost use Rattle.goal_forms.specs.Parts.{sites, site_at};
 ghost use Rattle.goal_forms.specs.DefinedRelations.{optional_relation};
 

@@ -8,8 +8,8 @@ ghost use Rattle.kan_grammar.specs.Texts.GoalForms.{atom_goal};
 ghost use Rattle.kan_grammar.specs.Texts.Language.{word};
 ghost use Rattle.goal_forms.specs.Words.{word_of};
 ghost use Rattle.goal_forms.specs.Parts.{sites, site_at};
-ghost use Rattle.goal_forms.specs.TermSteps.{site_size};
-ghost use Rattle.goal_forms.specs.GoalSteps.{step_goal, step_goal_size};
+ghost use Rattle.goal_forms.specs.Steps.TermSteps.{site_size};
+ghost use Rattle.goal_forms.specs.Steps.GoalSteps.{step_goal, step_goal_size};
 
 use crate::flat_data::{FlatData, Part};
 use crate::shape::{count, first, pair_parts, rest};

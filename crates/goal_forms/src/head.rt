@@ -3,7 +3,7 @@
 ghost use Rattle.std.specs.Prelude.{◌≡◌, ◌<◌, ◌^◌, length, IfOk, option_map};
 ghost use Rattle.kan_terms.specs.Table.{Table};
 ghost use Rattle.kan_grammar.specs.Texts.TopForms.{head as head_of, head_name as name_of_head};
-ghost use Rattle.goal_forms.specs.FormSteps.{name_with_offset};
+ghost use Rattle.goal_forms.specs.Steps.FormSteps.{name_with_offset};
 ghost use Rattle.goal_forms.specs.Parts.{sites, site_at};
 
 use crate::binder::bound_names;

@@ -1,7 +1,7 @@
 //! The limits of runs.
 
 ghost use Rattle.std.specs.Prelude.{◌≡◌};
-ghost use Rattle.goal_forms.specs.FormSteps.{allowed_limit, small_number};
+ghost use Rattle.goal_forms.specs.Steps.FormSteps.{allowed_limit, small_number};
 ghost use Rattle.goal_forms.specs.Parts.{sites, site_at};
 
 use crate::flat_data::{FlatData, Part};

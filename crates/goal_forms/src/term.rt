@@ -6,9 +6,10 @@ ghost use Rattle.kan_grammar.specs.Texts.TermForms.{quote_form, cons_form, quasi
 ghost use Rattle.kan_grammar.specs.Texts.TermForms.{unquote_form};
 ghost use Rattle.kan_grammar.specs.Texts.Sited.{constant};
 ghost use Rattle.goal_forms.specs.Parts.{sites, site_at};
-ghost use Rattle.goal_forms.specs.TermSteps.{proper_list_form, site_size, step_size, step_form};
-ghost use Rattle.goal_forms.specs.TermSteps.{task_form};
-ghost use Rattle.goal_forms.specs.TermSteps.{task_size};
+ghost use Rattle.goal_forms.specs.Steps.TermSteps.{proper_list_form, site_size, step_size};
+ghost use Rattle.goal_forms.specs.Steps.TermSteps.{step_form};
+ghost use Rattle.goal_forms.specs.Steps.TermSteps.{task_form};
+ghost use Rattle.goal_forms.specs.Steps.TermSteps.{task_size};
 
 use crate::flat_data::{FlatData, Part};
 use crate::shape::{head_word, is_proper, only_part, pair_parts, two_parts};

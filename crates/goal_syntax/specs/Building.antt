@@ -12,5 +12,5 @@ pub mod FormsBuilt
 pub mod CallsThere
 pub mod TemplateHeights
 pub mod InContext
-pub mod WorkDone
-pub mod GoalAdded
+pub mod WorkSteps
+pub mod AddingGoals

@@ -12,10 +12,10 @@ ghost use Rattle.goal_forms.specs.Contexts.{data_of, datum_at, form_of, head_at}
 ghost use Rattle.goal_syntax.specs.Building.CallsThere.{all_named, bodies_named};
 ghost use Rattle.goal_syntax.specs.Building.FormsBuilt.{name_symbol, query_asked, AddsNames};
 ghost use Rattle.goal_syntax.specs.Building.FormsBuilt.{AddsRelations, AddsForms};
-ghost use Rattle.goal_syntax.specs.Building.GoalAdded.{AddsGoal};
+ghost use Rattle.goal_syntax.specs.Building.AddingGoals.{AddsGoal};
 ghost use Rattle.goal_syntax.specs.Building.Entries.{Adds, HasRoomFor, form_size};
 ghost use Rattle.goal_syntax.specs.Building.InContext.{list_entries};
-ghost use Rattle.goal_forms.specs.FormSteps.{limit_at};
+ghost use Rattle.goal_forms.specs.Steps.FormSteps.{limit_at};
 ghost use Rattle.goal_forms.specs.Parts.{sites, site_at};
 ghost use Rattle.goal_syntax.specs.Building.Widths.{Widens, form_width};
 ghost use Rattle.goal_syntax.specs.Building.InContext.{list_width};

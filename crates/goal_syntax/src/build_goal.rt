@@ -1,8 +1,8 @@
 //! Building goals.
 
 ghost use Rattle.goal_syntax.specs.Building.InContext.{list_goal, goal_alone, KeepsLowIn};
-ghost use Rattle.goal_syntax.specs.Building.WorkDone.{goals_made, width_made, made_later};
-ghost use Rattle.goal_syntax.specs.Building.WorkDone.{AreMade, Falls, KeepsEntries, KeepsWidth};
+ghost use Rattle.goal_syntax.specs.Building.WorkSteps.{goals_made, width_made, made_later};
+ghost use Rattle.goal_syntax.specs.Building.WorkSteps.{AreMade, Falls, KeepsEntries, KeepsWidth};
 ghost use Rattle.std.specs.Prelude.{List, ◌≡◌, ◌&&◌, ◌<◌, ◌≤◌, ◌+◌, ◌^◌, ◌∷◌, ◌++◌, [], length};
 ghost use Rattle.std.specs.Prelude.{reverse};
 ghost use Rattle.std.specs.Prelude.{IfOk, OnOk};
@@ -15,7 +15,7 @@ ghost use Rattle.goal_syntax.specs.Building.GoalsBuilt.{with_maybe};
 ghost use Rattle.goal_syntax.specs.Building.GrownTables.{HasGoal, Grows};
 ghost use Rattle.goal_syntax.specs.Building.Entries.{Adds, HasRoomFor, entries};
 ghost use Rattle.goal_syntax.specs.Building.InContext.{goals_entries, list_entries, next_entries};
-ghost use Rattle.goal_forms.specs.GoalSteps.{inner_names};
+ghost use Rattle.goal_forms.specs.Steps.GoalSteps.{inner_names};
 ghost use Rattle.goal_syntax.specs.Building.GoalsLeft.{first_work, inner_works, other_works};
 ghost use Rattle.goal_syntax.specs.Building.GoalsLeft.{own_size};
 ghost use Rattle.goal_forms.specs.Shapes.{parts};

@@ -9,7 +9,7 @@ ghost use Rattle.goal_forms.specs.Contexts.{data_of, datum_at, term_at};
 ghost use Rattle.goal_syntax.specs.Building.GoalsBuilt.{StandsFor};
 ghost use Rattle.goal_syntax.specs.Building.GrownTables.{HasTemplate, Grows};
 ghost use Rattle.goal_syntax.specs.Building.Entries.{Adds, HasRoomFor, sides_size};
-ghost use Rattle.goal_forms.specs.GoalSteps.{step_goal};
+ghost use Rattle.goal_forms.specs.Steps.GoalSteps.{step_goal};
 ghost use Rattle.kan_terms.specs.Tree.{size};
 ghost use Rattle.goal_forms.specs.RelationTables.{relations};
 ghost use Rattle.goal_syntax.specs.Building.Named.{data_unnamed, node_unnamed};

@@ -12,7 +12,7 @@ ghost use Rattle.kan_grammar.specs.Texts.Resolved.{suspended_in, within};
 ghost use Rattle.goal_syntax.specs.Building.CallsThere.{are_there, calls_named};
 ghost use Rattle.goal_syntax.specs.Building.Entries.{Adds, HasRoomFor};
 ghost use Rattle.goal_syntax.specs.Building.FormsBuilt.{asked_equation};
-ghost use Rattle.goal_syntax.specs.Building.GoalAdded.{AddsGoal};
+ghost use Rattle.goal_syntax.specs.Building.AddingGoals.{AddsGoal};
 ghost use Rattle.goal_syntax.specs.Building.GrownTables.{HasGoal, Grows};
 ghost use Rattle.goal_syntax.specs.Building.InContext.{list_goal, goal_behind, run_goal};
 ghost use Rattle.goal_syntax.specs.Building.InContext.{fresh_goal, list_entries, fresh_entries};

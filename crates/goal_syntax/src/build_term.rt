@@ -21,7 +21,7 @@ ghost use Rattle.goal_syntax.specs.Building.GrownTables.{HasTemplate, HasArgumen
 ghost use Rattle.goal_syntax.specs.Building.Entries.{Adds, HasRoomFor, arguments_size, entries};
 ghost use Rattle.goal_syntax.specs.Building.Entries.{terms_size};
 ghost use Rattle.goal_syntax.specs.Building.InContext.{task_entries, terms_entries};
-ghost use Rattle.goal_forms.specs.TermSteps.{step_form, step_size};
+ghost use Rattle.goal_forms.specs.Steps.TermSteps.{step_form, step_size};
 ghost use Rattle.goal_forms.specs.Places.{are_below};
 ghost use Rattle.goal_syntax.specs.Building.Named.{Lacks, term_unnamed, tree_unnamed};
 ghost use Rattle.kan_terms.specs.Table.{Table};

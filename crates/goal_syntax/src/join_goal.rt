@@ -11,7 +11,7 @@ ghost use Rattle.goal_syntax.specs.Building.GoalsLeft.{empty_entry, with_last_fr
 ghost use Rattle.goal_syntax.specs.Building.GoalsLeft.{with_last_joined};
 ghost use Rattle.goal_syntax.specs.Building.GoalsLeft.{with_last_suspended};
 ghost use Rattle.goal_syntax.specs.Building.StackSteps.{ChangesGoals};
-ghost use Rattle.goal_syntax.specs.Building.WorkDone.{AreMade, goals_made, width_made};
+ghost use Rattle.goal_syntax.specs.Building.WorkSteps.{AreMade, goals_made, width_made};
 ghost use Rattle.goal_syntax.specs.Building.Widths.{Widens};
 ghost use Rattle.goal_syntax.specs.Building.Named.{Lacks, goal_unnamed};
 ghost use Rattle.kan_terms.specs.Table.{Table};

@@ -7,7 +7,7 @@ ghost use Rattle.kan_grammar.specs.Texts.TextFaults.{is_new, again_faults, goals
 ghost use Rattle.kan_grammar.specs.Texts.TextFaults.{form_faults};
 ghost use Rattle.goal_forms.specs.Contexts.{datum_at, defined_in, goals_at, head_at, form_of};
 ghost use Rattle.goal_syntax.specs.Judging.FaultLists.{AddsFaults};
-ghost use Rattle.goal_forms.specs.FormSteps.{limit_at, one_name};
+ghost use Rattle.goal_forms.specs.Steps.FormSteps.{limit_at, one_name};
 ghost use Rattle.goal_forms.specs.Parts.{sites, site_at};
 ghost use Rattle.goal_forms.specs.RelationTables.{relations as relations_of};
 

@@ -12,11 +12,11 @@ ghost use Rattle.goal_forms.specs.Contexts.{goals_at, binder_at};
 ghost use Rattle.goal_syntax.specs.Judging.InContext.{faults_left, faults_alone};
 ghost use Rattle.goal_syntax.specs.Judging.GoalsLeft.{fresh_faults, inner_waiting, stack_parts};
 ghost use Rattle.goal_syntax.specs.Judging.GoalsLeft.{waiting_parts};
-ghost use Rattle.goal_forms.specs.GoalSteps.{inner_names};
+ghost use Rattle.goal_forms.specs.Steps.GoalSteps.{inner_names};
 ghost use Rattle.goal_syntax.specs.Judging.FaultLists.{fault_list, AddsFaults};
 ghost use Rattle.goal_forms.specs.Parts.{sites, site_at};
 ghost use Rattle.goal_forms.specs.RelationTables.{relations};
-ghost use Rattle.goal_forms.specs.TermSteps.{site_size};
+ghost use Rattle.goal_forms.specs.Steps.TermSteps.{site_size};
 
 use crate::fault::{Fault, report};
 use crate::judge_binder::{judge_binder, judge_tag};

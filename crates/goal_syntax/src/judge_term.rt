@@ -5,7 +5,7 @@ ghost use Rattle.std.specs.List.{flat_map};
 ghost use Rattle.kan_grammar.specs.Texts.TextFaults.{use_faults, term_faults};
 ghost use Rattle.goal_syntax.specs.Judging.FaultLists.{AddsFaults};
 ghost use Rattle.goal_forms.specs.Parts.{sites};
-ghost use Rattle.goal_forms.specs.TermSteps.{task_form, step_size};
+ghost use Rattle.goal_forms.specs.Steps.TermSteps.{task_form, step_size};
 ghost use Rattle.goal_syntax.specs.Judging.TermsLeft.{own_uses, later_uses, waiting_uses};
 ghost use Rattle.goal_syntax.specs.Judging.TermsLeft.{waiting_size};
 

@@ -5,7 +5,7 @@ use Rattle.std.proofs.lemmas.Bool.{and_from, and_parts, or_cases, eqb-true, both
 use Rattle.kan_terms.specs.Table.{Table}
 use Rattle.kan_terms.specs.Tree.{Tm, Gd, occurs, has_symbol, ground_eq}
 use Rattle.kan_terms.specs.Valuations.{value_at, value}
-use Rattle.kan_terms.proofs.TreeLaws.{occurs-leaves, leaves-has_symbol}
+use Rattle.kan_terms.proofs.TreeLaws.{occurs-leaves, leaves-has_symbol, eq-ground_eq}
 use Rattle.kan_model.specs.Answers.Answer.{named_variables, solved_form, in_rank, ranks_lower, all_named, can_be_equal, if_written, and_form, forms_of, is_weaker, same_form, strongest, form_in_names, names_where, keeps_out, has_absence, may_have_tag, tags_of, absence_of, has_names, tag_le, absences_of}
 use Rattle.kan_model.specs.Answers.AnswerText.{difference_le, answer_under, answer_by, answer_of}
 use Rattle.kan_model.specs.Answers.Covers.{pair_met, difference_met, absence_met, Covers}
@@ -22,10 +22,9 @@ use Rattle.kan_model.specs.Each.{Each}
 use Rattle.kan_model.proofs.Solving.UnifierLaws.{factors_unify}
 use Rattle.store_laws.proofs.OneForm.{through_answer}
 use Rattle.kan_meaning.specs.Instances.{SolutionsAreCovered}
-use Rattle.kan_meaning.proofs.Chosen.{Each-from_in_order, variables_named, value_at-place, values_pass}
-use Rattle.kan_meaning.proofs.Grounds.{ground_same}
+use Rattle.kan_meaning.proofs.ChoiceLaws.{Each-from_in_order, variables_named, value_at-place, values_pass}
 use Rattle.kan_meaning.proofs.Instances.NamedValues.{PairHolds, holding_factors, pair_named, value-named, met_hold}
-use Rattle.kan_meaning.proofs.SolutionLaws.{unifies, known, of_type}
+use Rattle.pull_bounds.proofs.KeptStores.{values_unify, value-apply, type-value}
 
 -- a form in order is over named variables where it was so
 pub named-in_rank : (vs : List ℕ) (g : Replacement) → all_named vs g ≡ true → all_named vs (in_rank vs g) ≡ true
@@ -45,14 +44,14 @@ module _ (st : Store) (s : Replacement) (us : List Gd) (factors : Factors (value
       difference_met ws (form_in_names vs (in_rank vs g)) ≡ true
   form_met a b g found named holds =
       not_from_false (list_all (pair_met ws) (form_in_names vs (in_rank vs g))) (false_from_ne_true (list_all (pair_met ws) (form_in_names vs (in_rank vs g)))
-      (λ met. both_ways (ground_eq (value us a) (value us b)) (not-true (ground_eq (value us a) (value us b)) holds) (ground_same (value us a) (value us b) (equal met))))
+      (λ met. both_ways (ground_eq (value us a) (value us b)) (not-true (ground_eq (value us a) (value us b)) holds) (eq-ground_eq (value us a) (value us b) (equal met))))
     where
       equal : list_all (pair_met ws) (form_in_names vs (in_rank vs g)) ≡ true → value us a ≡ value us b
       equal met =
           let pairs = Each-from_in_order (PairHolds (value_at us)) (λ p q. not (ranks_lower vs q.var p.var)) g
           (met_hold vs ws (value_at us) (value_at-place (value_at us) vs) (in_rank vs g) (named-in_rank vs g named) met) in
           let (same, _) = factors_unify (ranks_lower vs) (record { left = apply s a; right = apply s b } ∷ []) g (value_at us) found (holding_factors (value_at us) g pairs) in
-          sym (known us s factors a) ∙ same ∙ known us s factors b
+          sym (value-apply us s factors a) ∙ same ∙ value-apply us s factors b
 
   abbrev Met : Replacement → Type 0
   Met h = difference_met ws (form_in_names vs h) ≡ true
@@ -90,7 +89,7 @@ module _ (st : Store) (s : Replacement) (us : List Gd) (factors : Factors (value
         by (Primitive.absent t a) h e =
             let (same, inside) = and_parts (eqb tag t) (occurs v (apply s a)) e in
             false_from_ne_true (has_symbol tag (value_at us v)) (λ there. both_ways (has_symbol t (value us a)) (not-true (has_symbol t (value us a)) h)
-            (subst (λ x. has_symbol x (value us a) ≡ true) (eqb-true tag t same) (ap (has_symbol tag) (sym (known us s factors a))
+            (subst (λ x. has_symbol x (value us a) ≡ true) (eqb-true tag t same) (ap (has_symbol tag) (sym (value-apply us s factors a))
             ∙ leaves-has_symbol tag (value_at us) (apply s a) v (occurs-leaves v (apply s a) inside) there)))
         by (Primitive.same a b) h e = absurd (true≢false (sym e))
         by (Primitive.differ a b) h e = absurd (true≢false (sym e))
@@ -142,9 +141,9 @@ module _ (st : Store) (s : Replacement) (us : List Gd) (factors : Factors (value
         all_five : (d && n && y && t && a) ≡ true
         all_five =
             and_from (d && n && y && t) a (and_from (d && n && y) t (and_from (d && n) y (and_from d n (differences_met table)
-            (values_pass is_number (has_type Number s st.prims) (value_at us) (λ v e. of_type us s factors Number v st.prims holds e) [] vs))
-            (values_pass is_symbol (has_type Symbol s st.prims) (value_at us) (λ v e. of_type us s factors Symbol v st.prims holds e) [] vs))
-            (values_pass is_string (has_type Text s st.prims) (value_at us) (λ v e. of_type us s factors Text v st.prims holds e) [] vs))
+            (values_pass is_number (has_type Number s st.prims) (value_at us) (λ v e. type-value us s factors Number v st.prims holds e) [] vs))
+            (values_pass is_symbol (has_type Symbol s st.prims) (value_at us) (λ v e. type-value us s factors Symbol v st.prims holds e) [] vs))
+            (values_pass is_string (has_type Text s st.prims) (value_at us) (λ v e. type-value us s factors Text v st.prims holds e) [] vs))
             (absences_met table)
 
 pub solutions_are_covered : SolutionsAreCovered
@@ -152,4 +151,4 @@ solutions_are_covered table st u kept (us, (long, holds), at) = subst (Covers (a
   where
     by : (o : Option Replacement) → solve_store st ≡ o → holds_with st.prims o ≡ true → Covers (answer_by table st (unwrap_or o [])) (value_at us 0)
     by None found h = absurd (true≢false (sym h))
-    by (Some s) found h = covered st s us (through_answer left_first (equations st.prims) s (value_at us) found (unifies us st.prims holds)) holds table
+    by (Some s) found h = covered st s us (through_answer left_first (equations st.prims) s (value_at us) found (values_unify us st.prims holds)) holds table

@@ -4,7 +4,7 @@ use Rattle.std.specs.List.{list_all}
 use Rattle.std.proofs.lemmas.Bool.{and_from, and_parts, or_left, or_right, eq-eqb, both_ways, not-true, not_from_false, false_from_ne_true}
 use Rattle.kan_terms.specs.Tree.{Tree, Tm, Gd, fill, occurs, has_symbol, ground_eq}
 use Rattle.kan_terms.specs.Valuations.{value_at, value}
-use Rattle.kan_terms.proofs.TreeLaws.{fill-fill, fill-same_occurs, has_symbol-fill, leaves-occurs}
+use Rattle.kan_terms.proofs.TreeLaws.{fill-fill, fill-same_occurs, has_symbol-fill, leaves-occurs, eq-ground_eq, ground_eq-true}
 use Rattle.kan_model.specs.Answers.Answer.{is_no_difference, keeps_out, has_absence}
 use Rattle.kan_model.specs.Meaning.Holds.{is_symbol, is_number, is_string, holds_at}
 use Rattle.kan_model.specs.Programs.Goals.{Primitive}
@@ -14,7 +14,8 @@ use Rattle.kan_model.specs.Stores.Solve.{Replacement, image, apply}
 use Rattle.kan_model.specs.declared.prims.Kind.{Kind}
 use Rattle.kan_model.specs.declared.prims.Kind.TheVariants.{Symbol, Number, Text}
 use Rattle.kan_model.specs.Each.{Each}
-use Rattle.kan_meaning.proofs.Grounds.{ground_same, same_ground, is_of, below_occurs}
+use Rattle.pull_bounds.proofs.KeptStores.{is_of}
+use Rattle.kan_meaning.proofs.GroundLaws.{below_occurs}
 use Rattle.kan_meaning.proofs.Instances.OwnValues.{first_values, first_at}
 use Rattle.kan_meaning.proofs.Instances.SolvedLaws.{EqualSides}
 
@@ -69,11 +70,11 @@ module _ (s : Replacement) (f : ℕ → Gd) (counter : ℕ) where
   one_holds : (p : Primitive Tm) → Suits p → Apart s f p → holds_at us p ≡ true
   one_holds (Primitive.same a b) suits apart =
       let (l, r) = and_parts (all_below counter a) (all_below counter b) suits.below in
-      ground_same (value us a) (value us b) (value_is a l ∙ ap (fill f) suits.equal ∙ sym (value_is b r))
+      eq-ground_eq (value us a) (value us b) (value_is a l ∙ ap (fill f) suits.equal ∙ sym (value_is b r))
   one_holds (Primitive.differ a b) suits apart =
       let (l, r) = and_parts (all_below counter a) (all_below counter b) suits.below in
       not_from_false (ground_eq (value us a) (value us b)) (false_from_ne_true (ground_eq (value us a) (value us b))
-      (λ e. apart (sym (value_is a l) ∙ same_ground (value us a) (value us b) e ∙ value_is b r)))
+      (λ e. apart (sym (value_is a l) ∙ ground_eq-true (value us a) (value us b) e ∙ value_is b r)))
   one_holds (Primitive.symbol a) suits apart = ap is_symbol (value_is a suits.below) ∙ of_kind Symbol (apply s a) suits.allowed (suits.typed Symbol)
   one_holds (Primitive.number a) suits apart = ap is_number (value_is a suits.below) ∙ of_kind Number (apply s a) suits.allowed (suits.typed Number)
   one_holds (Primitive.text a) suits apart = ap is_string (value_is a suits.below) ∙ of_kind Text (apply s a) suits.allowed (suits.typed Text)

@@ -1,14 +1,13 @@
 -- A store is kept exactly where it has a solution.
-use Rattle.std.proofs.Common.{◌≡◌, true, Option, Some, None, refl}
+use Rattle.std.proofs.Common.{◌≡◌, true, Option, Some, None, refl, sym}
 use Rattle.std.proofs.lemmas.Bool.{true≢false}
-use Rattle.std.proofs.Common.{sym}
 use Rattle.kan_model.specs.Programs.Scope.{is_counted}
 use Rattle.kan_model.specs.Stores.Kept.{holds_with, is_kept}
 use Rattle.kan_model.specs.Stores.Solve.{Replacement, left_first, solve_store}
 use Rattle.kan_model.specs.Stores.Store.{Store, equations}
 use Rattle.kan_model.proofs.Solving.UnifierLaws.{answer_unifies}
 use Rattle.kan_meaning.specs.KeptStores.{HasSolution, KeptHasSolution}
-use Rattle.kan_meaning.proofs.SolutionLaws.{solved_is_kept}
+use Rattle.pull_bounds.proofs.KeptStores.{solved_is_kept}
 use Rattle.kan_meaning.proofs.Instances.SolvedLaws.{bound_all, solution, solved_under}
 
 kept_is_solved : (st : Store) → is_counted st ≡ true → is_kept st ≡ true → HasSolution st

@@ -1,12 +1,11 @@
-pub mod Chosen
+pub mod ChoiceLaws
 pub mod CoveredSolutions
 pub mod FreeSolutions
-pub mod Grounds
+pub mod GroundLaws
 pub mod KeptLaws
 pub mod Instances
 pub mod RunAnswers
-pub mod SolutionLaws
 pub mod StandingStores
 pub mod TakenLaws
-pub mod Taking
-pub mod Weaker
+pub mod TakingLaws
+pub mod ImpliedLaws

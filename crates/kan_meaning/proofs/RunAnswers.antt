@@ -15,7 +15,7 @@ use Rattle.kan_meaning.proofs.CoveredSolutions.{solutions_are_covered}
 use Rattle.kan_meaning.proofs.Instances.SolvedInstances.{instances_are_values}
 use Rattle.kan_meaning.proofs.StandingStores.{Stands, StreamStands, force_stands, start_stands}
 use Rattle.kan_meaning.proofs.TakenLaws.{taken_are_solutions}
-use Rattle.kan_meaning.proofs.Taking.{one_of_each, take_each}
+use Rattle.kan_meaning.proofs.TakingLaws.{one_of_each, take_each}
 
 taken_stands : (program : Program) (q : Query) (fuel : ℕ) (st : Store) → Contains (take_query program fuel q).stores st → Stands 1 st
 taken_stands program q fuel st there =

@@ -13,9 +13,9 @@ use Rattle.kan_model.specs.Streams.Stream.{Stream, Thunk, one, empty, append, ap
 use Rattle.kan_model.proofs.ListLaws.{Each-like}
 use Rattle.kan_model.specs.Each.{Each}
 use Rattle.kan_model.proofs.Solving.FreshLaws.{fresh_is_kept}
-use Rattle.pull_bounds.proofs.Longer.{below-more, all-below_more, sides-below_instance, below-instances, below-variables}
+use Rattle.pull_bounds.proofs.LongerValuations.{below-more, all-below_more, sides-below_instance, below-instances, below-variables}
 use Rattle.pull_bounds.proofs.NamedArguments.{counted-fresh, counted-with}
-use Rattle.kan_meaning.proofs.SolutionLaws.{solved_is_kept}
+use Rattle.pull_bounds.proofs.KeptStores.{solved_is_kept}
 
 -- a kept store whose counter lies above its variables, and isn't below a number
 pub record Stands (n : ℕ) (st : Store) : Type 0 where

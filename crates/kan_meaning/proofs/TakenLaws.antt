@@ -16,9 +16,9 @@ use Rattle.kan_model.specs.Streams.Stream.{Stream, Thunk, one, empty, append, ap
 use Rattle.kan_model.specs.Streams.Taking.{take_query}
 use Rattle.kan_model.specs.Each.{Each}
 use Rattle.kan_model.proofs.Meaning.DerivationLaws.{test_from-Derives}
-use Rattle.pull_bounds.proofs.Longer.{values-instances, holds-instance}
-use Rattle.kan_meaning.proofs.Grounds.{same_ground}
-use Rattle.kan_meaning.proofs.Taking.{one_of_each, take_each}
+use Rattle.pull_bounds.proofs.LongerValuations.{values-instances, holds-instance}
+use Rattle.kan_terms.proofs.TreeLaws.{ground_eq-true}
+use Rattle.kan_meaning.proofs.TakingLaws.{one_of_each, take_each}
 use Rattle.kan_meaning.specs.TakenStores.{TakenAreSolutions}
 
 -- all primitives of a store hold under a valuation
@@ -46,7 +46,7 @@ names_mean us st (Tree.nil ∷ ts) h = let (before, same) = names_mean us st ts 
 names_mean us st (Tree.pair a b ∷ ts) h =
     let (named, same) = names_mean us (named_store st (Tree.pair a b)) ts h in
     let (before, name) = holds_with us (with_fresh st 1) (Primitive.same (Tree.leaf st.counter) (Tree.pair a b)) named in
-    (before, ap₂ (λ u l. u ∷ l) (same_ground (value us (Tree.leaf st.counter)) (value us (Tree.pair a b)) name) same)
+    (before, ap₂ (λ u l. u ∷ l) (ground_eq-true (value us (Tree.leaf st.counter)) (value us (Tree.pair a b)) name) same)
 
 variables_long : (us : List Gd) (first k : ℕ) → length (map (value us) (variables first k)) ≡ k
 variables_long us first zero = refl

@@ -7,7 +7,7 @@ ghost use Rattle.kan_model.specs.Stores.Kept.{is_kept};
 ghost use Rattle.kan_model.specs.Programs.Scope.{is_counted, sides_below};
 ghost use Rattle.kan_model.specs.Stores.Prims.{equation, prim as primitive};
 ghost use Rattle.kan_model.specs.Stores.Calls.{Gives, WalksTo, IsFree, kind_at, AreTags};
-ghost use Rattle.kan_model.specs.Stores.Calls.{AreDifferences, answer, differences};
+ghost use Rattle.kan_model.specs.Stores.Calls.{AreDifferences, replacement_of, differences};
 
 use crate::prims::{Asserted, Kind};
 use kan_terms::{Memory, PairLists, Tags, Term};
@@ -60,7 +60,7 @@ pub trait Store: Sized + Drop {
     /// What a variable stands for, as far as its first pair; all else is given back. It takes no
     /// memory.
     fn walk<'a>(&'a self, term: &'a Term) -> &'a Term
-        ensures { WalksTo (answer (meaning self.now)) (tree term.now) (tree result.now) };
+        ensures { WalksTo (replacement_of (meaning self.now)) (tree term.now) (tree result.now) };
 
     /// The type of a variable that stands for itself. It takes no memory.
     fn kind(&self, var: u64) -> Option<Kind>

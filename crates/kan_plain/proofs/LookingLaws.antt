@@ -14,7 +14,7 @@ use Rattle.kan_model.specs.Programs.Goals.{Primitive}
 use Rattle.kan_model.specs.Stores.Store.{Store, Equation}
 use Rattle.kan_model.specs.Stores.Solve.{Replacement, apply}
 use Rattle.kan_model.specs.Stores.Kept.{may_be}
-use Rattle.kan_model.specs.Stores.Calls.{answer, AreTags, AreDifferences, SaysTheSame, differences}
+use Rattle.kan_model.specs.Stores.Calls.{replacement_of, AreTags, AreDifferences, SaysTheSame, differences}
 use Rattle.kan_model.specs.Answers.Answer.{has_absence, keeps_out}
 use Rattle.kan_model.specs.declared.prims.Kind.{Kind}
 use Rattle.kan_model.specs.declared.prims.Kind.TheVariants.{Symbol, Number, Text}
@@ -60,9 +60,9 @@ tags_kept_out s tag v (p ∷ ps) =
     list_any-append (eqb tag) (tag_at s v p) (flat_map (tag_at s v) ps) ∙ ap₂ (λ a b. a || b) (tag_kept_out s tag v p) (tags_kept_out s tag v ps)
 
 -- the listed tags are those that are kept out
-pub are_tags : (st : Store) (v : ℕ) (s : Replacement) (tags : List ℕ) → answer st ≡ s → tags ≡ flat_map (tag_at s v) st.prims → AreTags st v tags
+pub are_tags : (st : Store) (v : ℕ) (s : Replacement) (tags : List ℕ) → replacement_of st ≡ s → tags ≡ flat_map (tag_at s v) st.prims → AreTags st v tags
 are_tags st v s tags is_answer listed tag =
-    let same : list_any (eqb tag) tags ≡ has_absence (answer st) st.prims tag v =
+    let same : list_any (eqb tag) tags ≡ has_absence (replacement_of st) st.prims tag v =
     ap (list_any (eqb tag)) listed ∙ tags_kept_out s tag v st.prims ∙ ap (λ r. has_absence r st.prims tag v) (sym is_answer) in (
       λ there. sym same ∙ list_any_at (eqb tag) tags there.0 tag there.1 (eq-eqb tag _ (sym there.2)),
       λ kept. Contains-from_any eqb-true tag tags (same ∙ kept),

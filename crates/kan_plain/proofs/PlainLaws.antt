@@ -19,7 +19,7 @@ use Rattle.kan_model.specs.Stores.Kept.{is_kept, holds_with, holds_under}
 use Rattle.kan_model.specs.Answers.Answer.{same_form, same_pair}
 use Rattle.kan_plain.specs.Looking.{shallow_image}
 use Rattle.kan_plain.proofs.EachLaws.{made_more}
-use Rattle.kan_model.specs.Stores.Calls.{is_answer, answer, IsFoundFor, WalksTo}
+use Rattle.kan_model.specs.Stores.Calls.{is_answer, replacement_of, IsFoundFor, WalksTo}
 use Rattle.kan_solving.specs.Solving.{on_stack}
 use Rattle.kan_model.proofs.Solving.FreshLaws.{equations-append}
 use Rattle.kan_model.specs.Stores.Prims.{equation}
@@ -88,7 +88,7 @@ found_itself s (Tree.pair a b) e = e
 
 -- what is seen of a term is walked to
 pub walk_agrees : (ps : List (Primitive Tm)) (n : ℕ) (s : Replacement) (t r : Tm) → solve (equations ps) ≡ Some s → r ≡ shallow_image s t →
-    WalksTo (answer (record { prims = ps; counter = n })) t r
+    WalksTo (replacement_of (record { prims = ps; counter = n })) t r
 walk_agrees ps n s (Tree.leaf v) r solved is_seen = rw (solved, is_seen) (found_itself s (image s v) (applied_twice left_first (equations ps) s (Tree.leaf v) solved))
 walk_agrees ps n s (Tree.sym x) r solved is_seen = is_seen
 walk_agrees ps n s (Tree.str x) r solved is_seen = is_seen
@@ -142,5 +142,5 @@ pub kept_where : (ps : List (Primitive Tm)) (n : ℕ) (s : Replacement) (b : Boo
 kept_where ps n s b answered hold = sym (ap (holds_with ps) answered) ∙ sym hold
 
 -- the answer of a store's equations
-pub answer-is : (ps : List (Primitive Tm)) (n : ℕ) (s : Replacement) → solve (equations ps) ≡ Some s → answer (record { prims = ps; counter = n }) ≡ s
+pub answer-is : (ps : List (Primitive Tm)) (n : ℕ) (s : Replacement) → solve (equations ps) ≡ Some s → replacement_of (record { prims = ps; counter = n }) ≡ s
 answer-is ps n s solved = ap (λ r. unwrap_or r []) solved

@@ -9,6 +9,7 @@ ghost use Rattle.kan_model.specs.Stores.Calls.{is_answer, Gives};
 ghost use Rattle.kan_model.specs.Stores.Store.{equations};
 ghost use Rattle.kan_model.specs.Stores.Prims.{equation, prim as primitive};
 ghost use Rattle.kan_solving.specs.Solving.{replaced_by, on_stack};
+ghost use Rattle.kan_plain.specs.Meaning.{store_of};
 
 use crate::keeping::holds_under;
 use crate::looking::{kind_of, list_differences, list_tags, looked};
@@ -23,10 +24,8 @@ pub struct PlainStore {
     prims: Vec<Asserted>,
     counter: u64,
     answer: Vec<Replaced>,
-    ghost kept: { IsTrue
-        (is_kept (record { prims = map primitive prims.items; counter = counter })) },
-    ghost counted: { IsTrue
-        (is_counted (record { prims = map primitive prims.items; counter = counter })) },
+    ghost kept: { IsTrue (is_kept (store_of prims.items counter)) },
+    ghost counted: { IsTrue (is_counted (store_of prims.items counter)) },
     ghost bounded: { counter ≤ 2 ^ 63 },
     ghost answered: { IsTrue (is_answer (map replaced_by answer.items)
         (spec.solve (equations (map primitive prims.items)))) },
@@ -79,15 +78,10 @@ fn answer_of(alloc: Global, prims: &[Asserted]) -> Result<Option<Vec<Replaced>>,
 impl PlainStore {
     // The store of these primitives, where they are kept.
     fn of(alloc: Global, prims: Vec<Asserted>, counter: u64) -> Result<Option<PlainStore>, Memory>
-        requires counted { is_counted
-            (record { prims = map primitive prims.items; counter = counter }) ≡ true }
+        requires counted { is_counted (store_of prims.items counter) ≡ true }
         requires bounded { counter ≤ 2 ^ 63 }
-        ensures { IfOk result
-            (λ made. Gives (record { prims = map primitive prims.items; counter = counter })
-            (option_map (λ store. record {
-              prims = map primitive store.prims.items;
-              counter = store.counter;
-            }) made)) }
+        ensures { IfOk result (λ made. Gives (store_of prims.items counter)
+            (option_map (λ store. store_of store.prims.items store.counter) made)) }
     {
         let Some(answer) = answer_of(alloc, &prims)? else {
             return Ok(None);
@@ -105,10 +99,7 @@ impl PlainStore {
 }
 
 impl Store for PlainStore {
-    ghost meaning = { λ store. record {
-      prims = map primitive store.prims.items;
-      counter = store.counter;
-    } };
+    ghost meaning = { λ store. store_of store.prims.items store.counter };
 
     ghost kept = { λ store. store.kept };
 

@@ -42,8 +42,13 @@ number_of refusal = (entry refusal).number
 abbrev pub text_of : Refusal → List ℕ
 text_of refusal = (entry refusal).text
 
--- the one line of a refused text: the number of the refusal, the offset, and what it is
-abbrev pub error_line : ℕ → Refusal → List ℕ
-error_line at refusal =
-    (codes "error " ++ decimal (number_of refusal) ++ codes " at " ++ decimal at ++ codes ": "
+-- the one line of a refused text: the number of the refusal, the offset, and what it is called,
+-- with numbers as a function writes them
+abbrev pub line_with : (ℕ → List ℕ) → ℕ → Refusal → List ℕ
+line_with digits at refusal =
+    (codes "error " ++ digits (number_of refusal) ++ codes " at " ++ digits at ++ codes ": "
     ++ text_of refusal) ++ 10 ∷ []
+
+-- the line as it is printed
+abbrev pub error_line : ℕ → Refusal → List ℕ
+error_line at refusal = line_with decimal at refusal

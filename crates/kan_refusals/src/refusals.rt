@@ -14,7 +14,7 @@ pub enum Refusal {
     NotUtf8,
     /// A list that nothing closes.
     UnclosedList,
-    /// A close where no list of its shape is open.
+    /// A close that no list of its shape waits for.
     StrayClose,
     /// A token that no text may hold, or a prefix without its datum.
     BadToken,

@@ -11,13 +11,13 @@ use Rattle.kan_model.specs.Streams.Stream as model
 use Rattle.kan_model.specs.Streams.Running.{run, start}
 use Rattle.kan_model.specs.Programs.Scope.{width, is_narrow}
 use Rattle.kan_model.specs.Programs.Tables.{goal_at}
-use Rattle.stream_core.specs.Suspensions.{going_on, listed}
+use Rattle.stream_core.specs.Suspensions.{going_on, stream_of_parts}
 use Rattle.stream_core.specs.CounterBounds.{RestFits}
 use Rattle.kan_search.specs.Suspensions.{LeavesRoom, pulled_stream}
 
 -- a stream whose stores are turned stands for what it stood for
 pub turned-is : {I St : Type 0} (tree : I → model.Thunk) (means : St → facts.Store) (turned heads : List St) (tail next : Option I) → turned ≡ reverse heads → next ≡ tail →
-    pulled_stream tree means turned next ≡ listed tree means heads tail
+    pulled_stream tree means turned next ≡ stream_of_parts tree means heads tail
 turned-is tree means turned heads tail next is same = ap₂ (λ hs o. going_on (map means hs) (option_map tree o)) (ap reverse is ∙ reverse-reverse heads) same
 
 -- a goal at the store that a run begins with

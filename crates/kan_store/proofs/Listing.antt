@@ -8,7 +8,7 @@ use Rattle.kan_terms.proofs.TreeLaws.{fill-fill, Decides-ground_eq}
 use Rattle.kan_model.specs.Stores.Store.{Store, Equation, equations}
 use Rattle.kan_model.specs.Stores.Solve.{Replacement, image, apply, solve, left_first}
 use Rattle.kan_model.specs.Stores.Unifiers.{Unifies}
-use Rattle.kan_model.specs.Stores.Calls.{answer, all_equal, differences, can_unify, SaysTheSame, AreDifferences}
+use Rattle.kan_model.specs.Stores.Calls.{replacement_of, all_equal, differences, can_unify, SaysTheSame, AreDifferences}
 use Rattle.kan_model.proofs.Solving.UnifierLaws.{answer_unifies}
 use Rattle.unify_core.specs.Walking.{Pairs, ends}
 use Rattle.unify_core.specs.Solutions.{IsSolution, AddedTo}
@@ -50,11 +50,11 @@ no_lists (l ∷ ls) = false
 
 abbrev Settled : Store → List Equation → List (List Equation) → Type 0
 Settled st [] lists = no_lists lists ≡ true
-Settled st (e ∷ es) lists = Listed (can_unify (answer st) e) ⊥ (SaysTheSame st e) (Settled st es) lists
+Settled st (e ∷ es) lists = Listed (can_unify (replacement_of st) e) ⊥ (SaysTheSame st e) (Settled st es) lists
 
 settled-known : (st : Store) (es : List Equation) (lists : List (List Equation)) → ∥ Settled st es lists ∥₁ → Settled st es lists
 settled-known st [] lists h = test-known (no_lists lists) true h
-settled-known st (e ∷ es) lists h = by (can_unify (answer st) e) lists (settled-known st es) h
+settled-known st (e ∷ es) lists h = by (can_unify (replacement_of st) e) lists (settled-known st es) h
   where
     by : (c : Bool) (lists : List (List Equation)) → ((ls : List (List Equation)) → ∥ Settled st es ls ∥₁ → Settled st es ls) →
         ∥ Listed c ⊥ (SaysTheSame st e) (Settled st es) lists ∥₁ → Listed c ⊥ (SaysTheSame st e) (Settled st es) lists
@@ -68,9 +68,9 @@ settled-known st (e ∷ es) lists h = by (can_unify (answer st) e) lists (settle
 settled-lists : (st : Store) (es : List Equation) (lists : List (List Equation)) → Settled st es lists → AreDifferences st es lists
 settled-lists st [] [] h = AreDifferences.no_more
 settled-lists st [] (l ∷ ls) h = absurd (true≢false (sym h))
-settled-lists st (e ∷ es) lists h = by (can_unify (answer st) e) refl lists (λ ls. settled-lists st es ls) h
+settled-lists st (e ∷ es) lists h = by (can_unify (replacement_of st) e) refl lists (λ ls. settled-lists st es ls) h
   where
-    by : (c : Bool) → can_unify (answer st) e ≡ c → (lists : List (List Equation)) → ((ls : List (List Equation)) → Settled st es ls → AreDifferences st es ls) →
+    by : (c : Bool) → can_unify (replacement_of st) e ≡ c → (lists : List (List Equation)) → ((ls : List (List Equation)) → Settled st es ls → AreDifferences st es ls) →
         Listed c ⊥ (SaysTheSame st e) (Settled st es) lists → AreDifferences st (e ∷ es) lists
     by false k lists rest h = AreDifferences.left_out k (rest lists h)
     by true k [] rest h = absurd h
@@ -112,7 +112,7 @@ module _ (ground : GroundMeaning) (parts : Parts) (st : Store) (step : AreInStep
   side f h t = ap (fill f) (sym (step.fulls t)) ∙ fill-full f bound h t
 
   -- a solution that makes the sides equal shows that they can be
-  pub can : (e : Equation) (f : ℕ → Tm) → IsSolution f bound → fill f e.left ≡ fill f e.right → can_unify (answer st) e ≡ true
+  pub can : (e : Equation) (f : ℕ → Tm) → IsSolution f bound → fill f e.left ≡ fill f e.right → can_unify (replacement_of st) e ≡ true
   can e f h same = subst (λ r. can_unify r e ≡ true) (sym (answer_is parts st step)) (by (solve (sides ∷ [])) refl)
     where
       sides : Equation
@@ -123,7 +123,7 @@ module _ (ground : GroundMeaning) (parts : Parts) (st : Store) (step : AreInStep
       by None k = absurd (also_answered left_first (sides ∷ []) (sides ∷ []) f (λ h u. u) (side f h e.left ∙ same ∙ sym (side f h e.right), tt) k)
 
   -- and where there is none they can't
-  pub can't : (e : Equation) → ((f : ℕ → Tm) → IsSolution f bound → fill f e.left ≡ fill f e.right → ⊥) → can_unify (answer st) e ≡ false
+  pub can't : (e : Equation) → ((f : ℕ → Tm) → IsSolution f bound → fill f e.left ≡ fill f e.right → ⊥) → can_unify (replacement_of st) e ≡ false
   can't e never = subst (λ r. can_unify r e ≡ false) (sym (answer_is parts st step)) (by (solve (sides ∷ [])) refl)
     where
       sides : Equation
@@ -153,7 +153,7 @@ module _ (ground : GroundMeaning) (parts : Parts) (st : Store) (step : AreInStep
       (λ h. (Decides-ground_eq (value us e.left) (value us e.right)).1 (back (from (equal-unifies us (added_equations added) h))).0)
       (λ h. unifies-equal us (added_equations added) (onto (there ((Decides-ground_eq (value us e.left) (value us e.right)).0 h, tt))))
 
-  listed_can : (e : Equation) (fs : Disequality) (added : List (Tm × Tm)) → SaysAsMuch bound (e ∷ []) fs → Unifying bound fs (Some added) → can_unify (answer st) e ≡ true
+  listed_can : (e : Equation) (fs : Disequality) (added : List (Tm × Tm)) → SaysAsMuch bound (e ∷ []) fs → Unifying bound fs (Some added) → can_unify (replacement_of st) e ≡ true
   listed_can e fs added says unify =
       let (new, put, none) = adds_solutions.can_be_put bound fs added step.no_cycle unify in
       let solution = ends-solve new (grown new none) in

@@ -10,7 +10,7 @@ use Rattle.kan_terms.proofs.TreeLaws.{term_eq-true, eq-term_eq}
 use Rattle.kan_model.specs.Stores.Store.{Store}
 use Rattle.kan_model.specs.Stores.Solve.{Replacement, image, apply}
 use Rattle.kan_model.specs.Stores.Kept.{has_type}
-use Rattle.kan_model.specs.Stores.Calls.{answer, IsFoundFor, WalksTo, IsFree, kind_at, AreTags}
+use Rattle.kan_model.specs.Stores.Calls.{replacement_of, IsFoundFor, WalksTo, IsFree, kind_at, AreTags}
 use Rattle.kan_model.specs.Answers.Answer.{has_absence}
 use Rattle.kan_model.specs.declared.prims.Kind.{Kind}
 use Rattle.kan_model.specs.declared.prims.Kind.TheVariants.{Symbol, Number, Text}
@@ -119,7 +119,7 @@ module _ (parts : Parts) (st : Store) (step : AreInStep parts st) where
   g : Grown parts.bound
   g = grown parts.bound step.no_cycle
 
-  pub answer_is : answer st ≡ s
+  pub answer_is : replacement_of st ≡ s
   answer_is = ap (λ o. unwrap_or o []) step.solved
 
   -- what a variable walks to stands for its image
@@ -148,7 +148,7 @@ module _ (parts : Parts) (st : Store) (step : AreInStep parts st) where
   walk_by Tree.nil = walk-term parts.bound Tree.nil (λ y e. cc)
   walk_by (Tree.pair a b) = walk-term parts.bound (Tree.pair a b) (λ y e. cc)
 
-  pub walk_shows : (t : Tm) → WalksTo (answer st) t (walk parts.bound t)
+  pub walk_shows : (t : Tm) → WalksTo (replacement_of st) t (walk parts.bound t)
   walk_shows t = subst (λ r. WalksTo r t (walk parts.bound t)) (sym answer_is) (walk_by t)
 
   -- a variable that stands for itself isn't bound
@@ -160,40 +160,40 @@ module _ (parts : Parts) (st : Store) (step : AreInStep parts st) where
   pub kind_shows : (v : ℕ) → IsFree st v → parts.types v ≡ kind_at st v
   kind_shows v free = by (parts.types v) refl
     where
-      at : (k : Kind) → (parts.types v ≡ Some k → has_type k (answer st) st.prims v ≡ true) × (has_type k (answer st) st.prims v ≡ true → parts.types v ≡ Some k)
+      at : (k : Kind) → (parts.types v ≡ Some k → has_type k (replacement_of st) st.prims v ≡ true) × (has_type k (replacement_of st) st.prims v ≡ true → parts.types v ≡ Some k)
       at k = subst (λ r. (parts.types v ≡ Some k → has_type k r st.prims v ≡ true) × (has_type k r st.prims v ≡ true → parts.types v ≡ Some k)) (sym answer_is) (step.typed v (free_unbound v free) k)
 
-      lacks : (o : Option Kind) (k : Kind) → parts.types v ≡ o → (o ≡ Some k → ⊥) → has_type k (answer st) st.prims v ≡ false
-      lacks o k e other = false_from_ne_true (has_type k (answer st) st.prims v) (λ has. other (sym e ∙ (at k).1 has))
+      lacks : (o : Option Kind) (k : Kind) → parts.types v ≡ o → (o ≡ Some k → ⊥) → has_type k (replacement_of st) st.prims v ≡ false
+      lacks o k e other = false_from_ne_true (has_type k (replacement_of st) st.prims v) (λ has. other (sym e ∙ (at k).1 has))
 
       choose : (a b c : Bool) → Option Kind
       choose a b c = if a then Some Symbol else (if b then Some Number else (if c then Some Text else None))
 
       by : (o : Option Kind) → parts.types v ≡ o → parts.types v ≡ kind_at st v
-      by None e = e ∙ sym (ap₂ (λ a b. choose a b (has_type Text (answer st) st.prims v)) (lacks None Symbol e (λ i. cc)) (lacks None Number e (λ i. cc)) ∙ ap (choose false false) (lacks None Text e (λ i. cc)))
-      by (Some Symbol) e = e ∙ sym (ap (λ a. choose a (has_type Number (answer st) st.prims v) (has_type Text (answer st) st.prims v)) ((at Symbol).0 e))
-      by (Some Number) e = e ∙ sym (ap₂ (λ a b. choose a b (has_type Text (answer st) st.prims v)) (lacks (Some Number) Symbol e (λ i. cc)) ((at Number).0 e))
-      by (Some Text) e = e ∙ sym (ap₂ (λ a b. choose a b (has_type Text (answer st) st.prims v)) (lacks (Some Text) Symbol e (λ i. cc)) (lacks (Some Text) Number e (λ i. cc)) ∙ ap (choose false false) ((at Text).0 e))
+      by None e = e ∙ sym (ap₂ (λ a b. choose a b (has_type Text (replacement_of st) st.prims v)) (lacks None Symbol e (λ i. cc)) (lacks None Number e (λ i. cc)) ∙ ap (choose false false) (lacks None Text e (λ i. cc)))
+      by (Some Symbol) e = e ∙ sym (ap (λ a. choose a (has_type Number (replacement_of st) st.prims v) (has_type Text (replacement_of st) st.prims v)) ((at Symbol).0 e))
+      by (Some Number) e = e ∙ sym (ap₂ (λ a b. choose a b (has_type Text (replacement_of st) st.prims v)) (lacks (Some Number) Symbol e (λ i. cc)) ((at Number).0 e))
+      by (Some Text) e = e ∙ sym (ap₂ (λ a b. choose a b (has_type Text (replacement_of st) st.prims v)) (lacks (Some Text) Symbol e (λ i. cc)) (lacks (Some Text) Number e (λ i. cc)) ∙ ap (choose false false) ((at Text).0 e))
 
-  pub tag_shows : (v : ℕ) → IsFree st v → (tag : ℕ) → is_listed tag (parts.tags v) ≡ has_absence (answer st) st.prims tag v
+  pub tag_shows : (v : ℕ) → IsFree st v → (tag : ℕ) → is_listed tag (parts.tags v) ≡ has_absence (replacement_of st) st.prims tag v
   tag_shows v free tag =
       let (there, back) = step.tagged v (free_unbound v free) tag in
       same_tests (is_listed tag (parts.tags v)) (has_absence s st.prims tag v) there back ∙ ap (λ r. has_absence r st.prims tag v) (sym answer_is)
 
-pub tags_show : (st : Store) (v : ℕ) (tags : List ℕ) → ((tag : ℕ) → is_listed tag tags ≡ has_absence (answer st) st.prims tag v) → AreTags st v tags
+pub tags_show : (st : Store) (v : ℕ) (tags : List ℕ) → ((tag : ℕ) → is_listed tag tags ≡ has_absence (replacement_of st) st.prims tag v) → AreTags st v tags
 tags_show st v tags same tag = (λ c. sym (same tag) ∙ contains-listed tag tags c, λ has. listed-contains tag tags (same tag ∙ has))
 
 -- what holds behind a truncation
 module _ (parts : Parts) (st : Store) (step : ∥ AreInStep parts st ∥₁) where
-  pub walk_known : (t : Tm) → WalksTo (answer st) t (walk parts.bound t)
-  walk_known t = walks-known (answer st) t (walk parts.bound t) (∥∥₁_map step (λ i. walk_shows parts st i t))
+  pub walk_known : (t : Tm) → WalksTo (replacement_of st) t (walk parts.bound t)
+  walk_known t = walks-known (replacement_of st) t (walk parts.bound t) (∥∥₁_map step (λ i. walk_shows parts st i t))
 
   pub kind_known : (v : ℕ) → IsFree st v → parts.types v ≡ kind_at st v
   kind_known v free = kind-known (parts.types v) (kind_at st v) (∥∥₁_map step (λ i. kind_shows parts st i v free))
 
   pub tags_known : (v : ℕ) → IsFree st v → (tags : List ℕ) → tags ≡ parts.tags v → AreTags st v tags
   tags_known v free tags is = tags_show st v tags (λ tag. ap (is_listed tag) is
-      ∙ test-known (is_listed tag (parts.tags v)) (has_absence (answer st) st.prims tag v) (∥∥₁_map step (λ i. tag_shows parts st i v free tag)))
+      ∙ test-known (is_listed tag (parts.tags v)) (has_absence (replacement_of st) st.prims tag v) (∥∥₁_map step (λ i. tag_shows parts st i v free tag)))
 
   pub no_cycle_known : HasNoCycle parts.bound
   no_cycle_known = no_cycle parts.bound (grown-known parts.bound (∥∥₁_map step (λ i. grown parts.bound i.no_cycle)))

@@ -17,11 +17,8 @@ abbrev pub equations_of : List (List TermPair) → List (List Equation)
 equations_of = map (map equation)
 
 -- what is left of the lists that wait, the last of which comes first, behind what is left of those before, is what is left of them all
-abbrev pub StillOpen : Pairs → List (Bor (List TermPair)) → List (Bor (List TermPair)) → List (List TermPair) → Type 0
-StillOpen bound all waiting left = (r : List (List Equation)) → Resolved bound (reverse (lent_pairs waiting)) r → Resolved bound (reverse (lent_pairs all)) (equations_of left ++ r)
-
-pub open_first : (bound : Pairs) (all : List (Bor (List TermPair))) (left : List (List TermPair)) → left ≡ [] → StillOpen bound all all left
-open_first bound all left none r d = subst (λ l. Resolved bound (reverse (lent_pairs all)) (equations_of l ++ r)) (sym none) d
+abbrev pub ResolvesOn : Pairs → List (Bor (List TermPair)) → List (Bor (List TermPair)) → List (List TermPair) → Type 0
+ResolvesOn bound all waiting left = (r : List (List Equation)) → Resolved bound (reverse (lent_pairs waiting)) r → Resolved bound (reverse (lent_pairs all)) (equations_of left ++ r)
 
 added-equations : (pairs : List TermPair) → added_equations (map sides pairs) ≡ map equation pairs
 added-equations [] = refl
@@ -40,12 +37,12 @@ module _ (bound : Pairs) (all waiting before : List (Bor (List TermPair))) (item
       subst (λ ls. Resolved bound ls (map equation made ∷ r)) (last_first waiting before item is)
       (subst (λ es. Resolved bound (map equation item.now ∷ reverse (lent_pairs before)) (es ∷ r)) (added-equations made) (Resolved.still unify d))
 
-  pub open_on : (old new : List (List TermPair)) (found : Option (List TermPair)) (shown : List TermPair) → shown ≡ item.now → Unifying bound (map equation shown) (option_map (λ made. map sides made) found) →
-      new ≡ old ++ option_to_list found → StillOpen bound all waiting old → StillOpen bound all before new
-  open_on old new found shown same unify more so_far r d =
+  pub resolves_next : (old new : List (List TermPair)) (found : Option (List TermPair)) (shown : List TermPair) → shown ≡ item.now → Unifying bound (map equation shown) (option_map (λ made. map sides made) found) →
+      new ≡ old ++ option_to_list found → ResolvesOn bound all waiting old → ResolvesOn bound all before new
+  resolves_next old new found shown same unify more so_far r d =
       subst (λ l. Resolved bound (reverse (lent_pairs all)) l) (sym (ap (λ l. equations_of l ++ r) more ∙ ap (λ l. l ++ r) (map-append (map equation) old (option_to_list found)) ∙ append_assoc (equations_of old) (equations_of (option_to_list found)) r))
       (so_far (equations_of (option_to_list found) ++ r) (one found r (subst (λ x. Unifying bound (map equation x) (option_map (λ made. map sides made) found)) same unify) d))
 
-pub open_done : (bound : Pairs) (all waiting : List (Bor (List TermPair))) (left : List (List TermPair)) → waiting ≡ [] → StillOpen bound all waiting left → Resolved bound (reverse (lent_pairs all)) (equations_of left)
-open_done bound all waiting left none so_far =
+pub resolves_all : (bound : Pairs) (all waiting : List (Bor (List TermPair))) (left : List (List TermPair)) → waiting ≡ [] → ResolvesOn bound all waiting left → Resolved bound (reverse (lent_pairs all)) (equations_of left)
+resolves_all bound all waiting left none so_far =
     subst (λ l. Resolved bound (reverse (lent_pairs all)) l) (append-nil (equations_of left)) (so_far [] (subst (λ w. Resolved bound (reverse (lent_pairs w)) []) (sym none) Resolved.none_left))

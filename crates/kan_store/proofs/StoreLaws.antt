@@ -8,7 +8,7 @@ use Rattle.kan_model.specs.Programs.Goals.{Primitive}
 use Rattle.kan_model.specs.Programs.Scope.{all_below, sides_below}
 use Rattle.kan_model.specs.Stores.Store.{Store, Equation, bare, with_prim, with_fresh}
 use Rattle.kan_model.specs.Stores.Kept.{is_kept}
-use Rattle.kan_model.specs.Stores.Calls.{answer, differences, WalksTo, AreDifferences}
+use Rattle.kan_model.specs.Stores.Calls.{replacement_of, differences, WalksTo, AreDifferences}
 use Rattle.kan_model.specs.declared.prims.Kind.TheVariants.{Symbol, Number, Text}
 use Rattle.type_absence.specs.Types.{made_if}
 use Rattle.unify_core.specs.Walking.{Pairs, walk}
@@ -92,8 +92,8 @@ pub adding_known : (old : Parts) (st : Store) → Known old st → (p : Primitiv
 adding_known old st step p r d = known-to (with_prim st p) r (∥∥₁_map step (λ i. adding_makes old st i p r d))
 
 -- what a store shows
-pub walk_told : (parts : Parts) (st : Store) → Known parts st → (t found : Tm) → found ≡ walk parts.bound t → WalksTo (answer st) t found
-walk_told parts st step t found is = subst (λ f. WalksTo (answer st) t f) (sym is) (walk_known parts st step t)
+pub walk_told : (parts : Parts) (st : Store) → Known parts st → (t found : Tm) → found ≡ walk parts.bound t → WalksTo (replacement_of st) t found
+walk_told parts st step t found is = subst (λ f. WalksTo (replacement_of st) t f) (sym is) (walk_known parts st step t)
 
 pub differences_told : (parts : Parts) (st : Store) → Known parts st → (all out : List (List Equation)) → all ≡ parts.lists.asserted → Resolved parts.bound all out → AreDifferences st (differences st.prims) out
 differences_told parts st step all out is d = differences_known ground_meaning parts st step out (subst (λ ls. Resolved parts.bound ls out) is d)

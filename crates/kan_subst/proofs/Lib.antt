@@ -1,3 +1,3 @@
-pub mod Found
+pub mod FoundLaws
 pub mod GreatestLaws
 pub mod Sent

@@ -1,12 +1,10 @@
 -- The laws of trees: filling, leaves, equality, occurrence and size.
-use Rattle.std.specs.Prelude.{◌≡◌, ◌≢◌, ℕ, suc, ◌≤◌, Bool, true, false, ◌&&◌, ◌||◌, eqb, [], ◌∷◌, refl, Contains, flat_map}
+use Rattle.std.specs.Prelude.{◌≡◌, ◌≢◌, ℕ, suc, ◌≤◌, Bool, true, false, ◌&&◌, ◌||◌, eqb, [], ◌∷◌, refl, Contains}
 use Rattle.std.specs.Bool.{Decides}
 use Rattle.std.proofs.Common.{sym, ◌∙◌, ap, arith, inl, inr, ◌⊎◌}
 use Rattle.std.proofs.lemmas.Bool.{eqb-true, eq-eqb}
-use Rattle.std.proofs.lemmas.Bool.Decides.{Decides-int_eq, not_from_Decides}
+use Rattle.std.proofs.lemmas.Bool.Decides.{Decides-int_eq}
 use Rattle.std.proofs.lemmas.List.Elements.{Contains-append_left, Contains-append_right, Contains-append_cases, Contains-push_cases}
-use Rattle.std.proofs.lemmas.List.{append-nil}
-use Rattle.std.proofs.lemmas.Grind.{flat_map-append}
 use Rattle.kan_terms.specs.Tree.{Tree, Tm, Gd, fill, leaves, occurs, has_symbol, bool_eq, tree_eq, term_eq, ground_eq, size}
 
 -- filling twice is filling once
@@ -125,10 +123,11 @@ eq-term_eq s t = (Decides-term_eq s t).1
 pub Decides-ground_eq : (s t : Gd) → Decides (ground_eq s t) (s ≡ t)
 Decides-ground_eq s t = Decides-tree_eq (λ none. absurd none) (λ none. absurd none) s t
 
--- terms are the same or differ
-pub Term-decided : (s t : Tm) → (s ≡ t) ⊎ (s ≢ t)
-Term-decided s t =
-    elim (term_eq s t) as (λ r. Decides r (s ≡ t) → (s ≡ t) ⊎ (s ≢ t)) [ true ↦ λ d. inl (d.0 refl) | false ↦ λ d. inr (not_from_Decides false d refl) ] (Decides-term_eq s t)
+pub ground_eq-true : (s t : Gd) → ground_eq s t ≡ true → s ≡ t
+ground_eq-true s t = (Decides-ground_eq s t).0
+
+pub eq-ground_eq : (s t : Gd) → s ≡ t → ground_eq s t ≡ true
+eq-ground_eq s t = (Decides-ground_eq s t).1
 
 -- a variable that stands in one of two trees stands in one of them
 or-split : (a b : Bool) → (a || b) ≡ true → (a ≡ true) ⊎ (b ≡ true)
@@ -174,10 +173,6 @@ leaves-occurs x (Tree.pair a b) h =
       | inl in_a ↦ or-left (occurs x a) (occurs x b) (leaves-occurs x a in_a)
       | inr in_b ↦ or-right (occurs x a) (occurs x b) (leaves-occurs x b in_b)
     ]
-
--- a variable stands in a term exactly where it is one of the term's leaves
-pub Decides-occurs : (x : ℕ) (t : Tm) → Decides (occurs x t) (Contains (leaves t) x)
-Decides-occurs x t = (occurs-leaves x t, leaves-occurs x t)
 
 -- functions that agree on the variables of a term fill it alike
 pub fill-same_occurs : {W : Type 0} (f g : ℕ → Tree W) (t : Tm) → ((x : ℕ) → occurs x t ≡ true → f x ≡ g x) → fill f t ≡ fill g t
@@ -274,16 +269,6 @@ leaves-has_symbol s f (Tree.pair a b) v h e =
       | inl in_a ↦ or-left (has_symbol s (fill f a)) (has_symbol s (fill f b)) (leaves-has_symbol s f a v in_a e)
       | inr in_b ↦ or-right (has_symbol s (fill f a)) (has_symbol s (fill f b)) (leaves-has_symbol s f b v in_b e)
     ]
-
--- the leaves of a filled tree are those of what fills its leaves
-pub leaves-fill : {V W : Type 0} (f : V → Tree W) (t : Tree V) → leaves (fill f t) ≡ flat_map (λ v. leaves (f v)) (leaves t)
-leaves-fill f (Tree.leaf v) = sym (append-nil (leaves (f v)))
-leaves-fill f (Tree.sym s) = refl
-leaves-fill f (Tree.str s) = refl
-leaves-fill f (Tree.num n) = refl
-leaves-fill f (Tree.truth b) = refl
-leaves-fill f Tree.nil = refl
-leaves-fill f (Tree.pair a b) = rw (leaves-fill f a, leaves-fill f b) (sym (flat_map-append (λ v. leaves (f v)) (leaves a) (leaves b)))
 
 -- a tree has at least one node
 pub size-positive : {V : Type 0} (t : Tree V) → 1 ≤ size t

@@ -12,9 +12,10 @@ use Rattle.kan_model.specs.Streams.Taking.{take_query}
 use Rattle.kan_model.proofs.Answering.AnswerLaws.{answer_in_form}
 use Rattle.kan_grammar.specs.Texts.Reply.{Reply}
 use Rattle.kan_meaning.proofs.StandingStores.{Stands, StreamStands, force_stands, start_stands}
-use Rattle.kan_meaning.proofs.Taking.{one_of_each, take_each}
+use Rattle.kan_meaning.proofs.TakingLaws.{one_of_each, take_each}
 use Rattle.kanren_run.specs.Answers.{AreInForm}
-use Rattle.kanren_run.specs.Tags.{HasNames, is_body_named, is_query_named}
+use Rattle.kan_model.specs.Answers.Answer.{HasNames}
+use Rattle.kanren_run.specs.Tags.{is_body_named, is_query_named}
 use Rattle.kan_model.specs.Each.{Each}
 use Rattle.kanren_run.proofs.RunLaws.{taken-has}
 

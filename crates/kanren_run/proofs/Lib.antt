@@ -2,7 +2,7 @@ pub mod TagLaws
 pub mod RunLaws
 pub mod TextLaws
 pub mod WritingLaws
-pub mod Declared
+pub mod DeclaredTypes
 pub mod FormLaws
 pub mod TopLaws
 pub mod LoadLaws

@@ -7,7 +7,7 @@ use Rattle.kan_terms.specs.Tree.{Tree, Tm}
 use Rattle.kan_model.specs.Programs.Goals.{Primitive, Goal, Template, Relation, Program, Query, on_sides}
 use Rattle.kan_model.specs.Stores.Store.{Store, bare, with_prim, with_fresh}
 use Rattle.kan_model.specs.Stores.Kept.{is_kept}
-use Rattle.kan_model.specs.Answers.Answer.{tags_of}
+use Rattle.kan_model.specs.Answers.Answer.{tags_of, HasNames}
 use Rattle.kan_model.specs.Streams.Stream.{Stream, Thunk, empty, one, append, append_each, bind_all}
 use Rattle.kan_model.specs.Streams.Running.{run, force, enter, start, assert, instance, instances, name_pairs, named_store, variables}
 use Rattle.kan_model.specs.Streams.Taking.{Taken, Ending, give, take, take_query, nothing_more, with_answer, with_pull}
@@ -15,7 +15,7 @@ use Rattle.kan_terms.specs.Table.{Table}
 use Rattle.kan_model.specs.Answers.Output.{runs_output, taken_text}
 use Rattle.kan_grammar.specs.Texts.Reply.{is_spent}
 use Rattle.kanren_run.specs.Answers.{spends}
-use Rattle.kanren_run.specs.Tags.{HasNames, is_named, are_named, is_body_named}
+use Rattle.kanren_run.specs.Tags.{is_named, are_named, is_body_named}
 use Rattle.kan_model.specs.Each.{Each}
 
 -- forcing asks a program for its relations alone

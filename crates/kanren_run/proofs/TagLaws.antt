@@ -9,7 +9,7 @@ use Rattle.kan_model.specs.Programs.Tables.{GoalEntry, RelationEntry, Tables, go
 use Rattle.kan_model.specs.Programs.Closed as programs
 use Rattle.goal_syntax.specs.Compiling.SymbolNames as entries
 use Rattle.kanren_run.specs.Tags.{are_named, is_body_named, is_query_named}
-use Rattle.kanren_run.proofs.Declared as declared
+use Rattle.kanren_run.proofs.DeclaredTypes as declared
 
 -- a symbol that has a text stands below the number of texts
 some_within : (texts : List (List ℕ)) (s : ℕ) → is_some (slice_get texts s) ≡ true → s < length texts

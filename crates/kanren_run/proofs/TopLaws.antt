@@ -20,7 +20,7 @@ use Rattle.kanren_run.specs.declared.refusal.Fault as refusals
 use Rattle.kanren_run.specs.declared.writing.Stop.{Stop}
 use Rattle.kanren_run.specs.Writing.{Stops}
 use Rattle.kanren_run.specs.declared.settings.Settings.{Settings}
-use Rattle.kanren_run.proofs.Declared as declared
+use Rattle.kanren_run.proofs.DeclaredTypes as declared
 use Rattle.kan_model.specs.Answers.InForm.{TextsDiffer}
 use Rattle.kanren_run.specs.Tags.{is_body_named}
 use Rattle.kanren_run.proofs.FormLaws.{answers_in_form}

@@ -1,11 +1,10 @@
 -- What is written of runs, piece after piece.
-use Rattle.std.proofs.Common.{◌≡◌, ℕ, zero, suc, ◌+◌, ◌<◌, ◌≤◌, true, Option, Some, None, Ok, Err, ap₂, subst, length-append, List, [], ◌∷◌, ◌++◌, map, take, drop, Bool, false, length, refl, sym, ◌∙◌, ap, arith, append-nil, append_assoc}
+use Rattle.std.proofs.Common.{◌≡◌, ℕ, zero, suc, ◌+◌, ◌<◌, ◌≤◌, true, Option, Some, None, Ok, Err, ap₂, subst, length-append, List, [], ◌∷◌, ◌++◌, map, take, drop, Bool, false, length, refl, sym, ◌∙◌, ap, arith, append-nil, append_assoc, inl, inr}
 use Rattle.std.proofs.Math.ListN.{get_or}
 use Rattle.std.specs.Prelude.{◌⊎◌, Result, ◌||◌, nat_lt, ◌&&◌}
 use Rattle.std.proofs.lemmas.Bool.{and_parts}
 use Rattle.std.specs.Result.{IsErrAnd}
 use Rattle.std.proofs.lemmas.List.{length-map}
-use Rattle.std.proofs.Common.{inl, inr}
 use Rattle.std.specs.List.{list_all}
 use Rattle.std.specs.Io.KnownBytes.{Appends}
 use Rattle.std.proofs.KnownBytes.{Appends-nil, Appends-trans}
@@ -18,7 +17,7 @@ use Rattle.kan_model.specs.Programs.Nodes.{goal_place}
 use Rattle.kan_model.specs.Programs.Closed as programs
 use Rattle.kan_model.specs.Programs.Scope.{is_closed, is_low, calls_there, body_in_scope, in_scope}
 use Rattle.kan_model.specs.Programs.Tables.{are_closed, templates_of, program_of, goal_at, goals_of}
-use Rattle.kanren_run.proofs.Declared as declared
+use Rattle.kanren_run.proofs.DeclaredTypes as declared
 use Rattle.kan_model.specs.Stores.Store.{Store}
 use Rattle.kan_terms.specs.Table.{Table}
 use Rattle.kan_model.specs.Streams.Taking.{Taken, take_query}
@@ -31,7 +30,8 @@ use Rattle.kanren_run.specs.declared.writing.Stop.{Stop}
 use Rattle.kanren_run.specs.declared.writing.Stop.TheVariants.{Fault, Memory}
 use Rattle.kan_grammar.specs.Texts.Reply.{is_spent}
 use Rattle.kanren_run.specs.Answers.{spends}
-use Rattle.kanren_run.specs.Tags.{HasNames, is_query_named}
+use Rattle.kan_model.specs.Answers.Answer.{HasNames}
+use Rattle.kanren_run.specs.Tags.{is_query_named}
 use Rattle.kan_model.specs.Each.{Each}
 
 -- the lines of the answers so far, and of one more

@@ -1,10 +1,7 @@
--- Goals and stores whose tags have names.
-use Rattle.std.specs.Prelude.{◌≡◌, ℕ, Bool, true, ◌&&◌, nat_lt, List, [], ◌∷◌, length}
-use Rattle.std.specs.List.{list_all}
+-- Goals whose tags have names.
+use Rattle.std.specs.Prelude.{ℕ, Bool, true, ◌&&◌, nat_lt, length}
 use Rattle.kan_terms.specs.Table.{Table}
 use Rattle.kan_model.specs.Programs.Goals.{Primitive, Goal, Relation, Query}
-use Rattle.kan_model.specs.Stores.Store.{Store}
-use Rattle.kan_model.specs.Answers.Answer.{tags_of}
 
 -- the number of a symbol is that of a name in a table
 abbrev pub has_name : Table → ℕ → Bool
@@ -32,7 +29,3 @@ is_body_named table r = are_named table r.body
 
 abbrev pub is_query_named : Table → Query → Bool
 is_query_named table q = are_named table q.goal
-
--- all tags whose absence a store asks for have names
-abbrev pub HasNames : Table → Store → Type 0
-HasNames table st = list_all (λ tag. nat_lt tag (length table.symbols)) (tags_of st.prims) ≡ true

@@ -19,7 +19,8 @@ use Rattle.kan_model.specs.Answers.Output.{answer_line, summary_line}
 use Rattle.kan_search.specs.Batches.{ending_of}
 use Rattle.kan_model.specs.Programs.Closed.{query_of}
 use Rattle.kan_search.specs.declared.batch.Ended.{Ended}
-use Rattle.kanren_run.specs.Tags.{HasNames, is_body_named, is_query_named}
+use Rattle.kan_model.specs.Answers.Answer.{HasNames}
+use Rattle.kanren_run.specs.Tags.{is_body_named, is_query_named}
 use Rattle.kan_model.specs.Each.{Each}
 use Rattle.kanren_run.specs.declared.writing.Stop.{Stop}
 use Rattle.kanren_run.specs.declared.writing.Stop.TheVariants.{Fault, Memory}

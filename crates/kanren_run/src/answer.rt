@@ -3,7 +3,7 @@
 ghost use Rattle.std.specs.Prelude.{◌≡◌, ◌++◌, IfOk, OnOk, string_bytes};
 ghost use Rattle.kan_model.specs.Answers.Output as output;
 ghost use Rattle.kan_search.specs.Batches.{ending_of};
-ghost use Rattle.kanren_run.specs.Tags.{HasNames};
+ghost use Rattle.kan_model.specs.Answers.Answer.{HasNames};
 
 use kan_model::Store;
 use kan_search::Ended;

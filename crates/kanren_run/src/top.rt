@@ -5,7 +5,6 @@ ghost use Rattle.kan_base.specs.Spots.{spot};
 ghost use Rattle.command_line.specs.WordsRead.{Reads, line_asked};
 ghost use Rattle.command_line.specs.Lines.{IsInRange, texts};
 ghost use Rattle.rel_library.specs.Loads.{greatest_load, load};
-ghost use Rattle.kan_model.specs.Answers.InForm.{TextsDiffer};
 ghost use Rattle.kanren_run.specs.Answers.{IsRefusedFor};
 ghost use Rattle.kanren_run.specs.Commands as commands;
 ghost use Rattle.kanren_run.specs.Headline.{TextsMean};
@@ -185,14 +184,6 @@ fn answer_text<St: Store, K: Sink>(
     }
 }
 
-// No two symbols of a table have one text, as each look-up in it says.
-#[tactic(auto, using(reify::proofs::AbsenceLaws::texts_apart))]
-fn texts_differ(names: &Names)
-    ensures { TextsDiffer names.now }
-{
-    let _found = names.name(0);
-}
-
 // Writes the runs of a text.
 fn answer_runs<St: Store, K: Sink>(
     alloc: Global,
@@ -208,7 +199,7 @@ fn answer_runs<St: Store, K: Sink>(
         → WritesReply settings text (K.view sink.old) (K.view sink.new) result }
 {
     let Compiled { program, queries } = compiled;
-    texts_differ(names);
+    reify::texts_differ(names);
     match write_runs::<K, St>(alloc, program, queries.items(), settings, names, sink) {
         Ok(false) => Status::Done,
         Ok(true) => Status::Fuel,

@@ -10,7 +10,7 @@ ghost use Rattle.kan_search.specs.Searches.{answers_left, pulls_made, round_of};
 ghost use Rattle.kan_grammar.specs.Texts.Reply.{is_spent};
 ghost use Rattle.kanren_run.specs.Answers.{spends};
 ghost use Rattle.kanren_run.specs.Settings.{InRange};
-ghost use Rattle.kanren_run.specs.Tags.{HasNames};
+ghost use Rattle.kan_model.specs.Answers.Answer.{HasNames};
 ghost use Rattle.kan_model.specs.Each.{Each};
 ghost use Rattle.kanren_run.specs.Writing.{CanRun, Puts, WritesNext, answer_lines, end_text};
 ghost use Rattle.kanren_run.specs.Writing.{rest_text, memory_wanted, sink_failed};

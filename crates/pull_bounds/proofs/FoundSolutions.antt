@@ -19,9 +19,9 @@ use Rattle.pull_bounds.specs.Coming.{ComesWithin}
 use Rattle.pull_bounds.specs.Finding.{StandsAbove, DerivationIsFound}
 use Rattle.pull_bounds.proofs.Within.{Comes, Comes-within, within-Comes, Comes-more}
 use Rattle.pull_bounds.proofs.AppendLaws.{left_comes, right_comes}
-use Rattle.pull_bounds.proofs.Bound.{both_come}
+use Rattle.pull_bounds.proofs.BindLaws.{both_come}
 use Rattle.pull_bounds.proofs.KeptStores.{holding_is_added}
-use Rattle.pull_bounds.proofs.Longer.{BeginsWith-self, BeginsWith-trans, BeginsWith-length, values-longer, all-below_more, holds-instance, values-instances, sides-below_instance, below-instances, values-variables, below-variables}
+use Rattle.pull_bounds.proofs.LongerValuations.{BeginsWith-self, BeginsWith-trans, BeginsWith-length, values-longer, all-below_more, holds-instance, values-instances, sides-below_instance, below-instances, values-variables, below-variables}
 use Rattle.pull_bounds.proofs.NamedArguments.{AreNamed, are_named, solution-fresh, counted-fresh, solution-with, counted-with}
 
 -- a store that comes within some pulls, with a solution that begins with these values

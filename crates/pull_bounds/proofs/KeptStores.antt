@@ -19,7 +19,7 @@ use Rattle.kan_model.proofs.Solving.UnifierLaws.{fill-apply, answer_most_general
 use Rattle.pull_bounds.specs.Finding.{SolvedIsKept, HoldingIsAdded}
 
 -- the values of a common solution make the sides of all equations the same
-values_unify : (us : List Gd) (ps : List (Primitive Tm)) → list_all (holds_at us) ps ≡ true → Unifies (value_at us) (equations ps)
+pub values_unify : (us : List Gd) (ps : List (Primitive Tm)) → list_all (holds_at us) ps ≡ true → Unifies (value_at us) (equations ps)
 values_unify us [] h = tt
 values_unify us (Primitive.same a b ∷ ps) h =
     let (first, rest) = and_parts (ground_eq (value us a) (value us b)) (list_all (holds_at us) ps) h in
@@ -31,7 +31,7 @@ values_unify us (Primitive.text a ∷ ps) h = values_unify us ps (and_parts (hol
 values_unify us (Primitive.absent tag a ∷ ps) h = values_unify us ps (and_parts (holds_at us (Primitive.absent tag a)) (list_all (holds_at us) ps) h).1
 
 -- a ground term is of a type, and which type it is of
-abbrev is_of : Kind → Gd → Bool
+abbrev pub is_of : Kind → Gd → Bool
 is_of Symbol = is_symbol
 is_of Number = is_number
 is_of Text = is_string
@@ -51,7 +51,7 @@ is_of-kind Number _ h = absurd (true≢false (sym h))
 is_of-kind Text _ h = absurd (true≢false (sym h))
 
 -- no value has two types
-one_type : (kind other : Kind) (u : Gd) → is_of kind u ≡ true → is_of other u ≡ true → Some kind ≡ Some other
+pub one_type : (kind other : Kind) (u : Gd) → is_of kind u ≡ true → is_of other u ≡ true → Some kind ≡ Some other
 one_type kind other u h k = sym (is_of-kind kind u h) ∙ is_of-kind other u k
 
 -- a term whose value has a type may have it
@@ -80,7 +80,7 @@ is_variable-true v _ h = absurd (true≢false (sym h))
 
 -- a solution whose values factor through an answer
 module _ (us : List Gd) (s : Replacement) (factors : Factors (value_at us) s) where
-  value-apply : (t : Tm) → value us (apply s t) ≡ value us t
+  pub value-apply : (t : Tm) → value us (apply s t) ≡ value us t
   value-apply t = fill-apply (value_at us) s factors t
 
   of-answer : (kind : Kind) (t : Tm) → is_of kind (value us t) ≡ true → is_of kind (value us (apply s t)) ≡ true
@@ -106,7 +106,7 @@ module _ (us : List Gd) (s : Replacement) (factors : Factors (value_at us) s) wh
       and_from (allows s p) (list_all (allows s) ps) (holds-allows p first) (all-allowed ps rest)
 
   -- a variable with a type has a value of it
-  type-value : (kind : Kind) (v : ℕ) (ps : List (Primitive Tm)) → list_all (holds_at us) ps ≡ true → has_type kind s ps v ≡ true → is_of kind (value_at us v) ≡ true
+  pub type-value : (kind : Kind) (v : ℕ) (ps : List (Primitive Tm)) → list_all (holds_at us) ps ≡ true → has_type kind s ps v ≡ true → is_of kind (value_at us v) ≡ true
   type-value kind v [] h k = absurd (true≢false (sym k))
   type-value kind v (p ∷ ps) h k =
       let (first, rest) = and_parts (holds_at us p) (list_all (holds_at us) ps) h in

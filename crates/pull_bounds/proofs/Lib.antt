@@ -2,9 +2,9 @@ mod Numbers
 pub mod Within
 pub mod AppendLaws
 pub mod CountLaws
-pub mod Bound
+pub mod BindLaws
 pub mod KeptStores
-pub mod Longer
+pub mod LongerValuations
 pub mod NamedArguments
 pub mod FoundSolutions
 pub mod TakenSolutions

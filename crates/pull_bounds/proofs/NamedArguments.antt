@@ -13,7 +13,7 @@ use Rattle.kan_model.specs.Programs.Scope.{all_below, sides_below, is_counted}
 use Rattle.kan_model.specs.Streams.Running.{Arguments, and_value, named_store, name_pairs}
 use Rattle.kan_model.specs.Meaning.Holds.{holds_at, IsSolution, BeginsWith}
 use Rattle.pull_bounds.specs.Finding.{StandsAbove}
-use Rattle.pull_bounds.proofs.Longer.{BeginsWith-self, BeginsWith-trans, BeginsWith-length, value-longer, values-longer, all-hold_longer, below-more, all-below_more, all-sides_more, value_at-next}
+use Rattle.pull_bounds.proofs.LongerValuations.{BeginsWith-self, BeginsWith-trans, BeginsWith-length, value-longer, values-longer, all-hold_longer, below-more, all-below_more, all-sides_more, value_at-next}
 
 -- a solution with values behind it is one of the store with as many variables more
 pub solution-fresh : (st : Store) (us vs : List Gd) → is_counted st ≡ true → IsSolution st us → IsSolution (with_fresh st (length vs)) (us ++ vs)

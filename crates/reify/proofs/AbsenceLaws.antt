@@ -14,7 +14,7 @@ use Rattle.kan_model.specs.Programs.Goals.{Primitive}
 use Rattle.kan_model.specs.Stores.Store.{Store}
 use Rattle.kan_model.specs.Stores.Solve.{Replacement, apply}
 use Rattle.kan_model.specs.Stores.Kept.{is_kept}
-use Rattle.kan_model.specs.Stores.Calls.{answer, kind_at, AreTags}
+use Rattle.kan_model.specs.Stores.Calls.{replacement_of, kind_at, AreTags}
 use Rattle.kan_model.specs.declared.prims.Kind.{Kind}
 use Rattle.kan_model.specs.declared.prims.Kind.TheVariants.{Number, Text}
 use Rattle.kan_model.specs.Answers.Order.{in_order, each_once, stands_in, put_in_order}
@@ -33,7 +33,7 @@ use Rattle.reify.proofs.NamingLaws.{each_once-push, eqb-flip}
 use Rattle.reify.proofs.OrderLaws.{in_order_map, filter_map, in_order_rises, bytes_le-trans}
 
 -- the tags of one variable
-pub may_is : (st : Store) (v : ℕ) → is_kept st ≡ true → (k : Option Kind) (b : Bool) → k ≡ kind_at st v → b ≡ (not (kind_test Number k) && not (kind_test Text k)) → b ≡ may_have_tag (answer st) st.prims v
+pub may_is : (st : Store) (v : ℕ) → is_kept st ≡ true → (k : Option Kind) (b : Bool) → k ≡ kind_at st v → b ≡ (not (kind_test Number k) && not (kind_test Text k)) → b ≡ may_have_tag (replacement_of st) st.prims v
 may_is st v kept k b found test =
     test ∙ ap (λ o. not (kind_test Number o) && not (kind_test Text o)) found ∙ ap₂ (λ x y. not x && not y) (kind_is_one st v kept Number) (kind_is_one st v kept Text)
 
@@ -45,9 +45,9 @@ and_false : (b : Bool) → (b && false) ≡ false
 and_false true = refl
 and_false false = refl
 
-pub kept_some : (st : Store) (v : ℕ) (tags : List ℕ) → AreTags st v tags → true ≡ may_have_tag (answer st) st.prims v → AreKept st v tags
+pub kept_some : (st : Store) (v : ℕ) (tags : List ℕ) → AreTags st v tags → true ≡ may_have_tag (replacement_of st) st.prims v → AreKept st v tags
 kept_some st v tags are may tag =
-    let same : keeps_tag st tag v ≡ has_absence (answer st) st.prims tag v = ap (λ b. has_absence (answer st) st.prims tag v && b) (sym may) ∙ and_true (has_absence (answer st) st.prims tag v) in
+    let same : keeps_tag st tag v ≡ has_absence (replacement_of st) st.prims tag v = ap (λ b. has_absence (replacement_of st) st.prims tag v && b) (sym may) ∙ and_true (has_absence (replacement_of st) st.prims tag v) in
     (λ h. same ∙ (are tag).0 h, λ h. (are tag).1 (sym same ∙ h))
 
 -- one more list
@@ -154,7 +154,7 @@ tag_there s tag v (Primitive.text a ∷ ps) h = tag_there s tag v ps h
 any_there : (st : Store) (tag : ℕ) (vs : List ℕ) → list_any (keeps_tag st tag) vs ≡ true → stands_in (tags_of st.prims) tag ≡ true
 any_there st tag [] h = absurd (true≢false (sym h))
 any_there st tag (v ∷ vs) h = elim (or_cases (keeps_tag st tag v) (list_any (keeps_tag st tag) vs) h) [
-  | inl first ↦ tag_there (answer st) tag v st.prims (and_parts (has_absence (answer st) st.prims tag v) (may_have_tag (answer st) st.prims v) first).0
+  | inl first ↦ tag_there (replacement_of st) tag v st.prims (and_parts (has_absence (replacement_of st) st.prims tag v) (may_have_tag (replacement_of st) st.prims v) first).0
   | inr later ↦ any_there st tag vs later
 ]
 
@@ -272,7 +272,7 @@ module _ (table : Table) (differ : TextsDiffer table) where
 
   -- the tags that were found are those that have names
   pub same_tags : (st : Store) (vs : List ℕ) (lists : List (List ℕ)) → list_all (λ tag. nat_lt tag (length table.symbols)) (tags_of st.prims) ≡ true → TagLists (keeps_tag st) vs lists →
-      in_order (symbols_rise table) (each_once eqb (concat lists)) ≡ in_order (symbols_rise table) (filter (λ tag. has_names (absence_of vs (answer st) st.prims tag)) (each_once eqb (tags_of st.prims)))
+      in_order (symbols_rise table) (each_once eqb (concat lists)) ≡ in_order (symbols_rise table) (filter (λ tag. has_names (absence_of vs (replacement_of st) st.prims tag)) (each_once eqb (tags_of st.prims)))
   same_tags st vs lists there are =
       same_order (symbols_rise table) Named one_tag (in_order (symbols_rise table) (each_once eqb (concat lists))) (in_order (symbols_rise table) (filter filled (each_once eqb (tags_of st.prims))))
       (strictly (each_once eqb (concat lists)) (once_apart (concat lists)))
@@ -282,7 +282,7 @@ module _ (table : Table) (differ : TextsDiffer table) where
       same
     where
       filled : ℕ → Bool
-      filled tag = has_names (absence_of vs (answer st) st.prims tag)
+      filled tag = has_names (absence_of vs (replacement_of st) st.prims tag)
 
       tags_named : Each Named (tags_of st.prims)
       tags_named = Each-like (λ t. nat_lt t (length table.symbols) ≡ true) Named (λ t. ltb-true t (length table.symbols)) (tags_of st.prims) (Each-from_list_all (λ t. nat_lt t (length table.symbols)) (tags_of st.prims) there)
@@ -314,14 +314,14 @@ module _ (table : Table) (differ : TextsDiffer table) where
 
   pub absences_are : (st : Store) (vs : List ℕ) (lists : List (List ℕ)) (found once tags : List ℕ) (made : List Absence) →
       list_all (λ tag. nat_lt tag (length table.symbols)) (tags_of st.prims) ≡ true → TagLists (keeps_tag st) vs lists → found ≡ concat lists → once ≡ each_once eqb found → tags ≡ in_order (symbols_rise table) once →
-      made ≡ map (kept_of lists) tags → made ≡ absences_of table vs (answer st) st.prims
+      made ≡ map (kept_of lists) tags → made ≡ absences_of table vs (replacement_of st) st.prims
   absences_are st vs lists found once tags made there are join each order all =
       all ∙ ap (map (kept_of lists)) (order ∙ ap (λ l. in_order (symbols_rise table) l) (each ∙ ap (each_once eqb) join) ∙ same_tags st vs lists there are)
       ∙ map_like (kept_of lists) of (λ t. ap (λ ns. record { tag = t; names = ns }) (listed_are (keeps_tag st) t 0 vs lists are)) (in_order (symbols_rise table) chosen)
       ∙ sym (ap (in_order (tag_le table)) (filter_map has_names of (each_once eqb (tags_of st.prims))) ∙ in_order_map of (tag_le table) chosen)
     where
       of : ℕ → Absence
-      of = absence_of vs (answer st) st.prims
+      of = absence_of vs (replacement_of st) st.prims
 
       chosen : List ℕ
       chosen = filter (λ tag. has_names (of tag)) (each_once eqb (tags_of st.prims))

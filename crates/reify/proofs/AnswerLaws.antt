@@ -11,7 +11,7 @@ use Rattle.kan_terms.specs.Table.{Table}
 use Rattle.kan_model.specs.Stores.Store.{Store}
 use Rattle.kan_model.specs.Stores.Solve.{image}
 use Rattle.kan_model.specs.Stores.Kept.{has_type}
-use Rattle.kan_model.specs.Stores.Calls.{answer}
+use Rattle.kan_model.specs.Stores.Calls.{replacement_of}
 use Rattle.kan_model.specs.Terms.Letters as letters_of
 use Rattle.kan_model.specs.declared.letters.Letter.{Letter}
 use Rattle.kan_model.specs.declared.prims.Kind.TheVariants.{Symbol, Number, Text}
@@ -30,13 +30,13 @@ answer_with t ds ns ss ts as_ = record { term = t; disequalities = ds; numbers =
 
 -- the answer of its parts
 pub answer_is : (table : Table) (st : Store) (vs : List ℕ) (t : Tm) (ds : List (List model.NamedPair)) (ns ss ts : List ℕ) (absences : List model.Absence) →
-    vs ≡ model.named_variables (image (answer st) 0) → t ≡ model.in_names vs (image (answer st) 0) →
-    ds ≡ in_order (difference_le table) (map (model.form_in_names vs) (model.strongest (model.forms_of vs st (answer st) st.prims))) →
-    ns ≡ model.names_where (has_type Number (answer st) st.prims) 0 vs → ss ≡ model.names_where (has_type Symbol (answer st) st.prims) 0 vs →
-    ts ≡ model.names_where (has_type Text (answer st) st.prims) 0 vs → absences ≡ model.absences_of table vs (answer st) st.prims →
+    vs ≡ model.named_variables (image (replacement_of st) 0) → t ≡ model.in_names vs (image (replacement_of st) 0) →
+    ds ≡ in_order (difference_le table) (map (model.form_in_names vs) (model.strongest (model.forms_of vs st (replacement_of st) st.prims))) →
+    ns ≡ model.names_where (has_type Number (replacement_of st) st.prims) 0 vs → ss ≡ model.names_where (has_type Symbol (replacement_of st) st.prims) 0 vs →
+    ts ≡ model.names_where (has_type Text (replacement_of st) st.prims) 0 vs → absences ≡ model.absences_of table vs (replacement_of st) st.prims →
     answer_with t ds ns ss ts absences ≡ answer_of table st
 answer_is table st vs t ds ns ss ts absences named term differences numbers symbols strings kept =
-    (λ i. answer_with (term i) (differences i) (numbers i) (symbols i) (strings i) (kept i)) ∙ ap (answer_under table st (answer st)) named
+    (λ i. answer_with (term i) (differences i) (numbers i) (symbols i) (strings i) (kept i)) ∙ ap (answer_under table st (replacement_of st)) named
 
 -- an answer in form is over the names of its term
 all_imply : {X : Type 0} (p q : X → Bool) → ((x : X) → p x ≡ true → q x ≡ true) → (xs : List X) → list_all p xs ≡ true → list_all q xs ≡ true

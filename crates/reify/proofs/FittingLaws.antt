@@ -9,7 +9,7 @@ use Rattle.kan_model.specs.Stores.Store.{Store, Equation}
 use Rattle.kan_model.specs.Stores.Solve.{Replaced, Replacement, image, apply, solve_by}
 use Rattle.kan_model.specs.Stores.Composition.{compose}
 use Rattle.kan_model.specs.Stores.Kept.{may_be, allows, is_variable, gives_type, has_type, lacks_type, gives_one_type, holds_under, is_kept}
-use Rattle.kan_model.specs.Stores.Calls.{answer, kind_at, AreTags}
+use Rattle.kan_model.specs.Stores.Calls.{replacement_of, kind_at, AreTags}
 use Rattle.kan_model.specs.Terms.Letters as letters_of
 use Rattle.kan_model.specs.declared.letters.Letter.{Letter}
 use Rattle.std.proofs.lemmas.List.Folds.{list_any-append}
@@ -205,7 +205,7 @@ module _ (st : Store) (kept : is_kept st ≡ true) (left : ℕ → ℕ → Bool)
   ps = st.prims
 
   abbrev s : Replacement
-  s = answer st
+  s = replacement_of st
 
   abbrev c : Replacement
   c = compose s r
@@ -522,7 +522,7 @@ all_at p (x ∷ xs) v h k =
 
 module _ (st : Store) (v : ℕ) (t : Tm) (tags : List ℕ) (are : AreTags st v tags) where
   abbrev out : ℕ → Bool
-  out tag = has_absence (answer st) st.prims tag v
+  out tag = has_absence (replacement_of st) st.prims tag v
 
   to_all : list_all (λ tag. not (has_symbol tag t)) tags ≡ true → list_all (λ tag. not (out tag && has_symbol tag t)) (tags_of st.prims) ≡ true
   to_all h = all_from (λ tag. not (out tag && has_symbol tag t)) (tags_of st.prims) (λ tag there. by tag (out tag) refl)
@@ -535,7 +535,7 @@ module _ (st : Store) (v : ℕ) (t : Tm) (tags : List ℕ) (are : AreTags st v t
   to_some h = all_from (λ tag. not (has_symbol tag t)) tags (λ tag there. by tag (sym (listed_is tags tag (out tag) (are tag)) ∙ there))
     where
       by : (tag : ℕ) → out tag ≡ true → not (has_symbol tag t) ≡ true
-      by tag e = sym (ap (λ b. not (b && has_symbol tag t)) e) ∙ all_at (λ other. not (out other && has_symbol other t)) (tags_of st.prims) tag h (tag_there (answer st) tag v st.prims e)
+      by tag e = sym (ap (λ b. not (b && has_symbol tag t)) e) ∙ all_at (λ other. not (out other && has_symbol other t)) (tags_of st.prims) tag h (tag_there (replacement_of st) tag v st.prims e)
 
 map_tests : (letters : List Letter) (t : Tm) → letters ≡ letters_of.spelling t → (tags : List ℕ) →
     list_all (λ tag. not (list_any (is_symbol_letter tag) letters)) tags ≡ list_all (λ tag. not (has_symbol tag t)) tags

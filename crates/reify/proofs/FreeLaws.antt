@@ -6,7 +6,7 @@ use Rattle.kan_terms.specs.Tree.{Tree, Tm, fill, leaves}
 use Rattle.kan_model.specs.Stores.Store.{Store, equations}
 use Rattle.kan_model.specs.Stores.Solve.{image, left_first}
 use Rattle.kan_model.specs.Stores.Kept.{is_kept}
-use Rattle.kan_model.specs.Stores.Calls.{answer, IsFree}
+use Rattle.kan_model.specs.Stores.Calls.{replacement_of, IsFree}
 use Rattle.kan_model.specs.Answers.Answer.{named_variables}
 use Rattle.kan_model.proofs.Solving.ReplacedLaws.{applied_twice}
 use Rattle.kan_model.proofs.ListLaws.{Each-append, Each-each_once}
@@ -35,10 +35,10 @@ fixed_leaves f (Tree.pair a b) e =
     Each-append (λ v. f v ≡ Tree.leaf v) (leaves a) (leaves b) (fixed_leaves f a (first_part (fill f a) (fill f b) a b e)) (fixed_leaves f b (last_part (fill f a) (fill f b) a b e))
 
 -- the variables of the query's value stand for themselves
-pub named_are_free : (st : Store) → is_kept st ≡ true → Each (IsFree st) (named_variables (image (answer st) 0))
+pub named_are_free : (st : Store) → is_kept st ≡ true → Each (IsFree st) (named_variables (image (replacement_of st) 0))
 named_are_free st kept =
-    Each-each_once (IsFree st) eqb (leaves (image (answer st) 0))
-    (fixed_leaves (image (answer st)) (image (answer st) 0) (applied_twice left_first (equations st.prims) (answer st) (Tree.leaf 0) (answer_holds st kept).0))
+    Each-each_once (IsFree st) eqb (leaves (image (replacement_of st) 0))
+    (fixed_leaves (image (replacement_of st)) (image (replacement_of st) 0) (applied_twice left_first (equations st.prims) (replacement_of st) (Tree.leaf 0) (answer_holds st kept).0))
 
-pub all_named_free : (st : Store) (vs : List ℕ) → is_kept st ≡ true → vs ≡ named_variables (image (answer st) 0) → All (IsFree st) vs
-all_named_free st vs kept e = rw e (All-from_Each (IsFree st) (named_variables (image (answer st) 0)) (named_are_free st kept))
+pub all_named_free : (st : Store) (vs : List ℕ) → is_kept st ≡ true → vs ≡ named_variables (image (replacement_of st) 0) → All (IsFree st) vs
+all_named_free st vs kept e = rw e (All-from_Each (IsFree st) (named_variables (image (replacement_of st) 0)) (named_are_free st kept))

@@ -17,16 +17,16 @@ use Rattle.kan_model.specs.Stores.Solve as model
 use Rattle.kan_model.specs.Stores.Composition.{apply_sides, compose}
 use Rattle.kan_model.specs.Stores.Kept.{holds_with, is_kept}
 use Rattle.kan_model.specs.Stores.Prims.{equation}
-use Rattle.kan_model.specs.Stores.Calls.{answer, differences, SaysTheSame, AreDifferences, IsFree}
+use Rattle.kan_model.specs.Stores.Calls.{replacement_of, differences, SaysTheSame, AreDifferences, IsFree}
 use Rattle.kan_model.specs.Terms.Letters as letters_of
 use Rattle.kan_model.specs.Answers.Order.{stands_in}
 use Rattle.kan_model.specs.Answers.Answer.{ranks_lower, solved_form, in_rank, all_named, can_be_equal, is_no_difference, if_written, and_form, forms_of}
 use Rattle.kan_solving.specs.Solving.{replaced_by, on_stack}
 use Rattle.kan_solving.specs.declared.solving.Replaced.{Replaced}
 use Rattle.kan_solving.proofs.SolvingSteps.{map-reverse}
-use Rattle.store_laws.proofs.General.{answer_is_general}
+use Rattle.store_laws.proofs.GeneralUnifiers.{answer_is_general}
 use Rattle.store_laws.proofs.OneForm.{also_answered}
-use Rattle.store_laws.proofs.InRank.{difference_in_rank, named_in_rank}
+use Rattle.store_laws.proofs.RankedForms.{difference_in_rank, named_in_rank}
 use Rattle.store_laws.proofs.CanBeEqual.{pairs_can_be_equal}
 use Rattle.reify.specs.Fitting.{IsFreeLeaf, IsOver, fits}
 use Rattle.reify.specs.Keeping.{answer_kept, forms_meant, letter_named, is_named}
@@ -36,11 +36,11 @@ use Rattle.reify.proofs.FittingLaws.{fits_is}
 -- the forms of the disequalities of equations
 abbrev forms_for : List ℕ → Store → List Equation → List model.Replacement
 forms_for vs st [] = []
-forms_for vs st (e ∷ es) = and_form vs st e.left e.right (solved_form vs (answer st) e.left e.right) (forms_for vs st es)
+forms_for vs st (e ∷ es) = and_form vs st e.left e.right (solved_form vs (replacement_of st) e.left e.right) (forms_for vs st es)
 
-forms_for_all : (vs : List ℕ) (st : Store) (ps : List (Primitive Tm)) → forms_of vs st (answer st) ps ≡ forms_for vs st (differences ps)
+forms_for_all : (vs : List ℕ) (st : Store) (ps : List (Primitive Tm)) → forms_of vs st (replacement_of st) ps ≡ forms_for vs st (differences ps)
 forms_for_all vs st [] = refl
-forms_for_all vs st (Primitive.differ a b ∷ ps) = ap (and_form vs st a b (solved_form vs (answer st) a b)) (forms_for_all vs st ps)
+forms_for_all vs st (Primitive.differ a b ∷ ps) = ap (and_form vs st a b (solved_form vs (replacement_of st) a b)) (forms_for_all vs st ps)
 forms_for_all vs st (Primitive.same a b ∷ ps) = forms_for_all vs st ps
 forms_for_all vs st (Primitive.symbol a ∷ ps) = forms_for_all vs st ps
 forms_for_all vs st (Primitive.number a ∷ ps) = forms_for_all vs st ps
@@ -61,7 +61,7 @@ unsolved vs es none = by (model.solve_by (ranks_lower vs) es) refl
 
 module _ (vs : List ℕ) (st : Store) (kept : is_kept st ≡ true) where
   abbrev s : model.Replacement
-  s = answer st
+  s = replacement_of st
 
   written_or : (c : Bool) (f : model.Replacement) (fs : List model.Replacement) → option_to_list (if c then Some f else None) ++ fs ≡ if_written c f fs
   written_or true f fs = refl
@@ -138,8 +138,8 @@ named_over st vs (p ∷ form) free h =
 forms_meant-append : (vs : List ℕ) (st : Store) (xs ys : List (List Equation)) → forms_meant vs st (xs ++ ys) ≡ forms_meant vs st xs ++ forms_meant vs st ys
 forms_meant-append vs st [] ys = refl
 forms_meant-append vs st (x ∷ xs) ys =
-    ap (λ l. option_to_list (answer_kept vs st (model.solve_by (ranks_lower vs) (map (apply_sides (answer st)) x))) ++ l) (forms_meant-append vs st xs ys)
-    ∙ sym (append_assoc (option_to_list (answer_kept vs st (model.solve_by (ranks_lower vs) (map (apply_sides (answer st)) x)))) (forms_meant vs st xs) (forms_meant vs st ys))
+    ap (λ l. option_to_list (answer_kept vs st (model.solve_by (ranks_lower vs) (map (apply_sides (replacement_of st)) x))) ++ l) (forms_meant-append vs st xs ys)
+    ∙ sym (append_assoc (option_to_list (answer_kept vs st (model.solve_by (ranks_lower vs) (map (apply_sides (replacement_of st)) x)))) (forms_meant vs st xs) (forms_meant vs st ys))
 
 pub forms_step : (vs : List ℕ) (st : Store) (lists : List (List TermPair)) (i : ℕ) (pairs : List TermPair) (old new : List model.Replacement) → i < length lists → pairs ≡ get_or lists i pairs →
     old ≡ forms_meant vs st (map (map equation) (take i lists)) → new ≡ old ++ forms_meant vs st (map equation pairs ∷ []) → new ≡ forms_meant vs st (map (map equation) (take (i + 1) lists))

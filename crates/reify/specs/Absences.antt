@@ -1,14 +1,15 @@
 -- Tags that must not stand in variables.
 use Rattle.std.specs.Prelude.{◌≡◌, ◌↔◌, ℕ, suc, Bool, true, ◌&&◌, List, [], ◌∷◌, ◌++◌, Contains}
 use Rattle.kan_model.specs.Stores.Store.{Store}
-use Rattle.kan_model.specs.Stores.Calls.{answer}
+use Rattle.kan_model.specs.Stores.Calls.{replacement_of}
 use Rattle.kan_model.specs.Answers.Order.{stands_in}
 use Rattle.kan_model.specs.Answers.Answer.{Absence, has_absence, may_have_tag}
 use Rattle.reify.specs.Typing.{here}
 
 -- a store keeps a tag out of a variable in which it could stand
 abbrev pub keeps_tag : Store → ℕ → ℕ → Bool
-keeps_tag st tag v = has_absence (answer st) st.prims tag v && may_have_tag (answer st) st.prims v
+keeps_tag st tag v =
+    has_absence (replacement_of st) st.prims tag v && may_have_tag (replacement_of st) st.prims v
 
 -- the tags that a store keeps out of a variable
 abbrev pub AreKept : Store → ℕ → List ℕ → Type 0

@@ -7,7 +7,7 @@ use Rattle.kan_terms.specs.Terms.{tree}
 use Rattle.kan_model.specs.Stores.Store.{Store}
 use Rattle.kan_model.specs.Stores.Solve as model
 use Rattle.kan_model.specs.Stores.Kept.{may_be, is_variable}
-use Rattle.kan_model.specs.Stores.Calls.{answer, kind_at, IsFree}
+use Rattle.kan_model.specs.Stores.Calls.{replacement_of, kind_at, IsFree}
 use Rattle.kan_model.specs.Answers.Answer.{has_absence, tags_of}
 use Rattle.kan_model.specs.declared.prims.Kind.{Kind}
 use Rattle.kan_model.specs.declared.letters.Letter.{Letter}
@@ -44,7 +44,8 @@ types_fit st form p = type_fits st form (kind_at st p.var) p.by
 -- no tag of a replaced variable stands in what replaces it
 abbrev pub tags_fit : Store → model.Replaced → Bool
 tags_fit st p =
-    list_all (λ tag. not (has_absence (answer st) st.prims tag p.var && has_symbol tag p.by))
+    list_all
+    (λ tag. not (has_absence (replacement_of st) st.prims tag p.var && has_symbol tag p.by))
     (tags_of st.prims)
 
 -- types and tags of a pair fit

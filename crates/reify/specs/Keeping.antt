@@ -8,7 +8,7 @@ use Rattle.kan_terms.specs.Tree.{leaves}
 use Rattle.kan_model.specs.Stores.Store.{Store, Equation}
 use Rattle.kan_model.specs.Stores.Solve as model
 use Rattle.kan_model.specs.Stores.Composition.{apply_sides}
-use Rattle.kan_model.specs.Stores.Calls.{answer}
+use Rattle.kan_model.specs.Stores.Calls.{replacement_of}
 use Rattle.kan_model.specs.Answers.Order.{stands_in}
 use Rattle.kan_model.specs.Answers.Answer.{all_named, in_rank, ranks_lower}
 use Rattle.kan_model.specs.declared.letters.Letter.{Letter}
@@ -44,5 +44,5 @@ abbrev pub forms_meant : List ℕ → Store → List (List Equation) → List mo
 forms_meant vs st [] = []
 forms_meant vs st (es ∷ lists) =
     option_to_list
-    (answer_kept vs st (model.solve_by (ranks_lower vs) (map (apply_sides (answer st)) es)))
+    (answer_kept vs st (model.solve_by (ranks_lower vs) (map (apply_sides (replacement_of st)) es)))
     ++ forms_meant vs st lists

@@ -1,8 +1,7 @@
 //! The answer of a store.
 
-ghost use Rattle.std.specs.Prelude.{◌≡◌, length, nat_lt, true, IfOk};
-ghost use Rattle.std.specs.List.{list_all};
-ghost use Rattle.kan_model.specs.Answers.Answer.{tags_of};
+ghost use Rattle.std.specs.Prelude.{◌≡◌, IfOk};
+ghost use Rattle.kan_model.specs.Answers.Answer.{HasNames};
 ghost use Rattle.kan_model.specs.Answers.AnswerText.{answer_of};
 ghost use Rattle.reify.specs.Meaning.{meaning};
 
@@ -18,9 +17,7 @@ use std::alloc::Global;
 
 /// The answer of a store: the value of variable 0, and what is left of the constraints.
 pub fn answer_of<St: Store>(alloc: Global, store: &St, names: &Names) -> Result<Answer, Memory>
-    requires named { list_all
-        (λ tag. nat_lt tag (length names.now.symbols)) (tags_of (St.meaning store.now).prims)
-        ≡ true }
+    requires named { HasNames names.now (St.meaning store.now) }
     ensures { IfOk result (λ answer. meaning answer ≡ answer_of names.now (St.meaning store.now)) }
 {
     let letters = spell_in(alloc, store, &Term::Var(0))?;

@@ -3,7 +3,7 @@
 ghost use Rattle.std.specs.Prelude.{◌≡◌, ◌++◌, [], ◌∷◌, map, IfOk, OnOk, option_map};
 ghost use Rattle.std.specs.List.{All, list_all};
 ghost use Rattle.kan_model.specs.Stores.Prims.{equation};
-ghost use Rattle.kan_model.specs.Stores.Calls.{answer, IsFree};
+ghost use Rattle.kan_model.specs.Stores.Calls.{replacement_of, IsFree};
 ghost use Rattle.kan_model.specs.Answers.Answer.{all_named, forms_of};
 ghost use Rattle.kan_solving.specs.Solving.{replaced_by};
 ghost use Rattle.reify.specs.Keeping.{form_kept, form_of, forms_meant, is_named, letter_named};
@@ -126,7 +126,7 @@ pub(crate) fn forms<St: Store>(
 ) -> Result<Vec<Vec<Replaced>>, Memory>
     requires { All (IsFree (St.meaning store.now)) naming.now }
     ensures { IfOk result (λ forms. map form_of forms.items
-        ≡ forms_of naming.now (St.meaning store.now) (answer (St.meaning store.now))
+        ≡ forms_of naming.now (St.meaning store.now) (replacement_of (St.meaning store.now))
         (St.meaning store.now).prims) }
 {
     let lists = store.differences(alloc)?;

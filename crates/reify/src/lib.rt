@@ -19,6 +19,7 @@ mod typing;
 mod walking;
 mod writing;
 
+pub use absences::texts_differ;
 pub use answering::answer_of;
 pub use answers::{Absence, Answer};
 pub use constraints::{print_answer, print_difference};

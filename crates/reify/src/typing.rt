@@ -4,7 +4,7 @@ ghost use Rattle.std.specs.Prelude.{◌≡◌, ◌++◌, IfOk, OnOk};
 ghost use Rattle.std.specs.List.{All};
 ghost use Rattle.kan_model.specs.Answers.Answer.{names_where};
 ghost use Rattle.kan_model.specs.Stores.Kept.{has_type};
-ghost use Rattle.kan_model.specs.Stores.Calls.{answer, IsFree};
+ghost use Rattle.kan_model.specs.Stores.Calls.{replacement_of, IsFree};
 ghost use Rattle.reify.specs.Typing.{kind_test, here};
 
 use crate::naming::Naming;
@@ -27,7 +27,7 @@ pub(crate) fn is_kind(kind: Kind, found: Option<Kind>) -> bool
 fn has<St: Store>(store: &St, kind: Kind, var: u64) -> bool
     requires { IsFree (St.meaning store.now) var }
     ensures { result
-        ≡ has_type kind (answer (St.meaning store.now)) (St.meaning store.now).prims var }
+        ≡ has_type kind (replacement_of (St.meaning store.now)) (St.meaning store.now).prims var }
 {
     is_kind(kind, store.kind(var))
 }
@@ -51,7 +51,8 @@ pub(crate) fn names_of<St: Store>(
 ) -> Result<Vec<u64>, Memory>
     requires free { All (IsFree (St.meaning store.now)) naming.now }
     ensures { IfOk result (λ names. names.items
-        ≡ names_where (has_type kind (answer (St.meaning store.now)) (St.meaning store.now).prims) 0
+        ≡ names_where
+        (has_type kind (replacement_of (St.meaning store.now)) (St.meaning store.now).prims) 0
         naming.now) }
 {
     let mut names = Vec::new(alloc);

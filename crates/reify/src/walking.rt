@@ -4,7 +4,7 @@ ghost use Rattle.std.specs.Prelude.{◌≡◌, IfOk};
 ghost use Rattle.kan_terms.specs.Terms.{tree};
 ghost use Rattle.kan_model.specs.Terms.Letters.{spelling};
 ghost use Rattle.kan_model.specs.Stores.Solve.{apply};
-ghost use Rattle.kan_model.specs.Stores.Calls.{answer};
+ghost use Rattle.kan_model.specs.Stores.Calls.{replacement_of};
 
 use kan_model::{Letter, Store, first_letter};
 use kan_terms::{Memory, Term, wait_for_parts};
@@ -17,7 +17,7 @@ pub(crate) fn spell_in<St: Store>(
     term: &Term,
 ) -> Result<Vec<Letter>, Memory>
     ensures { IfOk result (λ letters. letters.items
-        ≡ spelling (apply (answer (St.meaning store.now)) (tree term.now))) }
+        ≡ spelling (apply (replacement_of (St.meaning store.now)) (tree term.now))) }
 {
     let mut letters = Vec::new(alloc);
     let mut waiting = Vec::new(alloc);

@@ -10,8 +10,8 @@ use Rattle.kan_grammar.specs.Data.Faults.{Reading, data_are, refused, read_if, r
 use Rattle.kan_grammar.specs.Data.Builds.{build_datum, build_within, map_reading}
 use Rattle.kan_grammar.specs.Data.Printed.{Label, Named, pairs, pairs_within, prefix_name}
 use Rattle.kan_terms.specs.Tree.{leaf, nil, pair}
-use Rattle.kan_grammar.proofs.Data.Exactly.{reads_exactly}
-use Rattle.kan_grammar.proofs.Data.Carried.{read_text-map, made_carries}
+use Rattle.kan_grammar.proofs.Data.ReadingLaws.{reads_exactly}
+use Rattle.kan_grammar.proofs.Data.CarryLaws.{read_text-map, made_carries}
 use Rattle.sexpr.specs.WrittenForms.{written_form, as_kept}
 use Rattle.sexpr.specs.Laws.{KeepsData, KeepsMeaning, ReadsNamed, is_named, are_named_within, are_named}
 

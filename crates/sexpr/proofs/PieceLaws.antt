@@ -11,7 +11,7 @@ use Rattle.std.proofs.lemmas.Str.{IsCharBoundary-after_ascii, IsCharBoundary-bef
 use Rattle.std.proofs.Math.Seq.{take-length}
 use Rattle.kan_grammar.specs.Data.Words.{is_word_byte, Token, opening, closing, dot, atom, symbol, string, truth, reserved, number_atom, number_token, number, out_of_range, bad, bad_string, prefix, unquote, is_dot, looks_like_number, all_digits, is_in_range, is_reserved, word_token}
 use Rattle.kan_grammar.specs.Data.Strings.{Role, role, begins_escape, length_by, string_length, string_meaning}
-use Rattle.kan_grammar.proofs.Data.Cutting.{string_length-within}
+use Rattle.kan_grammar.proofs.Data.CuttingLaws.{string_length-within}
 use Rattle.kan_grammar.specs.Data.Tokens.{Start, separator, comment, whole, comma, hash, quotation, in_word, string_piece, start, spelled, comma_piece, hash_token, piece_of, piece, more}
 use Rattle.sexpr.specs.Pieces.{first_piece}
 use Rattle.sexpr.specs.Reads.{HasText, HasPieceText}

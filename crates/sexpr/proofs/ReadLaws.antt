@@ -12,7 +12,7 @@ use Rattle.kan_grammar.specs.Data.Written.{Written, single}
 use Rattle.kan_grammar.specs.Data.Tokens.{Placed, placed, Piece, blank, spelled, more, placed_before, tokens, tokens_from}
 use Rattle.kan_grammar.specs.Data.Enclosing.{Enclosing, awaiting, top}
 use Rattle.kan_grammar.specs.Data.Faults.{Fault, fault, refusal, after, going, stopped, settle, run, finish, answer_at_end, Reading, refused, read_tokens, read_if, read_text}
-use Rattle.kan_grammar.proofs.Data.Cutting.{tokens_from-piece}
+use Rattle.kan_grammar.proofs.Data.CuttingLaws.{tokens_from-piece}
 use Rattle.kan_grammar.specs.Texts.TextNames.{GoesOn, Extends, with_token, with_tokens, with_text_names}
 use Rattle.kan_grammar.proofs.Texts.NameLaws.{goes_on_further}
 use Rattle.sexpr.specs.Meaning.{token_of, piece_of, piece_with}
@@ -117,7 +117,7 @@ text_token p t e h = subst (λ o. HasPieceText (piece_with o (p.length - 1))) e 
 pub grows_on : (most n all : ℕ) (old new : Table) → Extends most old new → most + n ≤ all → CanGrow all old → CanGrow n new
 grows_on most n all old new e h g = (omega (arith, e.symbols, h, g.0), omega (arith, e.strings, h, g.1))
 
--- what is open and the text that is left read as the whole text does, under every table that goes on
+-- what is unclosed and the text that is left read as the whole text does, under every table that goes on
 abbrev pub Left : Table → stacks.Enclosing → ℕ → List ℕ → List ℕ → Type 0
 Left names o at rest bytes = (later : Table) → GoesOn names later → finish (run as_kept (going (enclosing_of later o)) (tokens_from at 0 rest)) ≡ read_text as_kept bytes
 

@@ -1,4 +1,4 @@
--- What is open, kept as stacks.
+-- What is unclosed, kept as stacks.
 use Rattle.std.specs.Prelude.{◌≡◌, ℕ, suc, ◌+◌, ◌<◌, ◌≤◌, List, [], ◌∷◌, length, map, Option, None}
 use Rattle.std.specs.Prelude.{Some}
 use Rattle.std.specs.List.{fold}
@@ -48,7 +48,7 @@ ended_in names p (Some e) =
     (map (written_form names) e.list.items) e.list.point
     (written_form names e.last)
 
--- what is open
+-- what is unclosed
 abbrev pub enclosing_of : Table → stacks.Enclosing → Enclosing Written
 enclosing_of names o = ended_in names (place names o) o.ended
 
@@ -69,7 +69,8 @@ pub record HasDepth (o : stacks.Enclosing) : Type 0 where
   pub bounded : o.depth ≤ 2050
   pub room : HasRoom o.ended o.depth
 
--- a token is taken under a table: no question refuses it, and what is open is what comes after it
+-- a token is taken under a table: no question refuses it, and what is unclosed is what comes after
+-- it
 abbrev pub Takes : Table → stacks.Enclosing → stacks.Enclosing → ℕ → Token → Type 0
 Takes names old new at t =
     (refusal (enclosing_of names old) at t ≡ None)

@@ -47,8 +47,8 @@ abbrev pub with_piece : Table → Piece → Table
 with_piece names (spelled t n) = with_token names t
 with_piece names (blank n) = names
 
--- a piece is read: before all tokens what was open with it comes to what is open without it, under
--- each table that goes on
+-- a piece is read: before all tokens what was unclosed with it comes to what is unclosed without
+-- it, under each table that goes on
 abbrev pub ReadsPiece : Table → stacks.Enclosing → stacks.Enclosing → ℕ → Piece → Type 0
 ReadsPiece names old new at p = (later : Table) → GoesOn names later → (ts : List Placed) →
     run as_kept (going (enclosing_of later old)) (placed_before at p ts)

@@ -1,4 +1,4 @@
-//! What is open at a place in a text: the stacks of open lists and of prefixes without their datum.
+//! What is unclosed at a place in a text: the stacks of lists, and of prefixes without their datum.
 
 ghost use Rattle.std.specs.Prelude.{◌≡◌, ◌<◌, ◌≤◌, [], ◌∷◌, ◌++◌, map, None, Some, true};
 ghost use Rattle.std.specs.Prelude.{if◌then◌else◌, IfErr, OnOk};
@@ -26,8 +26,8 @@ use std::alloc::Global;
 /// The greatest depth at which a datum may begin.
 const DEEPEST: usize = 2048;
 
-/// What is open: the data at the top, the frames from the outermost to the innermost, and the list
-/// in them whose last datum is there.
+/// What is unclosed: the data at the top, the frames from the outermost to the innermost, and the
+/// list in them whose last datum is there.
 #[derive(Drop)]
 pub(crate) struct Enclosing {
     top: Data,
@@ -39,7 +39,7 @@ pub(crate) struct Enclosing {
 }
 
 impl Enclosing {
-    /// Nothing is open.
+    /// Nothing is unclosed.
     pub(crate) fn new(alloc: Global) -> Enclosing
         ensures around { (names : Table) → enclosing_of names result ≡ awaiting (top []) }
         ensures depth { HasDepth result }
@@ -242,7 +242,7 @@ impl Enclosing {
         self.put(Datum { at: list.at, kind })
     }
 
-    /// The data at the end of a text, where nothing is open.
+    /// The data at the end of a text, where nothing is unclosed.
     pub(crate) fn finish(self) -> Result<Data, ReadError>
         ensures { (names : Table) → Answers names (answer_at_end (enclosing_of names self)) result }
     {

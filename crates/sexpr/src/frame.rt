@@ -5,7 +5,7 @@ ghost use Rattle.std.specs.Prelude.{◌<◌, length};
 use crate::data::{Data, Datum, Prefix};
 use crate::token::Shape;
 
-/// An open list after its elements.
+/// An unclosed list after its elements.
 #[derive(Drop)]
 pub(crate) struct ListFrame {
     pub(crate) at: u32,
@@ -30,7 +30,7 @@ pub(crate) struct Ended {
     pub(crate) last: Datum,
 }
 
-/// What is open around the next datum.
+/// What is unclosed around the next datum.
 #[derive(Drop)]
 pub(crate) enum Frame {
     List(ListFrame),

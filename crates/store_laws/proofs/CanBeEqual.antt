@@ -17,7 +17,7 @@ use Rattle.kan_model.specs.Stores.Composition.{compose}
 use Rattle.store_laws.specs.General.{PairsCanBeEqual}
 use Rattle.store_laws.proofs.OneForm.{through_answer, also_answered}
 use Rattle.store_laws.proofs.Differences.{same_difference}
-use Rattle.store_laws.proofs.General.{answer_is_general, composed_is_general, general_for_others, holds_with-general, unifies_first, unifies_second, sides_unify}
+use Rattle.store_laws.proofs.GeneralUnifiers.{answer_is_general, composed_is_general, general_for_others, holds_with-general, unifies_first, unifies_second, sides_unify}
 
 equations-no_difference : (ps : List (Primitive Tm)) → equations (filter is_no_difference ps) ≡ equations ps
 equations-no_difference [] = refl

@@ -1,6 +1,6 @@
 pub mod OneForm
 pub mod Differences
-pub mod InRank
-pub mod General
+pub mod RankedForms
+pub mod GeneralUnifiers
 pub mod CanBeEqual
 mod Examples

@@ -34,50 +34,50 @@ pub fn differences_have_their_form()
 {}
 
 /// Equations of the same unifiers have the same form, once its pairs are in order.
-#[tactic(auto, using(crate::proofs::InRank::one_form_in_rank))]
+#[tactic(auto, using(crate::proofs::RankedForms::one_form_in_rank))]
 pub fn forms_in_rank_are_one()
     ensures { OneFormInRank }
 {}
 
 /// The pairs that a store says of a disequality have the disequality's form.
-#[tactic(auto, using(crate::proofs::InRank::difference_in_rank))]
+#[tactic(auto, using(crate::proofs::RankedForms::difference_in_rank))]
 pub fn differences_in_rank()
     ensures { DifferenceInRank }
 {}
 
 /// Whether all is named doesn't hang on the order.
-#[tactic(auto, using(crate::proofs::InRank::named_in_rank))]
+#[tactic(auto, using(crate::proofs::RankedForms::named_in_rank))]
 pub fn names_in_rank()
     ensures { NamedInRank }
 {}
 
 /// What the solver answers is a most general unifier, in whatever order of variables.
-#[tactic(auto, using(crate::proofs::General::answer_is_general))]
+#[tactic(auto, using(crate::proofs::GeneralUnifiers::answer_is_general))]
 pub fn answers_are_general()
     ensures { AnswerIsGeneral }
 {}
 
 /// Two pieces of equations have one, piece by piece.
-#[tactic(auto, using(crate::proofs::General::composed_is_general))]
+#[tactic(auto, using(crate::proofs::GeneralUnifiers::composed_is_general))]
 pub fn pieces_are_general()
     ensures { ComposedIsGeneral }
 {}
 
 /// Equations of the same unifiers have the same most general ones.
-#[tactic(auto, using(crate::proofs::General::general_for_others))]
+#[tactic(auto, using(crate::proofs::GeneralUnifiers::general_for_others))]
 pub fn others_are_general()
     ensures { GeneralForOthers }
 {}
 
 /// Constraints hold under every most general unifier, or under none.
-#[tactic(auto, using(crate::proofs::General::hold_under_all))]
+#[tactic(auto, using(crate::proofs::GeneralUnifiers::hold_under_all))]
 pub fn constraints_hold_alike()
     ensures { HoldUnderAll }
 {}
 
 /// A store is kept exactly where its constraints hold under any most general unifier of its
 /// equations.
-#[tactic(auto, using(crate::proofs::General::kept_under_general))]
+#[tactic(auto, using(crate::proofs::GeneralUnifiers::kept_under_general))]
 pub fn stores_are_kept_alike()
     ensures { KeptUnderGeneral }
 {}

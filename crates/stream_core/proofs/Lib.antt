@@ -1,4 +1,3 @@
-pub mod AppendLaws
 pub mod HeadLaws
 pub mod StackLaws
 pub mod ArgumentLaws

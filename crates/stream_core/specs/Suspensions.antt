@@ -17,18 +17,19 @@ going_on hs (Some t) = model.Stream.goes_on hs t
 
 module _ {I St : Type 0} where
   -- the stream that heads and a tail stand for
-  abbrev pub listed : (I → model.Thunk) → (St → facts.Store) → List St → Option I → model.Stream
-  listed tree means heads tail = going_on (map means heads) (option_map tree tail)
+  abbrev pub stream_of_parts : (I → model.Thunk) → (St → facts.Store) → List St → Option I →
+      model.Stream
+  stream_of_parts tree means heads tail = going_on (map means heads) (option_map tree tail)
 
   abbrev pub stream : (I → model.Thunk) → (St → facts.Store) → Stream I St → model.Stream
-  stream tree means s = listed tree means s.heads s.tail
+  stream tree means s = stream_of_parts tree means s.heads s.tail
 
   abbrev pub thunk : (I → model.Thunk) → (St → facts.Store) → (ℕ → Goal) → Thunk I St → model.Thunk
   thunk tree means goal (Call rel args store) = model.Thunk.call rel (terms_of args) (means store)
   thunk tree means goal (Pause g env store) =
       model.Thunk.pause (goal g) (terms_of env) (means store)
   thunk tree means goal (Swap heads tail inner) =
-      model.Thunk.swap (listed tree means heads tail) (tree inner)
+      model.Thunk.swap (stream_of_parts tree means heads tail) (tree inner)
   thunk tree means goal (Bind g env inner) = model.Thunk.bind (goal g) (terms_of env) (tree inner)
 
   -- the id inside a suspension, where there is one

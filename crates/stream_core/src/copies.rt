@@ -10,8 +10,8 @@ use kan_model::Store;
 use kan_terms::{ListOf, Memory};
 use std::alloc::Global;
 
-// Stores once more, in the same order.
-pub(crate) fn stores_again<St: Store>(alloc: Global, stores: &[St]) -> Result<Stores<St>, Memory>
+/// Stores once more, in the same order. Only want of memory refuses.
+pub fn stores_again<St: Store>(alloc: Global, stores: &[St]) -> Result<Stores<St>, Memory>
     ensures { IfOk result (λ copies. map St.meaning copies ≡ map St.meaning stores.now) }
 {
     let mut copies = ListOf::new(alloc);

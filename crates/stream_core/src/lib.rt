@@ -19,6 +19,7 @@ mod streams;
 mod tasks;
 
 pub use appending::{append, put_last, reversed};
+pub use copies::stores_again;
 pub use forcing::force;
 pub use forcing_once::force_once;
 pub use linked_ids::LinkedId;

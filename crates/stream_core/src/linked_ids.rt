@@ -5,14 +5,14 @@ ghost use Rattle.std.specs.Arc.{arc_value};
 ghost use Rattle.kan_model.specs.Programs.Goals.{Goal};
 ghost use Rattle.kan_model.specs.Programs.Environments.{terms_of};
 ghost use Rattle.kan_model.specs.Streams.Stream.{append};
-ghost use Rattle.stream_core.specs.TableKinds.LinkedThunks.{held, suspension_of, linked_tree};
+ghost use Rattle.stream_core.specs.TableKinds.LinkedThunks.{thunk_of, suspension_of, linked_tree};
 ghost use Rattle.stream_core.specs.TableKinds.LinkedThunks.{linked_around, linked_layers};
 ghost use Rattle.stream_core.specs.TableKinds.LinkedThunks.{linked_stream, IsExchanged};
 ghost use Rattle.stream_core.specs.TableKinds.LinkedThunks.{HasExchanged, IsInsideBind};
 ghost use Rattle.stream_core.specs.TableKinds.LinkedThunks.{HasEnteredSwap, IsEntered};
 ghost use Rattle.stream_core.specs.TableKinds.LinkedThunks.{IsWholeOrSame, IsStep, IsLevel};
 ghost use Rattle.stream_core.specs.Surroundings as outer;
-ghost use Rattle.stream_core.specs.Suspensions.{listed};
+ghost use Rattle.stream_core.specs.Suspensions.{stream_of_parts};
 
 use crate::appending::joined;
 use crate::copies::stores_again;
@@ -302,7 +302,7 @@ fn appended<St: Store>(
     inside: Stream<LinkedId<St>, St>,
 ) -> Result<Stream<LinkedId<St>, St>, Memory>
     ensures { IfOk result (λ made. (goal : ℕ → Goal) → linked_stream St.meaning goal made ≡
-        append (listed (linked_tree St.meaning goal) St.meaning heads tail)
+        append (stream_of_parts (linked_tree St.meaning goal) St.meaning heads tail)
         (linked_stream St.meaning goal inside)) }
 {
     let Stream {
@@ -419,7 +419,7 @@ fn taken<St: Store>(
     node: Arc<Weighed<Thunk<LinkedId<St>, St>>>,
 ) -> Result<Thunk<LinkedId<St>, St>, Memory>
     ensures { IfOk result (λ thunk. (goal : ℕ → Goal) → linked_layers St.meaning goal thunk ≡
-        linked_layers St.meaning goal (held (arc_value node))) }
+        linked_layers St.meaning goal (thunk_of (arc_value node))) }
 {
     match Arc::try_unwrap(node) {
         Ok(Weighed { thunk, weight: _ }) => Ok(thunk),
@@ -432,8 +432,8 @@ fn enter_node<St: Store>(
     node: &mut Arc<Weighed<Thunk<LinkedId<St>, St>>>,
     inside: Stream<LinkedId<St>, St>,
 ) -> Entered<St>
-    ensures { (goal : ℕ → Goal) → IsEntered St.meaning goal (held (arc_value node.old)) inside
-        (held (arc_value node.new)) result }
+    ensures { (goal : ℕ → Goal) → IsEntered St.meaning goal (thunk_of (arc_value node.old)) inside
+        (thunk_of (arc_value node.new)) result }
 {
     match Arc::get_mut(node) {
         Some(own) => enter_own(own, inside),
@@ -446,7 +446,8 @@ fn exchange_in_node<St: Store>(
     node: &mut Arc<Weighed<Thunk<LinkedId<St>, St>>>,
     other: LinkedId<St>,
 ) -> Exchanged<St>
-    ensures { HasExchanged (held (arc_value node.old)) other (held (arc_value node.new)) result }
+    ensures { HasExchanged (thunk_of (arc_value node.old)) other (thunk_of (arc_value node.new))
+        result }
 {
     match Arc::get_mut(node) {
         Some(own) => match exchange_inner(&mut own.thunk, other) {

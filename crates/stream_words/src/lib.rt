@@ -6,25 +6,25 @@ ghost use Rattle.stream_words.specs.Reading.{WordsAreRead, ProgramsAreRead};
 ghost use Rattle.stream_words.specs.Reading.{StreamsAreRead, SuspensionsAreRead};
 
 /// A word is read off its numbers.
-#[tactic(auto, using(crate::proofs::Read::words_are_read))]
+#[tactic(auto, using(crate::proofs::ReadBack::words_are_read))]
 pub fn words_are_read_back()
     ensures { WordsAreRead }
 {}
 
 /// A program is read off its word.
-#[tactic(auto, using(crate::proofs::Read::programs_are_read))]
+#[tactic(auto, using(crate::proofs::ReadBack::programs_are_read))]
 pub fn programs_are_read_back()
     ensures { ProgramsAreRead }
 {}
 
 /// A stream is read off its word.
-#[tactic(auto, using(crate::proofs::Read::streams_are_read))]
+#[tactic(auto, using(crate::proofs::ReadBack::streams_are_read))]
 pub fn streams_are_read_back()
     ensures { StreamsAreRead }
 {}
 
 /// A suspension is read off its word.
-#[tactic(auto, using(crate::proofs::Read::suspensions_are_read))]
+#[tactic(auto, using(crate::proofs::ReadBack::suspensions_are_read))]
 pub fn suspensions_are_read_back()
     ensures { SuspensionsAreRead }
 {}

@@ -7,7 +7,7 @@ use Rattle.kan_model.specs.Programs.Closed as programs
 use Rattle.kan_model.specs.Streams.Stream as model
 use Rattle.kan_model.specs.Streams.Bounds.{Fits}
 use Rattle.kan_model.specs.Streams.Running.{force}
-use Rattle.stream_core.specs.Suspensions.{listed}
+use Rattle.stream_core.specs.Suspensions.{stream_of_parts}
 use Rattle.stream_core.specs.Tables as tables
 use Rattle.susp_cells.specs.Places.{Place, names_of, told_tree, label_program, label_tree}
 use Rattle.susp_cells.specs.declared.tables.Table.{Table}
@@ -45,7 +45,7 @@ module _ {St : Type 0} {g : Ghosts St} where
   abbrev pub IsForcedIn : Table St g → model.Thunk → Forced St g → Type 0
   IsForcedIn t suspension f =
       IfSome f.tail (IsIn t)
-      × (listed label_tree g.meaning f.heads f.tail ≡ force (program_of t) suspension)
+      × (stream_of_parts label_tree g.meaning f.heads f.tail ≡ force (program_of t) suspension)
 
   -- the index of a settled suspension, what it stands for, and the value that was seen
   abbrev pub known_index : Known St g → ℕ

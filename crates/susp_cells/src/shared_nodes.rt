@@ -8,10 +8,10 @@ use crate::gates::Gate;
 use crate::suspensions::Susp;
 use crate::tables::Table;
 use kan_model::Store;
-use kan_terms::{ListOf, Memory};
+use kan_terms::Memory;
 use std::alloc::Global;
 use std::sync::Wait;
-use stream_core::{Closed, Innermost, Nodes, Parted, Stores, Stream, Thunk, put_last};
+use stream_core::{Closed, Innermost, Nodes, Parted, Stream, Thunk, stores_again};
 
 /// The suspensions of a shared table, for the thread with a number. The thread passes the gate
 /// before each try to settle one.
@@ -42,17 +42,6 @@ impl<'a, St: Store, G: Gate, R: Wait> SharedNodes<'a, St, G, R> {
             who,
         }
     }
-}
-
-// Stores once more, in the same order.
-fn stores_again<St: Store>(alloc: Global, stores: &[St]) -> Result<Stores<St>, Memory>
-    ensures { IfOk result (λ copies. map St.meaning copies ≡ map St.meaning stores.now) }
-{
-    let mut copies = ListOf::new(alloc);
-    for store in stores {
-        put_last(&mut copies, store.again(alloc)?)?;
-    }
-    Ok(copies)
 }
 
 // A tail once more.

@@ -12,7 +12,7 @@ use Rattle.task_deques.specs.declared.holders.TaskDeque.{TaskDeque}
 use Rattle.task_deques.specs.declared.holders.TaskStealer.{TaskStealer}
 use Rattle.task_deques.specs.Shares.{whole, WasEmpty}
 use Rattle.task_deques.specs.Whole.{DequePart, Every, StealerPart, IsOfDeque, IsAll}
-use Rattle.task_deques.specs.Holders.{Holder, pushed, taken, pushed_through, taken_through, deque_part, stealer_part, deque_of, others_of, holder_part, pushed_by, taken_by, AreWhole, IsWholeDeque}
+use Rattle.task_deques.specs.Holders.{Holder, pushed_to, taken_from, pushed_through, taken_through, deque_part, stealer_part, deque_of, others_of, holder_part, pushed_by, taken_by, AreWhole, IsWholeDeque}
 use Rattle.task_deques.proofs.Lists.{like, then, after, before, to_end, grown}
 use Rattle.task_deques.proofs.BalancedLaws.{settled}
 use Rattle.task_deques.proofs.WholeLaws.{at_below, every_last, absorbs}
@@ -71,9 +71,9 @@ module _ {T : Type 0} where
   pub drained : (td td' l0 t0 l l' : List T) (x : T) → td' ≡ td ++ x ∷ [] → l' ≡ l ++ x ∷ [] → IsPermutation (td ++ l0) (t0 ++ l) → IsPermutation (td' ++ l0) (t0 ++ l')
   drained td td' l0 t0 l l' x e e' h = then (like _ _ (ap (λ y. y ++ l0) e)) (then (to_end td (x ∷ []) l0) (then (before (x ∷ []) h) (like _ _ (append_assoc t0 l (x ∷ []) ∙ ap (λ y. t0 ++ y) (sym e')))))
 
-  pub drained_whole : (d : TaskDeque T) (p l0 t0 l : List T) → (deque_part d).1 ≡ whole → WasEmpty (worker_view d.worker) → pushed d ≡ p → IsPermutation (taken d ++ l0) (t0 ++ l) → IsPermutation (l0 ++ p) (t0 ++ l)
+  pub drained_whole : (d : TaskDeque T) (p l0 t0 l : List T) → (deque_part d).1 ≡ whole → WasEmpty (worker_view d.worker) → pushed_to d ≡ p → IsPermutation (taken_from d ++ l0) (t0 ++ l) → IsPermutation (l0 ++ p) (t0 ++ l)
   drained_whole d p l0 t0 l all none same h =
-      then (after l0 (subst (λ q. IsPermutation q (taken d)) same (settled (worker_view d.worker) all none))) (then (IsPermutation-append_comm l0 (taken d)) h)
+      then (after l0 (subst (λ q. IsPermutation q (taken_from d)) same (settled (worker_view d.worker) all none))) (then (IsPermutation-append_comm l0 (taken_from d)) h)
 
   pub drained_more : (f g : TaskDeque T → List T) (ys : List (TaskDeque T)) (d : TaskDeque T) (l l' : List T) → IsPermutation (flat_map f ys) (flat_map g ys ++ l) → IsPermutation (l ++ f d) (g d ++ l')
       → IsPermutation (flat_map f (ys ++ d ∷ [])) (flat_map g (ys ++ d ∷ []) ++ l')
@@ -117,12 +117,12 @@ module _ {T : Type 0} where
 
   -- what was pushed by all holders is what they took, and what is left
   pub gathered : (hs : List (Holder T)) (ds ds' : List (TaskDeque T)) (ss : List (TaskStealer T)) (left : List T) → ds ≡ map deque_of hs → ss ≡ flat_map others_of hs
-      → IsPermutation (flat_map pushed ds ++ flat_map pushed_through ss) (flat_map pushed ds') → IsPermutation (flat_map taken ds ++ flat_map taken_through ss) (flat_map taken ds')
-      → IsPermutation (flat_map pushed ds') (flat_map taken ds' ++ left)
+      → IsPermutation (flat_map pushed_to ds ++ flat_map pushed_through ss) (flat_map pushed_to ds') → IsPermutation (flat_map taken_from ds ++ flat_map taken_through ss) (flat_map taken_from ds')
+      → IsPermutation (flat_map pushed_to ds') (flat_map taken_from ds' ++ left)
       → IsPermutation (flat_map pushed_by hs) (flat_map taken_by hs ++ left)
   gathered hs ds ds' ss left d s p t h =
-      let p' : IsPermutation (flat_map pushed_by hs) (flat_map pushed ds ++ flat_map pushed_through ss) = then (parted pushed pushed_through hs) (like _ _ (λ i. flat_map pushed (sym d i) ++ flat_map pushed_through (sym s i))) in
-      let t' : IsPermutation (flat_map taken_by hs) (flat_map taken ds ++ flat_map taken_through ss) = then (parted taken taken_through hs) (like _ _ (λ i. flat_map taken (sym d i) ++ flat_map taken_through (sym s i))) in
+      let p' : IsPermutation (flat_map pushed_by hs) (flat_map pushed_to ds ++ flat_map pushed_through ss) = then (parted pushed_to pushed_through hs) (like _ _ (λ i. flat_map pushed_to (sym d i) ++ flat_map pushed_through (sym s i))) in
+      let t' : IsPermutation (flat_map taken_by hs) (flat_map taken_from ds ++ flat_map taken_through ss) = then (parted taken_from taken_through hs) (like _ _ (λ i. flat_map taken_from (sym d i) ++ flat_map taken_through (sym s i))) in
       then p' (then p (then h (before left (then (IsPermutation-sym _ _ t) (IsPermutation-sym _ _ t')))))
 
   pub whole_all : (hs : List (Holder T)) (ds : List (TaskDeque T)) (ss : List (TaskStealer T)) → ds ≡ map deque_of hs → ss ≡ flat_map others_of hs → AreWhole (map holder_part hs) → IsAll (map deque_part ds) (map stealer_part ss)

@@ -21,11 +21,11 @@ module _ {T : Type 0} where
   abbrev pub stealer_share : TaskStealer T → Share T
   stealer_share s = view s.pass
 
-  abbrev pub pushed : TaskDeque T → List T
-  pushed d = (worker_view d.worker).put
+  abbrev pub pushed_to : TaskDeque T → List T
+  pushed_to d = (worker_view d.worker).put
 
-  abbrev pub taken : TaskDeque T → List T
-  taken d = (worker_view d.worker).taken
+  abbrev pub taken_from : TaskDeque T → List T
+  taken_from d = (worker_view d.worker).taken
 
   abbrev pub deque_home : TaskDeque T → List ℕ
   deque_home d = (worker_view d.worker).home
@@ -46,10 +46,10 @@ module _ {T : Type 0} where
   others_of h = h.others.items
 
   abbrev pub pushed_by : Holder T → List T
-  pushed_by h = pushed (deque_of h) ++ flat_map pushed_through (others_of h)
+  pushed_by h = pushed_to (deque_of h) ++ flat_map pushed_through (others_of h)
 
   abbrev pub taken_by : Holder T → List T
-  taken_by h = taken (deque_of h) ++ flat_map taken_through (others_of h)
+  taken_by h = taken_from (deque_of h) ++ flat_map taken_through (others_of h)
 
   abbrev pub IsStealerOf : List ℕ → TaskStealer T → Type 0
   IsStealerOf home s = stealer_home s ≡ home
@@ -101,7 +101,7 @@ module _ {T : Type 0} (home : List ℕ) where
   IsUnusedStealer s = (pushed_through s ≡ []) × (taken_through s ≡ []) × (stealer_home s ≡ home)
 
   abbrev pub IsUnusedDeque : TaskDeque T → Type 0
-  IsUnusedDeque d = (pushed d ≡ []) × (taken d ≡ []) × (deque_home d ≡ home)
+  IsUnusedDeque d = (pushed_to d ≡ []) × (taken_from d ≡ []) × (deque_home d ≡ home)
 
   abbrev pub IsUnusedHolder : Holder T → Type 0
   IsUnusedHolder h = IsUnusedDeque (deque_of h) × Every IsUnusedStealer (others_of h)

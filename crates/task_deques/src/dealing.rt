@@ -6,7 +6,7 @@ ghost use Rattle.crossbeam_deque.specs.Handles.{worker_view, worker_flavor, work
 ghost use Rattle.crossbeam_deque.specs.Handles.{worker_index};
 ghost use Rattle.task_deques.specs.Shares.{share, whole};
 ghost use Rattle.task_deques.specs.Whole.{Every};
-ghost use Rattle.task_deques.specs.Holders.{pushed, taken, deque_home, deque_part};
+ghost use Rattle.task_deques.specs.Holders.{pushed_to, taken_from, deque_home, deque_part};
 ghost use Rattle.task_deques.specs.Holders.{stealer_part, holder_part, AreWhole, AreReady};
 ghost use Rattle.task_deques.specs.Holders.{IsUnusedDeque, IsUnusedStealer, IsUnusedHolder};
 ghost use Rattle.task_deques.specs.Holders.{IsLoneHolder, IsWholeDeque, parts_lent};
@@ -59,8 +59,8 @@ impl<T: Task> TaskDeque<T> {
           (deque_part self.old).0,
           (deque_part self.old).1 - 1,
         )) }
-        ensures pushed { pushed self.new ≡ pushed self.old }
-        ensures taken { taken self.new ≡ taken self.old }
+        ensures pushed { pushed_to self.new ≡ pushed_to self.old }
+        ensures taken { taken_from self.new ≡ taken_from self.old }
         ensures home { deque_home self.new ≡ deque_home self.old }
         ensures stealer { IfOk result (λ stealer. stealer_part stealer ≡ (
           number,

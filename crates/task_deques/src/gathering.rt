@@ -2,7 +2,7 @@
 
 ghost use Rattle.std.specs.Prelude.{◌≡◌, ◌+◌, ◌++◌, map, flat_map, IfOk, OnOk, IsPermutation};
 ghost use Rattle.task_deques.specs.Whole.{Every, IsAll};
-ghost use Rattle.task_deques.specs.Holders.{pushed, taken, pushed_through, taken_through};
+ghost use Rattle.task_deques.specs.Holders.{pushed_to, taken_from, pushed_through, taken_through};
 ghost use Rattle.task_deques.specs.Holders.{deque_part, stealer_part, deque_of, others_of};
 ghost use Rattle.task_deques.specs.Holders.{holder_part, pushed_by, taken_by, AreWhole};
 ghost use Rattle.task_deques.specs.Holders.{IsWholeDeque};
@@ -20,8 +20,8 @@ impl<T: Task> TaskDeque<T> {
           (deque_part self.old).0,
           (deque_part self.old).1 + (stealer_part stealer).1.1,
         ) }
-        ensures pushed { pushed self.new ≡ pushed self.old ++ pushed_through stealer }
-        ensures taken { taken self.new ≡ taken self.old ++ taken_through stealer }
+        ensures pushed { pushed_to self.new ≡ pushed_to self.old ++ pushed_through stealer }
+        ensures taken { taken_from self.new ≡ taken_from self.old ++ taken_through stealer }
     {
         let TaskStealer {
             victim: _,
@@ -62,10 +62,10 @@ fn absorb_all<T: Task>(
 ) -> Vec<TaskDeque<T>>
     requires all { IsAll (map deque_part deques.items) (map stealer_part stealers.items) }
     ensures all { Every IsWholeDeque result.items }
-    ensures pushed { IsPermutation (flat_map pushed deques.items
-        ++ flat_map pushed_through stealers.items) (flat_map pushed result.items) }
-    ensures taken { IsPermutation (flat_map taken deques.items
-        ++ flat_map taken_through stealers.items) (flat_map taken result.items) }
+    ensures pushed { IsPermutation (flat_map pushed_to deques.items
+        ++ flat_map pushed_through stealers.items) (flat_map pushed_to result.items) }
+    ensures taken { IsPermutation (flat_map taken_from deques.items
+        ++ flat_map taken_through stealers.items) (flat_map taken_from result.items) }
 {
     while let Some(stealer) = stealers.pop() {
         let victim = stealer.victim as usize;
@@ -77,8 +77,8 @@ fn absorb_all<T: Task>(
 // Takes what a deque still has.
 fn drain<T: Task>(mut deque: TaskDeque<T>, left: &mut Vec<T>) -> Result<(), Memory>
     requires whole { IsWholeDeque deque }
-    ensures { OnOk result (IsPermutation (left.old.items ++ pushed deque)
-        (taken deque ++ left.new.items)) }
+    ensures { OnOk result (IsPermutation (left.old.items ++ pushed_to deque)
+        (taken_from deque ++ left.new.items)) }
 {
     while let Some(task) = deque.take() {
         let Ok(()) = left.push(task) else {
@@ -90,8 +90,8 @@ fn drain<T: Task>(mut deque: TaskDeque<T>, left: &mut Vec<T>) -> Result<(), Memo
 
 fn drain_all<T: Task>(alloc: Global, deques: Vec<TaskDeque<T>>) -> Result<Vec<T>, Memory>
     requires whole { Every IsWholeDeque deques.items }
-    ensures { IfOk result (λ left. IsPermutation (flat_map pushed deques.items)
-        (flat_map taken deques.items ++ left.items)) }
+    ensures { IfOk result (λ left. IsPermutation (flat_map pushed_to deques.items)
+        (flat_map taken_from deques.items ++ left.items)) }
 {
     let mut left = Vec::new(alloc);
     for deque in deques {

@@ -3,7 +3,7 @@
 ghost use Rattle.std.specs.Prelude.{◌≡◌, ◌≤◌, ◌<◌, ◌++◌, [], ◌∷◌, ℕ, List, length};
 ghost use Rattle.std.specs.Prelude.{OnOk, IfErr, IfSome, IfNone, IsPermutation};
 ghost use Rattle.task_deques.specs.Shares.{whole, WasEmpty};
-ghost use Rattle.task_deques.specs.Holders.{pushed, taken, deque_home, deque_part};
+ghost use Rattle.task_deques.specs.Holders.{pushed_to, taken_from, deque_home, deque_part};
 ghost use Rattle.task_deques.specs.Holders.{pushed_through, taken_through, stealer_home};
 ghost use Rattle.task_deques.specs.Holders.{stealer_part, holder_part, pushed_by, taken_by};
 ghost use Rattle.task_deques.specs.Holders.{deque_share, stealer_share, victim_of};
@@ -20,10 +20,10 @@ impl<T: Task> TaskDeque<T> {
         requires home { T.home task ≡ deque_home self.old }
         ensures same { deque_part self.new ≡ deque_part self.old }
         ensures home { deque_home self.new ≡ deque_home self.old }
-        ensures taken { taken self.new ≡ taken self.old }
-        ensures ok { OnOk result (pushed self.new ≡ pushed self.old ++ task ∷ []) }
-        ensures err { IfErr result (λ back. (back ≡ task) × (pushed self.new ≡ pushed self.old)) }
-        ensures room { IfErr result (λ _. 64 ≤ length (pushed self.old)) }
+        ensures taken { taken_from self.new ≡ taken_from self.old }
+        ensures ok { OnOk result (pushed_to self.new ≡ pushed_to self.old ++ task ∷ []) }
+        ensures err { IfErr result (λ back. (back ≡ task) × (pushed_to self.new ≡ pushed_to self.old)) }
+        ensures room { IfErr result (λ _. 64 ≤ length (pushed_to self.old)) }
     {
         self.worker.push_as::<Puts>(task)
     }
@@ -32,12 +32,12 @@ impl<T: Task> TaskDeque<T> {
     pub fn take(&mut self) -> Option<T>
         ensures same { deque_part self.new ≡ deque_part self.old }
         ensures home { deque_home self.new ≡ deque_home self.old }
-        ensures pushed { pushed self.new ≡ pushed self.old }
-        ensures some { IfSome result (λ task. taken self.new ≡ taken self.old ++ task ∷ []) }
+        ensures pushed { pushed_to self.new ≡ pushed_to self.old }
+        ensures some { IfSome result (λ task. taken_from self.new ≡ taken_from self.old ++ task ∷ []) }
         ensures task { IfSome result (λ task. T.home task ≡ deque_home self.old) }
         ensures bound { IfSome result (λ _. (deque_part self.old).1 ≡ whole
-            → length (taken self.new) ≤ length (pushed self.new)) }
-        ensures none { IfNone result (taken self.new ≡ taken self.old) }
+            → length (taken_from self.new) ≤ length (pushed_to self.new)) }
+        ensures none { IfNone result (taken_from self.new ≡ taken_from self.old) }
         ensures empty { IfNone result (WasEmpty (deque_share self.old)) }
     {
         self.worker.pop_as::<Takes>()

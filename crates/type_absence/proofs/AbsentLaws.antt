@@ -65,10 +65,6 @@ pub as_list : (old : TagsOf) (tag : ℕ) (u : Tm) (new : Option TagsOf) → Give
 as_list old tag u None any = or_nothing (has_symbol tag u) ∙ any
 as_list old tag u (Some new) (none, same) = (or_nothing (has_symbol tag u) ∙ none, same)
 
-pub as_one : (old : TagsOf) (tag : ℕ) (u : Tm) (new : Option TagsOf) → GivesTags old (tag ∷ []) u new → GivesTag old tag u new
-as_one old tag u None any = sym (or_nothing (has_symbol tag u)) ∙ any
-as_one old tag u (Some new) (none, same) = (sym (or_nothing (has_symbol tag u)) ∙ none, same)
-
 -- what is asked for may be said in other words
 makes_likewise : {X : Type 0} (S : X → Type 0) (P Q : Type 0) (new : Option X) → (P → Q) → (Q → P) → Makes S P new → Makes S Q new
 makes_likewise S P Q None to from none = λ q. none (from q)

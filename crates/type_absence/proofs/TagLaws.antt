@@ -6,15 +6,9 @@ use Rattle.std.proofs.lemmas.List.Elements.{Contains-append_left, Contains-appen
 use Rattle.kan_terms.specs.Tree.{Tree, has_symbol}
 use Rattle.type_absence.specs.Tags.{is_listed, with_tag, with_tags, has_any}
 
--- what either branch of a test gives
+-- a tag that is listed is not put again
 where_listed : (tag : ℕ) (tags : List ℕ) → is_listed tag tags ≡ true → with_tag tag tags ≡ tags
 where_listed tag tags e = ap (λ c. if c then tags else tags ++ tag ∷ []) e
-
-where_new : (tag : ℕ) (tags : List ℕ) → is_listed tag tags ≡ false → with_tag tag tags ≡ tags ++ tag ∷ []
-where_new tag tags e = ap (λ c. if c then tags else tags ++ tag ∷ []) e
-
-pub keep_listed : (tag : ℕ) (tags : List ℕ) → is_listed tag tags ≡ true → with_tag tag tags ≡ tags
-keep_listed = where_listed
 
 -- the tags of two lists
 pub listed-append : (tag : ℕ) (xs ys : List ℕ) → is_listed tag (xs ++ ys) ≡ (is_listed tag xs || is_listed tag ys)
@@ -49,10 +43,6 @@ abbrev pub AllListed : List ℕ → List ℕ → Type 0
 AllListed [] tags = Unit {0}
 AllListed (tag ∷ more) tags = (is_listed tag tags ≡ true) × AllListed more tags
 
-pub all_later : (more others tags : List ℕ) → AllListed more tags → AllListed more (with_tags others tags)
-all_later [] others tags h = tt
-all_later (tag ∷ more) others tags (e, h) = (listed_later tag others tags e, all_later more others tags h)
-
 pub all_put : (more tags : List ℕ) → AllListed more (with_tags more tags)
 all_put [] tags = tt
 all_put (tag ∷ more) tags = (listed_later tag more (with_tag tag tags) (listed_new tag tags), all_put more (with_tag tag tags))
@@ -64,11 +54,6 @@ keep_all (tag ∷ more) tags (e, h) = ap (with_tags more) (where_listed tag tags
 
 pub with_twice : (more tags : List ℕ) → with_tags more (with_tags more tags) ≡ with_tags more tags
 with_twice more tags = keep_all more (with_tags more tags) (all_put more tags)
-
--- with tags one after the other
-pub with-append : (xs ys tags : List ℕ) → with_tags (xs ++ ys) tags ≡ with_tags ys (with_tags xs tags)
-with-append [] ys tags = refl
-with-append (x ∷ xs) ys tags = with-append xs ys (with_tag x tags)
 
 -- a tag that is listed is an item
 pub listed_item : (tag : ℕ) (tags : List ℕ) → is_listed tag tags ≡ true → Contains tags tag

@@ -160,9 +160,3 @@ pub turn_falls : (bound : Pairs) → HasNoCycle bound → (more : List ℕ) (bef
     (found ≡ false → waiting_trees waiting ≡ parts_of (walk bound (tree t.now)) ++ waiting_trees rest) → found ≡ false → nodes bound (waiting_trees waiting) < nodes bound (waiting_trees before)
 turn_falls bound h more before rest waiting t found split waits e =
     omega (arith, fewer_nodes bound h more (tree t.now) (waiting_trees rest), ap (nodes bound) (waits e), ap (nodes bound) (top_first before rest t split))
-
--- nothing waits any more
-pub leads_end : (bound : Pairs) (more : List ℕ) (old made : TagsOf) (all : Tm) (waiting : List (Bor Term)) → waiting ≡ [] → Leads bound more old all made (waiting_trees waiting) → Tagged old more all false made
-leads_end bound more old made all waiting none leads =
-    let done : Leads bound more old all made [] = subst (λ ts. Leads bound more old all made (waiting_trees ts)) none leads in
-    (sym done.any, done.put)

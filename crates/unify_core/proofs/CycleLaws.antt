@@ -127,6 +127,3 @@ no_cycle bound g = record { once = once_of bound g; rank = rank_of bound; falls 
 -- no bindings have no cycle, and so have those that are made of others for a variable that wasn't bound and doesn't stand in its term
 pub no_cycle_empty : (bound : Pairs) → bound ≡ [] → HasNoCycle bound
 no_cycle_empty bound empty = subst HasNoCycle (sym empty) (no_cycle [] tt)
-
-pub no_cycle_bind : (bound : Pairs) (x : ℕ) (t : Tm) → HasNoCycle bound → bound_to x bound ≡ None → occurs x (full bound t) ≡ false → HasNoCycle ((x, t) ∷ bound)
-no_cycle_bind bound x t h fresh out = no_cycle ((x, t) ∷ bound) (fresh, out, grown bound h)

@@ -15,8 +15,8 @@ use Rattle.kan_model.specs.Programs.Tables.{TermEntry, GoalEntry, RelationEntry,
 use Rattle.kan_model.specs.declared.nodes.GoalNode.{GoalNode}
 use Rattle.goal_forms.specs.Parts.{site_at}
 use Rattle.goal_forms.specs.Shapes.{parts}
-use Rattle.goal_forms.specs.TermSteps.{task_form}
-use Rattle.goal_forms.specs.GoalSteps.{step_goal, inner_names}
+use Rattle.goal_forms.specs.Steps.TermSteps.{task_form}
+use Rattle.goal_forms.specs.Steps.GoalSteps.{step_goal, inner_names}
 use Rattle.goal_forms.specs.declared.term.Task.{Task}
 use Rattle.goal_forms.specs.declared.goal.Goal as opened
 use Rattle.goal_forms.specs.declared.goal.Goal.TheVariants.{Succeed, Fail, Same, Differ, Symbol, Number, Text, Absent, Fresh, AllOf, OneOf, Clauses, Call, Misshapen}

@@ -10,7 +10,7 @@ use Rattle.kan_grammar.specs.Texts.TermForms.{Use, bad_term, quote_form, term_fo
 use Rattle.kan_grammar.specs.Texts.GoalForms.{GoalForm, parts_of, is_count, atom_goal, term_forms, term_one, term_two, goal_form, goal_forms, fresh_form, clause_forms}
 use Rattle.kan_grammar.specs.Texts.TopForms.{Form, head, head_name, limit, no_limit, relation, run_of_one, run_of_list, misshapen, unknown, relation_form, run_form, limited_form, form}
 use Rattle.goal_forms.specs.Parts.{site_at}
-use Rattle.goal_forms.specs.TermSteps.{site_size}
+use Rattle.goal_forms.specs.Steps.TermSteps.{site_size}
 use Rattle.goal_forms.specs.Sizes.{parts_in}
 use Rattle.goal_forms.proofs.SizeLaws.{some_parts}
 use Rattle.goal_syntax.specs.Building.Entries.{arguments_size, goal_size, goals_size, others_size, form_size, forms_size}

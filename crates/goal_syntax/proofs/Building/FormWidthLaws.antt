@@ -8,7 +8,7 @@ use Rattle.kan_grammar.specs.Texts.Binders.{Checked, binder, binder_faults}
 use Rattle.kan_grammar.specs.Texts.GoalForms.{GoalForm, parts_of, is_count, atom_goal, term_forms, goal_form, goal_forms, fresh_form, clause_forms}
 use Rattle.kan_grammar.specs.Texts.TopForms.{Form, head, head_name, limit, no_limit, relation, run_of_one, run_of_list, misshapen, unknown, relation_form, run_form, limited_form, form}
 use Rattle.goal_forms.specs.Parts.{site_at}
-use Rattle.goal_forms.specs.TermSteps.{site_size}
+use Rattle.goal_forms.specs.Steps.TermSteps.{site_size}
 use Rattle.goal_forms.specs.Sizes.{parts_in}
 use Rattle.goal_forms.proofs.SizeLaws.{some_parts}
 use Rattle.goal_syntax.specs.Building.Widths.{goal_width, goals_width, form_width, forms_width}

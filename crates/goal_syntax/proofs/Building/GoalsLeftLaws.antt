@@ -12,9 +12,9 @@ use Rattle.kan_grammar.specs.Texts.TopForms.{Defined}
 use Rattle.kan_grammar.specs.Texts.Binders.{binder}
 use Rattle.kan_grammar.specs.Texts.Resolved.{Names, within, conjunction, disjunction, suspended_in, goal_in, goals_in}
 use Rattle.goal_forms.specs.Parts.{site_at}
-use Rattle.goal_forms.specs.TermSteps.{site_size}
-use Rattle.goal_forms.specs.GoalSteps.{step_goal, step_goal_size}
-use Rattle.goal_forms.specs.GoalSteps.{inner_names}
+use Rattle.goal_forms.specs.Steps.TermSteps.{site_size}
+use Rattle.goal_forms.specs.Steps.GoalSteps.{step_goal, step_goal_size}
+use Rattle.goal_forms.specs.Steps.GoalSteps.{inner_names}
 use Rattle.goal_syntax.specs.Building.GoalsBuilt.{Built, with_goal, with_maybe, own_goal}
 use Rattle.goal_forms.specs.Shapes.{parts}
 use Rattle.goal_syntax.specs.Building.CallsThere.{calls_named}

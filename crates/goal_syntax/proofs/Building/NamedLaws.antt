@@ -12,7 +12,7 @@ use Rattle.kan_grammar.specs.Texts.TermForms.{Use, bad_term, quote_form, term_fo
 use Rattle.kan_grammar.specs.Texts.TopForms.{name_at, head_name}
 use Rattle.kan_model.specs.Programs.Tables.{TermEntry, GoalEntry, RelationEntry, Tables, with_term, with_argument, with_goal, with_relation}
 use Rattle.goal_forms.specs.Parts.{site_at}
-use Rattle.goal_forms.specs.TermSteps.{task_form}
+use Rattle.goal_forms.specs.Steps.TermSteps.{task_form}
 use Rattle.goal_forms.specs.declared.term.Task.{Task}
 use Rattle.goal_forms.specs.declared.term.Task.TheVariants as tasks
 use Rattle.goal_forms.specs.Unnamed.{lack, symbol_unnamed, site_unnamed, sites_unnamed}

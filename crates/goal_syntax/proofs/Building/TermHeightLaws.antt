@@ -21,7 +21,7 @@ use Rattle.goal_syntax.specs.Building.TermHeights.{all_low, WorksLow}
 use Rattle.goal_forms.specs.Heights.{AreLow}
 use Rattle.goal_syntax.specs.Building.TemplateHeights.{KeepsLow}
 use Rattle.goal_forms.specs.Parts.{site_at}
-use Rattle.goal_forms.specs.TermSteps.{task_form}
+use Rattle.goal_forms.specs.Steps.TermSteps.{task_form}
 use Rattle.goal_forms.specs.declared.term.Task.{Task}
 use Rattle.goal_forms.specs.declared.term.Task.TheVariants.{Term as TermOf, Terms, Template as TemplateOf, Constant}
 use Rattle.goal_syntax.specs.declared.build_term.Work.{Work}

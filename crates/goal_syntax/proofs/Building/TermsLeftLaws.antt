@@ -17,7 +17,7 @@ use Rattle.goal_syntax.specs.Building.TermsLeft.{AddsTerms, with_arguments, stac
 use Rattle.goal_syntax.specs.Building.GrownTables.{HasTemplate, HasArguments, Grows}
 use Rattle.goal_forms.specs.Shapes.{parts}
 use Rattle.goal_forms.specs.Places.{are_below}
-use Rattle.goal_forms.specs.TermSteps.{task_size}
+use Rattle.goal_forms.specs.Steps.TermSteps.{task_size}
 use Rattle.goal_syntax.specs.declared.build_term.Work.{Work}
 use Rattle.goal_syntax.specs.declared.build_term.Work.TheVariants.{Term, Pair}
 use Rattle.goal_forms.specs.declared.term.Task.{Task}

@@ -17,7 +17,7 @@ use Rattle.kan_model.specs.Programs.Tables.{GoalEntry, Tables, goal_at, goals_of
 use Rattle.kan_model.proofs.Programs.TableLaws.{goals-more, goals-length}
 use Rattle.goal_forms.specs.Parts.{site_at}
 use Rattle.goal_forms.specs.Shapes.{parts}
-use Rattle.goal_forms.specs.GoalSteps.{step_goal}
+use Rattle.goal_forms.specs.Steps.GoalSteps.{step_goal}
 use Rattle.goal_forms.specs.declared.goal.Goal as opened
 use Rattle.goal_forms.specs.declared.goal.Goal.TheVariants.{Succeed, Fail, Same, Differ, Symbol, Number, Text, Absent, Fresh, AllOf, OneOf, Clauses, Call, Misshapen}
 use Rattle.goal_syntax.specs.Building.GrownTables.{HasGoal, Grows}

@@ -88,14 +88,14 @@ closed_tables ts qs rs asked means low calls bodies queries =
     (and_from (list_all is_low (templates_of ts.terms) && list_all (calls_there (program_of ts).relations) (goals_of ts) && list_all body_in_scope (program_of ts).relations) (list_all (in_scope 1) goals) second scoped)
 
 -- nothing is open in what is built of a text
-pub nothing_is_open : (dialect : Dialect) (t : Table) (ds library forms : List Sited) (rules : List Defined) (start mid last : Tables) (none queries : List Query) →
+pub all_are_closed : (dialect : Dialect) (t : Table) (ds library forms : List Sited) (rules : List Defined) (start mid last : Tables) (none queries : List Query) →
     rules ≡ definitions t library ++ definitions t forms → start ≡ empty_tables → none ≡ [] →
     ((qs : List Query) → (rs : List model.Relation) → (asked : List model.Query) → Means start qs rs asked → Means mid qs (rs ++ relations_of dialect t rules library) asked) →
     ((rs : List model.Relation) → (asked : List model.Query) → Means mid none rs asked → Means last queries (rs ++ relations_of dialect t rules forms) (asked ++ queries_of dialect t rules forms)) →
     KeepsClosed ds start mid (bodies_named (relations_of dialect t rules library)) → KeepsClosed ds mid last (all_named (relations_of dialect t rules forms) (queries_of dialect t rules forms)) →
     is_grown last ≡ true → AreLow ds → faults_of t [] library ≡ [] → faults_of t library forms ≡ [] → are_closed last (map goal_place queries) ≡ true
 unfolding text_meaning
-nothing_is_open dialect t ds library forms rules start mid last none queries split begins no_queries library_builds text_builds library_kept text_kept grown low alone behind =
+all_are_closed dialect t ds library forms rules start mid last none queries split begins no_queries library_builds text_builds library_kept text_kept grown low alone behind =
     let all : rules ≡ definitions t (library ++ forms) = split ∙ sym (flat_map-append (definitions_of t) library forms) in
     let first : Means start none [] [] = rw (begins, no_queries) nothing_means in
     let rs = relations_of dialect t (definitions t (library ++ forms)) (library ++ forms) in

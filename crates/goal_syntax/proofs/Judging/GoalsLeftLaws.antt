@@ -13,10 +13,10 @@ use Rattle.kan_grammar.specs.Texts.Resolved.{Names, within}
 use Rattle.kan_grammar.specs.Texts.TextFaults.{goal_faults, goals_faults}
 use Rattle.goal_forms.specs.Parts.{site_at}
 use Rattle.goal_forms.specs.Shapes.{parts}
-use Rattle.goal_forms.specs.TermSteps.{site_size}
-use Rattle.goal_forms.specs.GoalSteps.{step_goal, step_goal_size}
+use Rattle.goal_forms.specs.Steps.TermSteps.{site_size}
+use Rattle.goal_forms.specs.Steps.GoalSteps.{step_goal, step_goal_size}
 use Rattle.goal_syntax.specs.Judging.GoalsLeft.{own_faults, fresh_faults, inner_faults, inner_waiting, stack_faults, stack_parts, waiting_parts}
-use Rattle.goal_forms.specs.GoalSteps.{inner_names}
+use Rattle.goal_forms.specs.Steps.GoalSteps.{inner_names}
 use Rattle.goal_forms.specs.declared.goal.Goal as opened
 use Rattle.goal_forms.specs.declared.goal.Goal.TheVariants.{Succeed, Fail, Same, Differ, Symbol, Number, Text, Absent, Fresh, AllOf, OneOf, Clauses, Call, Misshapen}
 use Rattle.goal_syntax.specs.declared.judge_goal.Waiting.{Waiting}

@@ -7,7 +7,7 @@ use Rattle.kan_terms.specs.Table.{Table}
 use Rattle.kan_grammar.specs.Texts.Sited.{Sited}
 use Rattle.kan_grammar.specs.Data.Faults.{Fault}
 use Rattle.kan_grammar.specs.Texts.TermForms.{Use}
-use Rattle.goal_forms.specs.TermSteps.{task_form, task_size, step_form, step_size}
+use Rattle.goal_forms.specs.Steps.TermSteps.{task_form, task_size, step_form, step_size}
 use Rattle.goal_syntax.specs.Judging.TermsLeft.{own_uses, task_uses, later_uses, waiting_uses, waiting_size}
 use Rattle.goal_forms.specs.declared.term.Task.{Task}
 use Rattle.goal_forms.specs.declared.term.Step.{Step}

@@ -13,7 +13,7 @@ use Rattle.kan_model.specs.Programs.Tables.{goals_of, goal_of, is_goal_grown}
 use Rattle.kan_model.specs.Programs.Nodes.{goal_entry}
 use Rattle.kan_model.specs.declared.nodes.GoalNode.{GoalNode}
 use Rattle.goal_syntax.specs.Building.CallsThere.{calls_named, are_there}
-use Rattle.goal_forms.specs.GoalSteps.{step_goal}
+use Rattle.goal_forms.specs.Steps.GoalSteps.{step_goal}
 use Rattle.goal_forms.specs.declared.goal.Goal as opened
 use Rattle.goal_forms.specs.declared.goal.Goal.TheVariants.{Fresh, AllOf, OneOf, Clauses}
 

@@ -11,9 +11,9 @@ use Rattle.kan_grammar.specs.Texts.TopForms.{Defined}
 use Rattle.kan_grammar.specs.Texts.Resolved.{Names, conjunction, disjunction, goal_in, goals_in}
 use Rattle.kan_model.specs.Programs.Tables.{GoalEntry}
 use Rattle.goal_forms.specs.Parts.{site_at}
-use Rattle.goal_forms.specs.TermSteps.{site_size}
+use Rattle.goal_forms.specs.Steps.TermSteps.{site_size}
 use Rattle.goal_syntax.specs.Building.GoalsBuilt.{Built, with_goal}
-use Rattle.goal_forms.specs.GoalSteps.{step_goal}
+use Rattle.goal_forms.specs.Steps.GoalSteps.{step_goal}
 use Rattle.goal_syntax.specs.Building.Widths.{goal_width, goals_width}
 use Rattle.goal_syntax.specs.Building.Entries.{goal_size, goals_size, sides_size}
 use Rattle.goal_forms.specs.declared.goal.Goal as opened

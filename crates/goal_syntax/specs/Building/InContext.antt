@@ -11,7 +11,7 @@ use Rattle.kan_grammar.specs.Texts.ProgramText.{relations_in, queries_in, relati
 use Rattle.kan_grammar.specs.Texts.TopForms.{form}
 use Rattle.goal_forms.specs.Contexts.{data_of, datum_at, data_at, defined_in, binder_at, head_at}
 use Rattle.goal_forms.specs.Contexts.{goals_at, terms_at, form_of}
-use Rattle.goal_forms.specs.TermSteps.{task_form}
+use Rattle.goal_forms.specs.Steps.TermSteps.{task_form}
 use Rattle.goal_forms.specs.declared.context.Context.{Context}
 use Rattle.goal_forms.specs.declared.form.Form as parsed
 use Rattle.goal_forms.specs.declared.goal.Goal as opened

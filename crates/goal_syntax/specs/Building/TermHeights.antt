@@ -7,7 +7,7 @@ use Rattle.kan_grammar.specs.Texts.Sited.{Sited}
 use Rattle.kan_model.specs.Programs.Scope.{is_low}
 use Rattle.kan_grammar.specs.Texts.Resolved.{Names, template_in}
 use Rattle.goal_syntax.specs.Building.TermsLeft.{stack_templates, pair_of_last_two}
-use Rattle.goal_forms.specs.TermSteps.{task_form}
+use Rattle.goal_forms.specs.Steps.TermSteps.{task_form}
 use Rattle.goal_syntax.specs.declared.build_term.Work.{Work}
 use Rattle.goal_syntax.specs.declared.build_term.Work.TheVariants.{Term, Pair}
 

@@ -8,7 +8,7 @@ use Rattle.kan_model.specs.Programs.Tables.{Tables, template_at, templates_of}
 use Rattle.kan_grammar.specs.Texts.Resolved.{Names, template_in}
 use Rattle.goal_syntax.specs.Building.GrownTables.{Grows}
 use Rattle.goal_forms.specs.Places.{are_below}
-use Rattle.goal_forms.specs.TermSteps.{task_form, task_size}
+use Rattle.goal_forms.specs.Steps.TermSteps.{task_form, task_size}
 use Rattle.goal_syntax.specs.declared.build_term.Work.{Work}
 use Rattle.goal_syntax.specs.declared.build_term.Work.TheVariants.{Term, Pair}
 

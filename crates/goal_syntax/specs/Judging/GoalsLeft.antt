@@ -12,7 +12,7 @@ use Rattle.kan_grammar.specs.Texts.TopForms.{Defined}
 use Rattle.kan_grammar.specs.Texts.Resolved.{Names, arity, within}
 use Rattle.kan_grammar.specs.Texts.TextFaults.{term_faults, call_faults, goal_faults, goals_faults}
 use Rattle.goal_forms.specs.Parts.{site_at}
-use Rattle.goal_forms.specs.TermSteps.{site_size}
+use Rattle.goal_forms.specs.Steps.TermSteps.{site_size}
 use Rattle.goal_forms.specs.declared.goal.Goal as opened
 use Rattle.goal_forms.specs.declared.goal.Goal.TheVariants.{Same, Differ, Symbol, Number, Text}
 use Rattle.goal_forms.specs.declared.goal.Goal.TheVariants.{Absent, Fresh, AllOf, OneOf, Clauses}

@@ -4,7 +4,7 @@ use Rattle.kan_terms.specs.Tree.{leaves}
 use Rattle.kan_terms.specs.Table.{Table}
 use Rattle.kan_grammar.specs.Texts.Sited.{Sited}
 use Rattle.kan_grammar.specs.Texts.TermForms.{Use, variable, misshapen}
-use Rattle.goal_forms.specs.TermSteps.{task_form, task_size}
+use Rattle.goal_forms.specs.Steps.TermSteps.{task_form, task_size}
 use Rattle.goal_forms.specs.declared.term.Task.{Task}
 use Rattle.goal_forms.specs.declared.term.Step.{Step}
 use Rattle.goal_forms.specs.declared.term.Step.TheVariants.{Variable, Misshapen, Pair, Same}

@@ -32,7 +32,7 @@ pub few_tokens : (bs : List ℕ) → length (tokens bs) ≤ length bs
 unfolding tokens
 few_tokens bs = few_from 0 0 bs
 
--- how many data stand at the top, behind which all is open
+-- how many data stand at the top, behind which all is unclosed
 abbrev before_place : {D : Type 0} → Place D → ℕ
 before_place (top ds) = length ds
 before_place (in_list outer at s ds) = before_place outer

@@ -7,7 +7,7 @@ use Rattle.kan_grammar.specs.Texts.Language.{Spelled, spelled, form_names, goal_
 use Rattle.kan_grammar.specs.Texts.Sited.{with_sites}
 use Rattle.kan_grammar.specs.Texts.ProgramText.{Meant, text_meaning}
 use Rattle.kan_grammar.specs.Texts.TextFaults.{fault_of_text, faults_of}
-use Rattle.kan_grammar.proofs.Data.Examples.{read_ascii}
+use Rattle.kan_grammar.proofs.Data.Examples.Readings.{read_ascii}
 use Rattle.kan_grammar.specs.declared.dialect.Dialect.TheVariants.{Book, All}
 use lib.Chars.{codes}
 

@@ -1,4 +1,4 @@
--- What is open at a place in a text: where the next datum will stand, or that only a close may
+-- What is unclosed at a place in a text: where the next datum will stand, or that only a close may
 -- come.
 use Rattle.std.specs.Prelude.{ℕ, suc, ◌+◌, List, [], ◌∷◌, ◌++◌, length, Option, Some, None}
 use Rattle.kan_grammar.specs.Data.Words.{Atom, Shape, Prefix}
@@ -35,14 +35,14 @@ depth (in_list outer at s ds) = depth outer + suc (length ds)
 depth (after_dot outer at s e ds point) = depth outer + suc (length ds)
 depth (after_prefix outer at p) = depth outer + 2
 
--- the shape of the innermost open list
+-- the shape of the innermost unclosed list
 abbrev pub innermost_shape : {D : Type 0} → Place D → Option Shape
 innermost_shape (top ds) = None
 innermost_shape (in_list outer at s ds) = Some s
 innermost_shape (after_dot outer at s e ds point) = Some s
 innermost_shape (after_prefix outer at p) = innermost_shape outer
 
--- what is open once a datum stands at its place
+-- what is unclosed once a datum stands at its place
 abbrev pub put : {D : Type 0} → Build D → Place D → D → Enclosing D
 put b (top ds) d = awaiting (top (ds ++ d ∷ []))
 put b (in_list outer at s ds) d = awaiting (in_list outer at s (ds ++ d ∷ []))

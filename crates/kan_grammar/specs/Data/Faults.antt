@@ -43,7 +43,7 @@ is_shape (Some round) round = true
 is_shape (Some square) square = true
 is_shape _ _ = false
 
--- the token is a close, and no list is open or the innermost open list has the other shape
+-- the token is a close, and no list is unclosed or the innermost unclosed list has the other shape
 abbrev pub is_stray : {D : Type 0} → ℕ → Token → Enclosing D → Option Fault
 is_stray at (closing s) o =
     if is_shape (innermost o) s then None else Some (fault at Refusal.StrayClose)
@@ -104,7 +104,7 @@ refusal o at t =
     ∷ closes_dot t o ∷ is_misplaced at t o ∷ is_second t o ∷ is_too_deep at t o
     ∷ is_out_of_range at t ∷ is_reserved_name at t ∷ [])
 
--- what is open after a token that no question refuses
+-- what is unclosed after a token that no question refuses
 abbrev pub after : {D : Type 0} → Build D → Enclosing D → ℕ → Token → Enclosing D
 after b (awaiting p) at (opening s) = awaiting (in_list p at s [])
 after b (awaiting p) at (prefix q) = awaiting (after_prefix p at q)
@@ -116,7 +116,7 @@ after b (ended outer start s e ds point d) at (closing r) =
     put b outer (b.of_dotted start s (e ∷ ds) point d at)
 after b o at t = o
 
--- a reading goes on with what is open, or has stopped at a fault
+-- a reading goes on with what is unclosed, or has stopped at a fault
 pub data Progress (D : Type 0) : Type 0 where
   going : Enclosing D → Progress D
   stopped : Fault → Progress D
@@ -141,7 +141,7 @@ pub data Reading (D : Type 0) : Type 0 where
   data_are : List D → Reading D
   refused : Fault → Reading D
 
--- at the end: a prefix without its datum, and no list opened after it; else an open list
+-- at the end: a prefix without its datum, and no list opened after it; else an unclosed list
 abbrev pub answer_at_end : {D : Type 0} → Enclosing D → Reading D
 answer_at_end (awaiting (top ds)) = data_are ds
 answer_at_end (awaiting (after_prefix outer at p)) = refused (fault at Refusal.BadToken)
@@ -154,7 +154,7 @@ abbrev pub finish : {D : Type 0} → Progress D → Reading D
 finish (going o) = answer_at_end o
 finish (stopped f) = refused f
 
--- at the start nothing is open
+-- at the start nothing is unclosed
 abbrev pub beginning : {D : Type 0} → Progress D
 beginning = going (awaiting (top []))
 

@@ -26,8 +26,8 @@ BeginsText limit ts =
     (at : ℕ) → (ds : List Written) × (bytes : List ℕ)
     × (spell_all ds [] ≡ ts ++ tokens_from at 0 bytes) × IsTrue (are_allowed limit ds)
 
--- how deep data must be let stand for what is open to be completed: no deeper than they may, but
--- for the datum that the last prefix still lacks, which can be one or two too deep
+-- how deep data must be let stand for what is unclosed to be completed: no deeper than they may,
+-- but for the datum that the last prefix still lacks, which can be one or two too deep
 abbrev pub reach : Enclosing Written → ℕ
 reach (awaiting (after_prefix outer at p)) = max deepest (depth outer + 2)
 reach _ = deepest
@@ -46,7 +46,7 @@ pub record StopsAt (ts : List Placed) (f : Fault) : Type 0 where
   pub before_begins : BeginsText (reach enclosing) before
   pub begins_none : Begins deepest (before ++ placed at token ∷ []) → ⊥
 
--- all tokens begin a text, and something is open at the end
+-- all tokens begin a text, and something is unclosed at the end
 pub record IsCutOff (ts : List Placed) (f : Fault) : Type 0 where
   pub enclosing : Enclosing Written
   pub read_all : run as_written beginning ts ≡ going enclosing

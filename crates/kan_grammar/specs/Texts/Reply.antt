@@ -1,10 +1,9 @@
 -- What a text behind a library is answered with, as a function of their bytes, and what is written
 -- then.
-use Rattle.std.specs.Prelude.{◌≡◌, ℕ, Bool, true, false, List, [], ◌∷◌, ◌++◌, Option, Some, None}
-use Rattle.std.specs.Prelude.{codes}
+use Rattle.std.specs.Prelude.{◌≡◌, ℕ, Bool, true, false, List, [], Option, Some, None}
 use Rattle.std.specs.List.{list_any}
 use Rattle.kan_terms.specs.Table.{Table}
-use Rattle.kan_refusals.specs.Refusals.{number_of, text_of}
+use Rattle.kan_refusals.specs.Refusals.{line_with}
 use Rattle.kan_refusals.specs.declared.refusals.Refusal.{Refusal}
 use Rattle.kan_model.specs.Programs.Goals.{Program, Query}
 use Rattle.kan_model.specs.Streams.Taking.{Ending, take_query}
@@ -57,12 +56,9 @@ pub record IsLibrary (table : Table) (library : List Written) : Type 0 where
   pub faultless : fault_of_text table [] library ≡ None
   pub runless : (dialect : Dialect) → queries_of_text dialect table [] library ≡ []
 
--- the line of a refusal at an offset: its number, the offset and what it is called, numbers with as
--- many digits as they have
+-- the line of a refusal at an offset, with numbers of as many digits as they have
 abbrev pub line_at : ℕ → Refusal → List ℕ
-line_at at r =
-    (codes "error " ++ decimal_text (number_of r) ++ codes " at " ++ decimal_text at ++ codes ": "
-    ++ text_of r) ++ 10 ∷ []
+line_at at r = line_with decimal_text at r
 
 abbrev pub refusal_line : Fault → List ℕ
 refusal_line (fault at r) = line_at at r

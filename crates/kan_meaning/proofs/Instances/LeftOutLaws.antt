@@ -19,13 +19,13 @@ use Rattle.kan_model.specs.Each.{Each}
 use Rattle.kan_model.proofs.Solving.UnifierLaws.{answer_most_general}
 use Rattle.store_laws.proofs.OneForm.{answer_rises}
 use Rattle.kan_meaning.specs.LeftOut.{NeverEqual, UnnamedCanDiffer, ExcludedDiffer, pair_holds, fails, WeakerSayNothing, EqualSayNothing}
-use Rattle.kan_meaning.proofs.Chosen.{Each-from_filter, Each-from_once}
-use Rattle.kan_meaning.proofs.Grounds.{ground_same, same_ground}
+use Rattle.kan_meaning.proofs.ChoiceLaws.{Each-from_filter, Each-from_once}
+use Rattle.kan_terms.proofs.TreeLaws.{eq-ground_eq, ground_eq-true}
 use Rattle.kan_meaning.proofs.Instances.NamedValues.{PairHolds}
 use Rattle.kan_meaning.proofs.Instances.OwnForms.{free_values, named-free, above_values, above_terms, factors_hold, holding_named}
-use Rattle.kan_meaning.proofs.SolutionLaws.{solved_is_kept}
+use Rattle.pull_bounds.proofs.KeptStores.{solved_is_kept}
 use Rattle.kan_meaning.proofs.Instances.SolvedInstances.{sides, same_form-true, form_once, form_above}
-use Rattle.kan_meaning.proofs.Weaker.{weaker_follow}
+use Rattle.kan_meaning.proofs.ImpliedLaws.{weaker_follow}
 
 pub never_equal : NeverEqual
 never_equal vs s e f none same = let (g, found, factors) = answer_most_general (ranks_lower vs) (sides s e.left e.right) f (same, tt) in cc
@@ -68,7 +68,7 @@ excluded_differ st a b us excluded (long, holds) same =
       long,
       list_all-append (holds_at us) (filter is_no_difference st.prims) (Primitive.same a b ∷ [])
           ∙ and_from (list_all (holds_at us) (filter is_no_difference st.prims)) (holds_at us (Primitive.same a b) && true) holds
-          (and_from (holds_at us (Primitive.same a b)) true (ground_same (value us a) (value us b) same) refl),
+          (and_from (holds_at us (Primitive.same a b)) true (eq-ground_eq (value us a) (value us b) same) refl),
     ))
 
 same_truth : (a b : Bool) → (a ≡ true → b ≡ true) → (b ≡ true → a ≡ true) → a ≡ b
@@ -79,11 +79,11 @@ same_truth false false to from = refl
 -- the test of a form and its pairs
 pairs_of : (us : List Gd) (g : Replacement) → list_all (pair_holds us) g ≡ true → Each (PairHolds (value_at us)) g
 pairs_of us g h =
-    Each-like (λ p. pair_holds us p ≡ true) (PairHolds (value_at us)) (λ p. same_ground (value_at us p.var) (value us p.by)) g (Each-from_list_all (pair_holds us) g h)
+    Each-like (λ p. pair_holds us p ≡ true) (PairHolds (value_at us)) (λ p. ground_eq-true (value_at us p.var) (value us p.by)) g (Each-from_list_all (pair_holds us) g h)
 
 of_pairs : (us : List Gd) (g : Replacement) → Each (PairHolds (value_at us)) g → list_all (pair_holds us) g ≡ true
 of_pairs us g h =
-    list_all-from_Each (pair_holds us) g (Each-like (PairHolds (value_at us)) (λ p. pair_holds us p ≡ true) (λ p. ground_same (value_at us p.var) (value us p.by)) g h)
+    list_all-from_Each (pair_holds us) g (Each-like (PairHolds (value_at us)) (λ p. pair_holds us p ≡ true) (λ p. eq-ground_eq (value_at us p.var) (value us p.by)) g h)
 
 pub weaker_say_nothing : WeakerSayNothing
 weaker_say_nothing us forms = same_truth (list_all (fails us) (filter strong forms)) (list_all (fails us) forms) all_fail strong_fail

@@ -11,7 +11,7 @@ use Rattle.kan_model.specs.Answers.Order.{place_of, stands_in}
 use Rattle.kan_model.specs.Stores.Solve.{Replaced, Replacement, image}
 use Rattle.kan_model.specs.Stores.Unifiers.{Factors}
 use Rattle.kan_model.specs.Each.{Each}
-use Rattle.kan_meaning.proofs.Grounds.{ground_same, same_ground}
+use Rattle.kan_terms.proofs.TreeLaws.{eq-ground_eq, ground_eq-true}
 
 -- a replaced variable has the value of its term
 abbrev pub PairHolds : (ℕ → Gd) → Replaced → Type 0
@@ -52,7 +52,7 @@ module _ (vs : List ℕ) (ws : List Gd) (f : ℕ → Gd) (agrees : Agrees vs ws 
       let (here, later) = and_parts (pair_named vs p) (all_named vs g) named in
       let (var, term) = and_parts (stands_in vs p.var) (list_all (stands_in vs) (leaves p.by)) here in
       let (first, rest) = and_parts (pair_met ws (record { name = place_of vs p.var; by = in_names vs p.by })) (list_all (pair_met ws) (form_in_names vs g)) met in
-      (sym (agrees p.var var) ∙ same_ground (value_at ws (place_of vs p.var)) (value ws (in_names vs p.by)) first ∙ value-named p.by term, met_hold g later rest)
+      (sym (agrees p.var var) ∙ ground_eq-true (value_at ws (place_of vs p.var)) (value ws (in_names vs p.by)) first ∙ value-named p.by term, met_hold g later rest)
 
   pub hold_met : (g : Replacement) → all_named vs g ≡ true → Each (PairHolds f) g → list_all (pair_met ws) (form_in_names vs g) ≡ true
   hold_met [] named holds = refl
@@ -60,4 +60,4 @@ module _ (vs : List ℕ) (ws : List Gd) (f : ℕ → Gd) (agrees : Agrees vs ws 
       let (here, later) = and_parts (pair_named vs p) (all_named vs g) named in
       let (var, term) = and_parts (stands_in vs p.var) (list_all (stands_in vs) (leaves p.by)) here in
       and_from (pair_met ws (record { name = place_of vs p.var; by = in_names vs p.by })) (list_all (pair_met ws) (form_in_names vs g))
-      (ground_same (value_at ws (place_of vs p.var)) (value ws (in_names vs p.by)) (agrees p.var var ∙ h ∙ sym (value-named p.by term))) (hold_met g later hs)
+      (eq-ground_eq (value_at ws (place_of vs p.var)) (value ws (in_names vs p.by)) (agrees p.var var ∙ h ∙ sym (value-named p.by term))) (hold_met g later hs)

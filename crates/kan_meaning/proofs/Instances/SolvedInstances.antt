@@ -6,7 +6,7 @@ use Rattle.std.proofs.lemmas.List.Folds.{list_all-append}
 use Rattle.kan_terms.specs.Table.{Table}
 use Rattle.kan_terms.specs.Tree.{Tree, Tm, Gd, fill, occurs, has_symbol, term_eq}
 use Rattle.kan_terms.specs.Valuations.{value_at, value}
-use Rattle.kan_terms.proofs.TreeLaws.{term_eq-true}
+use Rattle.kan_terms.proofs.TreeLaws.{term_eq-true, eq-ground_eq}
 use Rattle.kan_model.specs.Answers.Answer.{named_variables, solved_form, in_rank, rank, ranks_lower, all_named, is_no_difference, can_be_equal, if_written, and_form, forms_of, is_weaker, same_pair, same_form, strongest, form_in_names, in_names, names_where, has_absence, may_have_tag, tags_of, absence_of, has_names, tag_le, absences_of}
 use Rattle.kan_model.specs.Answers.AnswerText.{difference_le, answer_under, answer_by, answer_of}
 use Rattle.kan_model.specs.Answers.Covers.{pair_met, difference_met, absence_met, meets, Covers}
@@ -28,17 +28,17 @@ use Rattle.pull_bounds.specs.Finding.{IsSolvedAt}
 use Rattle.store_laws.proofs.OneForm.{answer_rises, through_answer}
 use Rattle.kan_meaning.specs.Instances.{InstancesAreValues}
 use Rattle.kan_meaning.specs.KeptStores.{HasSolution}
-use Rattle.kan_meaning.proofs.Chosen.{Each-from_filter, Each-from_once, Each-from_in_order, Each-from_map, variables_named, named_pass}
+use Rattle.kan_meaning.proofs.ChoiceLaws.{Each-from_filter, Each-from_once, Each-from_in_order, Each-from_map, variables_named, named_pass}
 use Rattle.kan_meaning.proofs.CoveredSolutions.{named-in_rank, solutions_are_covered}
 use Rattle.kan_meaning.proofs.FreeSolutions.{under_answer, Apart, value_is, each_holds, others_hold, all_hold}
-use Rattle.kan_meaning.proofs.Grounds.{ground_same, is_of, symbol_or_number, symbol_or_string, string_or_number}
+use Rattle.pull_bounds.proofs.KeptStores.{is_of, values_unify, type-value, solved_is_kept}
+use Rattle.kan_meaning.proofs.GroundLaws.{symbol_or_number, symbol_or_string, string_or_number}
 use Rattle.kan_meaning.proofs.KeptLaws.{kept_has_solution}
 use Rattle.kan_meaning.proofs.Instances.NamedValues.{PairHolds, Agrees, value-named, hold_met}
 use Rattle.kan_meaning.proofs.Instances.OwnForms.{free_values, named-free, own-free, above_values, above_terms, factors_hold, holding_named}
 use Rattle.kan_meaning.proofs.Instances.OwnValues.{own_of, own_apart, first-length, first_at}
-use Rattle.kan_meaning.proofs.SolutionLaws.{unifies, of_type, solved_is_kept}
 use Rattle.kan_meaning.proofs.Instances.SolvedLaws.{kind_by, bound_all, each_equal}
-use Rattle.kan_meaning.proofs.Weaker.{weaker_follow}
+use Rattle.kan_meaning.proofs.ImpliedLaws.{weaker_follow}
 
 -- equal forms are the same
 pub same_form-true : (g h : Replacement) → same_form g h ≡ true → g ≡ h
@@ -211,7 +211,7 @@ module _ (table : Table) (st : Store) (s : Replacement) (ws : List Gd) where
   module _ (found : solve_store st ≡ Some s) (solved : HasSolution st) where
     has_value : (kind : Kind) (v : ℕ) → has_type kind s ps v ≡ true → is_of kind (value_at solved.0 v) ≡ true
     has_value kind v e =
-        of_type solved.0 s (through_answer left_first (equations ps) s (value_at solved.0) found (unifies solved.0 ps solved.1.1)) kind v ps solved.1.1 e
+        type-value solved.0 s (through_answer left_first (equations ps) s (value_at solved.0) found (values_unify solved.0 ps solved.1.1)) kind v ps solved.1.1 e
 
     typed : Met → (kind : Kind) (v : ℕ) → has_type kind s ps v ≡ true → is_of kind (f v) ≡ true
     typed met kind v e = by kind e (stands_in vs v) refl
@@ -286,7 +286,7 @@ module _ (table : Table) (st : Store) (s : Replacement) (ws : List Gd) where
       equal_can : (a b : Tm) → sides_below st.counter (Primitive.differ a b) ≡ true → fill f (apply s a) ≡ fill f (apply s b) → can_be_equal st a b ≡ true
       equal_can a b below same =
           let (l, r) = and_parts (all_below st.counter a) (all_below st.counter b) below in
-          let equal = ground_same (value us a) (value us b) (value_is s f st.counter a l ∙ same ∙ sym (value_is s f st.counter b r)) in
+          let equal = eq-ground_eq (value us a) (value us b) (value_is s f st.counter a l ∙ same ∙ sym (value_is s f st.counter b r)) in
           solved_is_kept (record { prims = filter is_no_difference ps ++ Primitive.same a b ∷ []; counter = st.counter }) us (
             first-length (λ v. fill f (image s v)) st.counter,
             list_all-append (holds_at us) (filter is_no_difference ps) (Primitive.same a b ∷ [])

@@ -4,7 +4,7 @@ use Rattle.std.specs.List.{list_all}
 use Rattle.std.proofs.lemmas.Bool.{and_from, and_parts, or_left, or_right, both_ways, eq-eqb, not-true, not_from_false, false_from_ne_true}
 use Rattle.kan_terms.specs.Tree.{Tree, Tm, Gd, fill, has_symbol, term_eq, ground_eq}
 use Rattle.kan_terms.specs.Valuations.{value_at, value}
-use Rattle.kan_terms.proofs.TreeLaws.{fill-fill, fill-same_occurs, has_symbol-fill, eq-term_eq}
+use Rattle.kan_terms.proofs.TreeLaws.{fill-fill, fill-same_occurs, has_symbol-fill, eq-term_eq, eq-ground_eq, ground_eq-true}
 use Rattle.kan_model.specs.Meaning.Holds.{is_symbol, is_number, is_string, holds_at, IsSolution}
 use Rattle.kan_model.specs.Programs.Goals.{Primitive}
 use Rattle.kan_model.specs.Programs.Scope.{all_below, sides_below}
@@ -15,7 +15,7 @@ use Rattle.kan_model.specs.Stores.Unifiers.{Unifies}
 use Rattle.kan_model.specs.declared.prims.Kind.{Kind}
 use Rattle.kan_model.specs.declared.prims.Kind.TheVariants.{Symbol, Number, Text}
 use Rattle.kan_model.specs.Each.{Each}
-use Rattle.kan_meaning.proofs.Grounds.{ground_same, same_ground, below_occurs}
+use Rattle.kan_meaning.proofs.GroundLaws.{below_occurs}
 use Rattle.kan_meaning.proofs.Instances.OwnValues.{own_of, own, above_atoms, separated, own_apart, first_values, first-length, first_at}
 
 -- a variable of no type gets a symbol
@@ -129,13 +129,13 @@ module _ (ps : List (Primitive Tm)) (s : Replacement) (n counter : ℕ) where
   one_holds : (p : Primitive Tm) → Fine p → holds_at solution p ≡ true
   one_holds (Primitive.same a b) fine =
       let (l, r) = and_parts (all_below counter a) (all_below counter b) fine.below in
-      ground_same (value solution a) (value solution b) (value_is a l ∙ ap (fill free_values) fine.equal ∙ sym (value_is b r))
+      eq-ground_eq (value solution a) (value solution b) (value_is a l ∙ ap (fill free_values) fine.equal ∙ sym (value_is b r))
   one_holds (Primitive.differ a b) fine =
       let (l, r) = and_parts (all_below counter a) (all_below counter b) fine.below in
       not_from_false (ground_eq (value solution a) (value solution b)) (false_from_ne_true (ground_eq (value solution a) (value solution b)) (λ e.
       both_ways (term_eq (apply s a) (apply s b)) (not-true (term_eq (apply s a) (apply s b)) fine.allowed)
       (eq-term_eq (apply s a) (apply s b) (separated n kinds (apply s a) (apply s b) (omega (arith, fine.low)) (omega (arith, fine.low))
-      (sym (value_is a l) ∙ same_ground (value solution a) (value solution b) e ∙ value_is b r)))))
+      (sym (value_is a l) ∙ ground_eq-true (value solution a) (value solution b) e ∙ value_is b r)))))
   one_holds (Primitive.symbol a) fine =
       let (no_number, no_text) = and_parts (lacks_type Number s ps (apply s a)) (lacks_type Text s ps (apply s a)) fine.one_type in
       ap is_symbol (value_is a fine.below) ∙ symbol_of (apply s a) fine.allowed no_number no_text

@@ -141,8 +141,8 @@ trees = refl
 pub grown : is_grown tables ≡ true
 grown = refl
 
-pub none_open : are_closed tables (3 ∷ []) ≡ true
-none_open = refl
+pub all_closed : are_closed tables (3 ∷ []) ≡ true
+all_closed = refl
 
 -- a goal of a run that isn't in the table is open, and so is one that uses slot 1
 pub not_there : are_closed tables (4 ∷ []) ≡ false

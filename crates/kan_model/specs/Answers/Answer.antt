@@ -1,7 +1,7 @@
 -- The answer of a store: the query's term with its variables named, and what is left of the
 -- constraints.
-use Rattle.std.specs.Prelude.{ℕ, suc, ◌+◌, Bool, true, false, ◌&&◌, not, nat_lt, eqb, List, [], ◌∷◌}
-use Rattle.std.specs.Prelude.{◌++◌, length, map, filter, Option, Some, None, if◌then◌else◌}
+use Rattle.std.specs.Prelude.{◌≡◌, ℕ, suc, ◌+◌, Bool, true, false, ◌&&◌, not, nat_lt, eqb, List}
+use Rattle.std.specs.Prelude.{[], ◌∷◌, ◌++◌, length, map, filter, Option, Some, None, if◌then◌else◌}
 use Rattle.std.specs.List.{list_all, list_any}
 use Rattle.kan_terms.specs.Tree.{Tree, Tm, fill, leaves, occurs, term_eq}
 use Rattle.kan_terms.specs.Table.{Table}
@@ -135,6 +135,10 @@ abbrev pub tags_of : List (Primitive Tm) → List ℕ
 tags_of [] = []
 tags_of (Primitive.absent tag a ∷ ps) = tag ∷ tags_of ps
 tags_of (p ∷ ps) = tags_of ps
+
+-- all tags whose absence a store asks for have names in a table
+abbrev pub HasNames : Table → Store → Type 0
+HasNames table st = list_all (λ tag. nat_lt tag (length table.symbols)) (tags_of st.prims) ≡ true
 
 -- a variable may have a tag in it: it is no number and no string
 abbrev pub may_have_tag : Replacement → List (Primitive Tm) → ℕ → Bool

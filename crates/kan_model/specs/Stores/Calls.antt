@@ -18,8 +18,8 @@ Gives st None = is_kept st ≡ false
 Gives st (Some new) = (is_kept st ≡ true) × (new ≡ st)
 
 -- the answer of a kept store's equations
-abbrev pub answer : Store → Replacement
-answer st = unwrap_or (solve_store st) []
+abbrev pub replacement_of : Store → Replacement
+replacement_of st = unwrap_or (solve_store st) []
 
 -- the primitive is an equation
 abbrev pub is_equation : Primitive Tm → Bool
@@ -39,18 +39,19 @@ WalksTo s t found = found ≡ t
 
 -- the variable walks to itself
 abbrev pub IsFree : Store → ℕ → Type 0
-IsFree st v = image (answer st) v ≡ Tree.leaf v
+IsFree st v = image (replacement_of st) v ≡ Tree.leaf v
 
 -- the type that a variable has, where it has one
 abbrev pub kind_at : Store → ℕ → Option Kind
 kind_at st v =
-    if has_type Symbol (answer st) st.prims v then Some Symbol
-    else (if has_type Number (answer st) st.prims v then Some Number
-    else (if has_type Text (answer st) st.prims v then Some Text else None))
+    if has_type Symbol (replacement_of st) st.prims v then Some Symbol
+    else (if has_type Number (replacement_of st) st.prims v then Some Number
+    else (if has_type Text (replacement_of st) st.prims v then Some Text else None))
 
 -- the tags whose absence a variable has
 abbrev pub AreTags : Store → ℕ → List ℕ → Type 0
-AreTags st v tags = (tag : ℕ) → Contains tags tag ↔ (has_absence (answer st) st.prims tag v ≡ true)
+AreTags st v tags =
+    (tag : ℕ) → Contains tags tag ↔ (has_absence (replacement_of st) st.prims tag v ≡ true)
 
 -- all equations hold under a valuation
 abbrev pub all_equal : List Gd → List Equation → Bool
@@ -81,7 +82,7 @@ pub data AreDifferences (st : Store) : List Equation → List (List Equation) �
       SaysTheSame st e pairs → AreDifferences st es lists →
       AreDifferences st (e ∷ es) (pairs ∷ lists)
   left_out : {e : Equation} {es : List Equation} {lists : List (List Equation)} →
-      can_unify (answer st) e ≡ false → AreDifferences st es lists →
+      can_unify (replacement_of st) e ≡ false → AreDifferences st es lists →
       AreDifferences st (e ∷ es) lists
 
 -- the replacement is the answer

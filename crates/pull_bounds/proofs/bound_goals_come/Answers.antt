@@ -1,4 +1,4 @@
-use Rattle.pull_bounds.proofs.Bound.{bound_comes}
+use Rattle.pull_bounds.proofs.BindLaws.{bound_comes}
 use Rattle.pull_bounds.proofs.bound_goals_come.Goals as goal
 
 pub returns : goal.returns

@@ -1,4 +1,4 @@
-use Rattle.pull_bounds.proofs.Bound.{both_come}
+use Rattle.pull_bounds.proofs.BindLaws.{both_come}
 use Rattle.pull_bounds.proofs.conjunctions_come.Goals as goal
 
 pub returns : goal.returns

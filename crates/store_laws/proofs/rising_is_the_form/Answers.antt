@@ -1,5 +1,5 @@
 -- The law of General.
-use Rattle.store_laws.proofs.General.{general_is_the_form}
+use Rattle.store_laws.proofs.GeneralUnifiers.{general_is_the_form}
 use Rattle.store_laws.proofs.rising_is_the_form.Goals as goal
 
 pub returns : goal.returns

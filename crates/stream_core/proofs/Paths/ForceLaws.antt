@@ -16,7 +16,7 @@ use Rattle.stream_core.specs.CounterBounds.{Between}
 use Rattle.stream_core.specs.Tasks.{IsOf, AreBelowRest}
 use Rattle.kan_model.specs.Each.{Each}
 use Rattle.stream_core.specs.InnerSuspensions.{MayForce, has_inner, inner_of}
-use Rattle.stream_core.specs.Suspensions.{goal_in, listed}
+use Rattle.stream_core.specs.Suspensions.{goal_in, stream_of_parts}
 use Rattle.stream_core.specs.Tables.{Table, OnlyAdds, GrowsBy, Told, IsTableOf, HasStream, IsForce, stream_in, thunk_in}
 use Rattle.stream_core.specs.declared.streams.Thunk.{Thunk as Suspension}
 use Rattle.stream_core.specs.declared.streams.Thunk.TheVariants.{Call, Pause, Swap, Bind}
@@ -110,10 +110,10 @@ module _ {I St : Type 0} (t : Table I) (p : code.Program) (means : St → Store)
 
   -- one that waits before another
   pub swapped-force : (thunk : Suspension I St) (heads : List St) (tail : Option I) (inner : I) (inside : Listed I St) (made : Stream) → thunk ≡ Swap heads tail inner →
-      IsForce t means (inner_of (thunk_in t means thunk)) inside → made ≡ append (listed t.tree means heads tail) (stream_in t means inside) → made ≡ force t.program (thunk_in t means thunk)
+      IsForce t means (inner_of (thunk_in t means thunk)) inside → made ≡ append (stream_of_parts t.tree means heads tail) (stream_in t means inside) → made ≡ force t.program (thunk_in t means thunk)
   swapped-force thunk heads tail inner inside made swapped forced built =
       built
-      ∙ ap (append (listed t.tree means heads tail)) (forced.1 ∙ ap (λ u. force t.program (inner_of (thunk_in t means u))) swapped)
+      ∙ ap (append (stream_of_parts t.tree means heads tail)) (forced.1 ∙ ap (λ u. force t.program (inner_of (thunk_in t means u))) swapped)
       ∙ ap (λ u. force t.program (thunk_in t means u)) (sym swapped)
 
   -- one without one inside

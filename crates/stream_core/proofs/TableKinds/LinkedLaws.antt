@@ -25,8 +25,8 @@ use Rattle.stream_core.proofs.Paths.AroundLaws.{within-fits, all-fits, made-forc
 use Rattle.stream_core.proofs.ClosedLaws.{ProgramIsClosed}
 use Rattle.stream_core.proofs.FitLaws.{force-fits}
 use Rattle.stream_core.specs.Surroundings as outer
-use Rattle.stream_core.specs.Suspensions.{goal_in, inner_id, going_on, listed}
-use Rattle.stream_core.specs.TableKinds.LinkedThunks.{held, suspension_of, nothing_read, Reading, reading, IsInnermost, IsLevel, with_inner, IsDown, IsUp, IsInside, linked_tree, linked_around, linked_stream, linked_thunk, linked_layers}
+use Rattle.stream_core.specs.Suspensions.{goal_in, inner_id, going_on, stream_of_parts}
+use Rattle.stream_core.specs.TableKinds.LinkedThunks.{thunk_of, suspension_of, nothing_read, Reading, reading, IsInnermost, IsLevel, with_inner, IsDown, IsUp, IsInside, linked_tree, linked_around, linked_stream, linked_thunk, linked_layers}
 use Rattle.stream_core.specs.TableKinds.LinkedThunks.{IsInsideBind, HasEnteredSwap, IsEntered}
 use Rattle.stream_core.specs.declared.streams.Stream.{Stream}
 use Rattle.stream_core.specs.declared.streams.Thunk.{Thunk}
@@ -54,18 +54,18 @@ module _ {St : Type 0} (means : St → facts.Store) (goal : ℕ → Goal) where
   rolled node (Swap heads (Some tail) inner) = fold-roll-LinkedId St Reading _ _
   rolled node (Bind g env inner) = fold-roll-LinkedId St Reading _ _
 
-  pub read-node : (node : Arc (Weighed (Thunk (LinkedId St) St)) Global) → reading means goal (roll-LinkedId St (record { node = Some node })) ≡ read (held (arc_value node))
+  pub read-node : (node : Arc (Weighed (Thunk (LinkedId St) St)) Global) → reading means goal (roll-LinkedId St (record { node = Some node })) ≡ read (thunk_of (arc_value node))
   read-node node = rolled node node.value.thunk
 
-  by-node : (o : Option (Arc (Weighed (Thunk (LinkedId St) St)) Global)) (node : Arc (Weighed (Thunk (LinkedId St) St)) Global) → o ≡ Some node → reading means goal (roll-LinkedId St (record { node = o })) ≡ read (held (arc_value node))
+  by-node : (o : Option (Arc (Weighed (Thunk (LinkedId St) St)) Global)) (node : Arc (Weighed (Thunk (LinkedId St) St)) Global) → o ≡ Some node → reading means goal (roll-LinkedId St (record { node = o })) ≡ read (thunk_of (arc_value node))
   by-node o node is = ap (λ x. reading means goal (roll-LinkedId St (record { node = x }))) is ∙ read-node node
 
-  pub read-id : (id : LinkedId St) (node : Arc (Weighed (Thunk (LinkedId St) St)) Global) → (out-LinkedId St id).node ≡ Some node → reading means goal id ≡ read (held (arc_value node))
+  pub read-id : (id : LinkedId St) (node : Arc (Weighed (Thunk (LinkedId St) St)) Global) → (out-LinkedId St id).node ≡ Some node → reading means goal id ≡ read (thunk_of (arc_value node))
   read-id id node is = fold_out-LinkedId St Reading _ id ∙ sym (fold-roll-LinkedId St Reading _ (out-LinkedId St id)) ∙ by-node (out-LinkedId St id).node node is
 
-  none-rolled : (o : Option (Arc (Weighed (Thunk (LinkedId St) St)) Global)) → option_map (λ node. held (arc_value node)) o ≡ None → reading means goal (roll-LinkedId St (record { node = o })) ≡ nothing_read
+  none-rolled : (o : Option (Arc (Weighed (Thunk (LinkedId St) St)) Global)) → option_map (λ node. thunk_of (arc_value node)) o ≡ None → reading means goal (roll-LinkedId St (record { node = o })) ≡ nothing_read
   none-rolled None none = fold-roll-LinkedId St Reading _ _
-  none-rolled (Some node) none = let bad : Some (held (arc_value node)) ≡ None = none in cc
+  none-rolled (Some node) none = let bad : Some (thunk_of (arc_value node)) ≡ None = none in cc
 
   -- nothing stands around an id without a suspension
   pub read-none : (id : LinkedId St) → suspension_of id ≡ None → reading means goal id ≡ nothing_read
@@ -77,9 +77,9 @@ module _ {St : Type 0} (means : St → facts.Store) (goal : ℕ → Goal) where
   down whole around longer inner (Call rel args store) u was is some more = let bad : None ≡ Some inner = some in cc
   down whole around longer inner (Pause g env store) u was is some more = let bad : None ≡ Some inner = some in cc
   down whole around longer inner (Swap heads tail i) u was is some more = record {
-    layer = outer.Around.swap (listed (linked_tree means goal) means heads tail);
+    layer = outer.Around.swap (stream_of_parts (linked_tree means goal) means heads tail);
     more = ap (λ r. r.around) (is ∙ ap read more);
-    is = ap (λ o. model.Thunk.swap (listed (linked_tree means goal) means heads tail) (linked_tree means goal (unwrap_or o i))) (sym some) ∙ ap (λ r. r.tree) (sym was);
+    is = ap (λ o. model.Thunk.swap (stream_of_parts (linked_tree means goal) means heads tail) (linked_tree means goal (unwrap_or o i))) (sym some) ∙ ap (λ r. r.tree) (sym was);
   }
   down whole around longer inner (Bind g env i) u was is some more = record {
     layer = outer.Around.bind (goal g) (terms_of env);
@@ -103,7 +103,7 @@ module _ {St : Type 0} (means : St → facts.Store) (goal : ℕ → Goal) where
     layer = outer.Around.bind (goal g) (terms_of env);
     fewer = ap (linked_layers means goal) is ∙ ap (λ i. outer.Around.bind (goal g) (terms_of env) ∷ linked_around means goal i) (sym same);
     made = ap (λ hs. going_on (map means hs) (Some (linked_thunk means goal (Bind g env next)))) front
-        ∙ ap₂ (λ hs o. outer.made_within (outer.Around.bind (goal g) (terms_of env)) (listed (linked_tree means goal) means hs o)) (sym none) (sym tail);
+        ∙ ap₂ (λ hs o. outer.made_within (outer.Around.bind (goal g) (terms_of env)) (stream_of_parts (linked_tree means goal) means hs o)) (sym none) (sym tail);
   }
   entered-bind g env inner next old inside (Outside same) is (kept, back) = (ap (Bind g env) kept ∙ sym is, back)
 
@@ -111,11 +111,11 @@ module _ {St : Type 0} (means : St → facts.Store) (goal : ℕ → Goal) where
   pub entered-swap : (hs hs_new : List St) (t t_new : Option (LinkedId St)) (inner next : LinkedId St) (old : Thunk (LinkedId St) St) (inside : Stream (LinkedId St) St) (made : Entered St) → old ≡ Swap hs t inner →
       HasEnteredSwap hs t inner inside hs_new t_new next made → IsEntered means goal old inside (Swap hs_new t_new next) made
   entered-swap hs hs_new t t_new inner next old inside (Inside around heads) is e = record {
-    layer = outer.Around.swap (listed (linked_tree means goal) means hs t);
-    fewer = ap (linked_layers means goal) is ∙ ap (λ i. outer.Around.swap (listed (linked_tree means goal) means hs t) ∷ linked_around means goal i) (sym e.outer);
-    made = ap₂ (λ xs w. model.Stream.goes_on (map means xs) (model.Thunk.swap w (linked_tree means goal next))) e.first (ap₂ (listed (linked_tree means goal) means) e.waiting e.last)
+    layer = outer.Around.swap (stream_of_parts (linked_tree means goal) means hs t);
+    fewer = ap (linked_layers means goal) is ∙ ap (λ i. outer.Around.swap (stream_of_parts (linked_tree means goal) means hs t) ∷ linked_around means goal i) (sym e.outer);
+    made = ap₂ (λ xs w. model.Stream.goes_on (map means xs) (model.Thunk.swap w (linked_tree means goal next))) e.first (ap₂ (stream_of_parts (linked_tree means goal) means) e.waiting e.last)
         ∙ swapped (map means hs) (map means inside.heads) (linked_tree means goal next) (option_map (linked_tree means goal) inside.tail)
-        ∙ ap (λ o. model.append (listed (linked_tree means goal) means hs o) (linked_stream means goal inside)) (sym e.next);
+        ∙ ap (λ o. model.append (stream_of_parts (linked_tree means goal) means hs o) (linked_stream means goal inside)) (sym e.next);
   }
   entered-swap hs hs_new t t_new inner next old inside (Outside same) is (heads, tail, kept, back) =
       (ap₂ (λ xs o. Swap xs o next) heads tail ∙ ap (Swap hs t) kept ∙ sym is, back)
@@ -160,7 +160,7 @@ module _ {St : Type 0} (means : St → facts.Store) (p : Program) where
   down-begins around inside none = ap (λ r. outer.within_all r.around (table.tree inside)) (read-none means (goal_in p) around none)
 
   module _ (closed : ProgramIsClosed p) where
-    tail-fits : (low high : ℕ) (heads : List St) (tail : Option (LinkedId St)) → TailFits p low high (listed table.tree means heads tail) → IfSome tail table.belongs
+    tail-fits : (low high : ℕ) (heads : List St) (tail : Option (LinkedId St)) → TailFits p low high (stream_of_parts table.tree means heads tail) → IfSome tail table.belongs
     tail-fits low high heads None fits = tt
     tail-fits low high heads (Some id) fits = fits.tail.0
 

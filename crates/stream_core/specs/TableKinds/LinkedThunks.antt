@@ -9,7 +9,7 @@ use Rattle.kan_model.specs.Stores.Store as facts
 use Rattle.kan_model.specs.Streams.Stream as model
 use Rattle.stream_core.specs.InnerSuspensions.{has_inner}
 use Rattle.stream_core.specs.Surroundings as outer
-use Rattle.stream_core.specs.Suspensions.{inner_id, listed, going_on, stream, thunk}
+use Rattle.stream_core.specs.Suspensions.{inner_id, stream_of_parts, going_on, stream, thunk}
 use Rattle.stream_core.specs.declared.streams.Stream.{Stream}
 use Rattle.stream_core.specs.declared.streams.Thunk.{Thunk}
 use Rattle.stream_core.specs.declared.streams.Thunk.TheVariants.{Call, Pause, Swap, Bind}
@@ -28,12 +28,12 @@ use Rattle.stream_core.specs.declared.linked_ids.Level.TheVariants as levels
 use Rattle.stream_core.specs.declared.linked_ids.LinkedId.{LinkedId, out-LinkedId, fold-LinkedId}
 
 -- the suspension of a node
-abbrev pub held : {T : Type 0} → Weighed T → T
-held node = node.thunk
+abbrev pub thunk_of : {T : Type 0} → Weighed T → T
+thunk_of node = node.thunk
 
 -- the suspension that an id owns, where it has one
 abbrev pub suspension_of : {St : Type 0} → LinkedId St → Option (Thunk (LinkedId St) St)
-suspension_of {St} id = option_map (λ node. held (arc_value node)) (out-LinkedId St id).node
+suspension_of {St} id = option_map (λ node. thunk_of (arc_value node)) (out-LinkedId St id).node
 
 -- what an id stands for: its suspension, or those around another one that was inside it
 pub record Reading : Type 0 where
@@ -76,7 +76,7 @@ module _ {St : Type 0} (means : St → facts.Store) (goal : ℕ → Goal) where
   layers tree around (Call rel args store) = []
   layers tree around (Pause g env store) = []
   layers tree around (Swap heads tail inner) =
-      outer.Around.swap (listed tree means heads tail) ∷ around inner
+      outer.Around.swap (stream_of_parts tree means heads tail) ∷ around inner
   layers tree around (Bind g env inner) = outer.Around.bind (goal g) (terms_of env) ∷ around inner
 
   abbrev pub thunk_read : Thunk Reading St → Reading
@@ -87,7 +87,7 @@ module _ {St : Type 0} (means : St → facts.Store) (goal : ℕ → Goal) where
 
   abbrev pub reading : LinkedId St → Reading
   reading id = fold-LinkedId St Reading (λ layer. unwrap_or (option_map
-      (λ node. thunk_read (held (arc_value node))) layer.node) nothing_read) id
+      (λ node. thunk_read (thunk_of (arc_value node))) layer.node) nothing_read) id
 
   -- the suspension that an id stands for, and those that stand around another one
   abbrev pub linked_tree : LinkedId St → model.Thunk

@@ -18,10 +18,6 @@ use Rattle.unify_core.proofs.CycleLaws.{grown}
 use Rattle.unify_core.proofs.WalkLaws.{full-walk, walk-end}
 use Rattle.unify_core.proofs.NewLaws.{none_in_full}
 
--- the parts of a term without variables don't wait
-pub none_open : (t : Tm) (o : Option ℕ) → o ≡ greatest_in t → o ≡ None → parts_unless_ground t ≡ []
-none_open t o greatest none = ap (λ o. if is_some o then parts_of t else []) (sym greatest ∙ none)
-
 pub parts_with_variables : (t : Tm) (o : Option ℕ) → o ≡ greatest_in t → o ≢ None → parts_unless_ground t ≡ parts_of t
 parts_with_variables t None greatest some = absurd (some refl)
 parts_with_variables t (Some g) greatest some = ap (λ o. if is_some o then parts_of t else []) (sym greatest)
@@ -116,10 +112,6 @@ turn_falls bound h old rest new t w split reached parts =
 or_nothing : (a : Bool) → (a || false) ≡ a
 or_nothing true = refl
 or_nothing false = refl
-
--- the loop ends where nothing waits
-pub look_ends : (bound : Pairs) (x : ℕ) (waiting : List (Bor Term)) (whole : Bool) → waiting ≡ [] → stands_in bound x (waiting_trees waiting) ≡ whole → false ≡ whole
-look_ends bound x waiting whole none kept = ap (λ ts. stands_in bound x (waiting_trees ts)) (sym none) ∙ kept
 
 -- the first turn looks at the term itself
 pub first_finds : (bound : Pairs) → HasNoCycle bound → (x : ℕ) (t : Tm) (found : Bool) → found ≡ is_variable x (walk bound t) → found ≡ true → true ≡ occurs x (full bound t)

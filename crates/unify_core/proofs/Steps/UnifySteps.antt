@@ -9,10 +9,9 @@ use Rattle.kan_model.specs.Stores.Prims.{equation as pair_equation}
 use Rattle.kan_model.specs.Stores.Store.{Equation}
 use Rattle.unify_core.specs.declared.walking.LentBinding.{LentBinding}
 use Rattle.unify_core.specs.declared.unifying.Sides.{Sides}
-use Rattle.unify_core.specs.declared.unifying.Met.{Met}
 use Rattle.unify_core.specs.Walking.{Pairs}
 use Rattle.unify_core.specs.Cycles.{HasNoCycle}
-use Rattle.unify_core.specs.LentBindings.{lent_pair, with_lent, lent_sides, equation_of, waiting_equations, with_top, with_next, MeetsTo, StepTo}
+use Rattle.unify_core.specs.LentBindings.{lent_pair, with_lent, lent_sides, equation_of, waiting_equations, with_top, with_next, StepTo}
 use Rattle.unify_core.specs.Unifying.{Meeting, asked_by, Unifying}
 use Rattle.unify_core.proofs.CycleLaws.{grown, no_cycle}
 use Rattle.unify_core.proofs.Steps.LentBindingLaws.{with_lent-push}
@@ -38,29 +37,6 @@ pub popped : (old new : List Sides) (p : Option Sides) → old ≡ new ++ option
 popped old new None split none = ap waiting_equations (sym (none refl))
 popped old new (Some s) split none = sym (ap waiting_equations split ∙ equations-push new s)
 
--- a step by what two terms leave that were met
-pub step_same : (bound : Pairs) (lent lent' : List LentBinding) (behind left : List Equation) (m : Meeting) → MeetsTo bound lent Met.Same lent' m → left ≡ behind → StepTo bound lent behind (Some left) lent' m
-step_same bound lent lent' behind left Meeting.nothing (same, asks) e = (same, ap Some e)
-step_same bound lent lent' behind left (Meeting.parts first rest) (same, asks) e = cc
-step_same bound lent lent' behind left (Meeting.binding x t) binds e = (binds, e)
-step_same bound lent lent' behind left Meeting.clash (same, asks) e = cc
-
-pub step_parts : (bound : Pairs) (lent lent' : List LentBinding) (behind left : List Equation) (one other : Sides) (m : Meeting) → MeetsTo bound lent (Met.Parts one other) lent' m →
-    left ≡ equation_of one ∷ equation_of other ∷ behind → StepTo bound lent behind (Some left) lent' m
-step_parts bound lent lent' behind left one other Meeting.nothing (same, asks) e = cc
-step_parts bound lent lent' behind left one other (Meeting.parts first rest) (same, asks) e =
-    let front : equation_of one ≡ first = cc in
-    let back : equation_of other ≡ rest = cc in
-    (same, ap Some (e ∙ ap (λ d. d ∷ equation_of other ∷ behind) front ∙ ap (λ d. first ∷ d ∷ behind) back))
-step_parts bound lent lent' behind left one other (Meeting.binding x t) never e = absurd never
-step_parts bound lent lent' behind left one other Meeting.clash (same, asks) e = cc
-
-pub step_clash : (bound : Pairs) (lent lent' : List LentBinding) (behind : List Equation) (m : Meeting) → MeetsTo bound lent Met.Clash lent' m → StepTo bound lent behind None lent' m
-step_clash bound lent lent' behind Meeting.nothing (same, asks) = cc
-step_clash bound lent lent' behind (Meeting.parts first rest) (same, asks) = cc
-step_clash bound lent lent' behind (Meeting.binding x t) inside = inside
-step_clash bound lent lent' behind Meeting.clash (same, asks) = refl
-
 -- whatever the equations that are left add stands behind what was lent so far, and all together is what the whole equations add
 abbrev pub Leads : Pairs → List Equation → List LentBinding → List Equation → Type 0
 Leads bound whole lent es = (r : Option (List (Tm × Tm))) → Unifying (with_lent lent bound) es r → Unifying bound whole (option_map (λ more. lent_sides lent ++ more) r)
@@ -68,9 +44,6 @@ Leads bound whole lent es = (r : Option (List (Tm × Tm))) → Unifying (with_le
 nothing_before : (r : Option (List (Tm × Tm))) → r ≡ option_map (λ more. [] ++ more) r
 nothing_before None = refl
 nothing_before (Some more) = refl
-
-leads_whole : (bound : Pairs) (whole : List Equation) → Leads bound whole [] whole
-leads_whole bound whole r d = subst (Unifying bound whole) (nothing_before r) d
 
 -- one more lent binding
 one_more : (lent lent' : List LentBinding) (one : LentBinding) (x : ℕ) (t : Tm) → lent_pair one ≡ (x, t) → lent' ≡ lent ++ one ∷ [] → (r : Option (List (Tm × Tm))) →
@@ -137,11 +110,6 @@ pub turn_off : (bound : Pairs) (whole : List Equation) (behind : List Equation) 
 turn_off bound whole behind next s lent lent' left is leads moved stops =
     step_off bound whole (equation_of s) behind lent lent' (subst (λ n. Leads bound whole lent (with_next n behind)) is leads)
     (subst (λ l. StepTo bound lent behind l lent' (asked_by (with_lent lent bound) (equation_of s))) stops moved)
-
--- before the first turn nothing is lent
-pub starts : (bound : Pairs) (whole : List Equation) (lent : List LentBinding) → lent ≡ [] → HasNoCycle bound → Leads bound whole lent whole × HasNoCycle (with_lent lent bound)
-starts bound whole lent nothing h =
-    (subst (λ ls. Leads bound whole ls whole) (sym nothing) (leads_whole bound whole), subst (λ ls. HasNoCycle (with_lent ls bound)) (sym nothing) h)
 
 -- the loop ends where nothing is next
 pub turns_end : (bound : Pairs) (whole behind : List Equation) (next : Option Sides) (lent : List LentBinding) → next ≡ None → Leads bound whole lent (with_next next behind) →

@@ -6,7 +6,7 @@ use Rattle.goal_forms.specs.Heights.{is_low_datum, AreLow}
 use Rattle.goal_forms.specs.FlatHeights.{WorksLow}
 use Rattle.goal_forms.specs.Parts.{sites}
 use Rattle.goal_forms.specs.Places.{are_below, stack_sites}
-use Rattle.goal_forms.specs.TermSteps.{site_size}
+use Rattle.goal_forms.specs.Steps.TermSteps.{site_size}
 use Rattle.goal_forms.specs.Unnamed.{sites_unnamed, works_unnamed}
 use Rattle.goal_forms.specs.Sizes.{works_parts}
 use Rattle.goal_forms.specs.Flattening.{finish, works_size}

@@ -8,7 +8,7 @@ use Rattle.goal_syntax.specs.Building.GrownTables.{Grows}
 use Rattle.goal_syntax.specs.Building.InContext.{list_goal, goals_entries, list_entries}
 use Rattle.goal_syntax.specs.Building.InContext.{left_width, list_width, KeepsLowIn, NamesIn}
 use Rattle.goal_syntax.specs.Building.Widths.{Widens}
-use Rattle.goal_syntax.specs.Building.WorkDone.{AreMade, goals_made, made_later, width_made}
+use Rattle.goal_syntax.specs.Building.WorkSteps.{AreMade, goals_made, made_later, width_made}
 use Rattle.goal_syntax.proofs.build_goal.build_goals.Given as goal
 
 -- what is made once all work is done is the goal of the list, and the tables grew from those before

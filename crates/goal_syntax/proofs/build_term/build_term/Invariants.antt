@@ -9,7 +9,7 @@ use Rattle.kan_terms.specs.Tree.{size}
 use Rattle.goal_syntax.specs.Building.Entries.{entries}
 use Rattle.goal_forms.specs.Heights.{AreLow}
 use Rattle.goal_forms.specs.Parts.{sites}
-use Rattle.goal_forms.specs.TermSteps.{task_form}
+use Rattle.goal_forms.specs.Steps.TermSteps.{task_form}
 use Rattle.goal_forms.specs.Places.{are_below}
 use Rattle.goal_syntax.specs.Building.Named.{Lacks, data_unnamed}
 use Rattle.goal_syntax.proofs.build_term.build_term.Given as goal

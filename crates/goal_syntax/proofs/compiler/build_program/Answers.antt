@@ -3,7 +3,7 @@ use Rattle.kan_model.specs.Programs.Drafts.{tables}
 use Rattle.goal_forms.specs.Parts.{sites, site_at}
 use Rattle.goal_forms.specs.RelationTables.{relations}
 use Rattle.goal_syntax.proofs.Compiling.CompilingLaws.{program_meant}
-use Rattle.goal_syntax.proofs.Compiling.ClosingLaws.{nothing_is_open}
+use Rattle.goal_syntax.proofs.Compiling.ClosingLaws.{all_are_closed}
 use Rattle.goal_syntax.proofs.Compiling.CompilingLaws.{names_both}
 use Rattle.std.proofs.Common.{arith, ap}
 use Rattle.goal_syntax.proofs.Building.EntryLaws.{room_left}
@@ -28,7 +28,7 @@ returns-clause-meant c =
 pub close-compiled-requires-clause-closed : goal.close-compiled-requires-clause-closed
 close-compiled-requires-clause-closed c =
     let ds = sites c.args.context.now.flat.now in
-    nothing_is_open c.args.context.now.dialect c.args.context.now.names.now ds (map (site_at ds) c.args.library.now) (map (site_at ds) c.args.forms.now) (relations c.args.context.now.relations.now)
+    all_are_closed c.args.context.now.dialect c.args.context.now.names.now ds (map (site_at ds) c.args.library.now) (map (site_at ds) c.args.forms.now) (relations c.args.context.now.relations.now)
     (tables c.new-draft.result) (tables c.build_library.new.draft) (tables c.build_text.new.draft) c.new-queries.result c.build_text.new.queries
     c.requires.relations c.new-draft.ensures c.new-queries.ensures c.in_ok-build_library.ensures.means c.in_ok-build_text.ensures.means
     c.in_ok-build_library.ensures.closed c.in_ok-build_text.ensures.closed c.build_text.new.draft.grown c.requires.low c.requires.alone c.requires.accepted

@@ -3,7 +3,7 @@ use Rattle.std.specs.List.{flat_map}
 use Rattle.kan_grammar.specs.Texts.TextFaults.{use_faults, term_faults}
 use Rattle.goal_syntax.specs.Judging.FaultLists.{fault_list}
 use Rattle.goal_forms.specs.Parts.{sites}
-use Rattle.goal_forms.specs.TermSteps.{task_form}
+use Rattle.goal_forms.specs.Steps.TermSteps.{task_form}
 use Rattle.goal_syntax.specs.Judging.TermsLeft.{waiting_uses, waiting_size}
 use Rattle.goal_syntax.proofs.judge_term.judge_term.Given as goal
 

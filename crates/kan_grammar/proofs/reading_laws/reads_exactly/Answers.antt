@@ -1,4 +1,4 @@
-use Rattle.kan_grammar.proofs.Data.Exactly.{reads_exactly}
+use Rattle.kan_grammar.proofs.Data.ReadingLaws.{reads_exactly}
 use Rattle.kan_grammar.proofs.reading_laws.reads_exactly.Goals as goal
 
 pub returns : goal.returns

@@ -1,4 +1,4 @@
-use Rattle.kan_grammar.proofs.Data.First.{refuses_first}
+use Rattle.kan_grammar.proofs.Data.FirstRefusalLaws.{refuses_first}
 use Rattle.kan_grammar.proofs.reading_laws.refuses_first.Goals as goal
 
 pub returns : goal.returns

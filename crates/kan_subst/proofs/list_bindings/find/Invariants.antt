@@ -1,5 +1,5 @@
 use Rattle.std.proofs.Common.{◌≡◌}
-use Rattle.kan_subst.proofs.Found.{bound_from}
+use Rattle.kan_subst.proofs.FoundLaws.{bound_from}
 use Rattle.kan_subst.proofs.list_bindings.find.Given as goal
 
 -- the variable's term is that in the bindings which are left

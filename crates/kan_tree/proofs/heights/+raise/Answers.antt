@@ -1,5 +1,5 @@
 use Rattle.std.proofs.Common.{◌∙◌, suc, ◌≡◌, ◌+◌, arith}
-use Rattle.kan_tree.proofs.Looks.{if_ok_map}
+use Rattle.kan_tree.proofs.LookLaws.{if_ok_map}
 use Rattle.kan_tree.proofs.heights.+raise.Goals as goal
 
 pub returns-clause-same : goal.returns-clause-same

@@ -1,8 +1,8 @@
 use Rattle.std.proofs.Common.{ap, ◌∙◌, suc}
 use Rattle.std.specs.Arc.{arc_value}
 use Rattle.kan_tree.specs.Nodes.{look}
-use Rattle.kan_tree.proofs.Digits.{value_above}
-use Rattle.kan_tree.proofs.Looks.{look_up}
+use Rattle.kan_tree.proofs.DigitLaws.{value_above}
+use Rattle.kan_tree.proofs.LookLaws.{look_up}
 use Rattle.kan_tree.proofs.heights.above.Goals as goal
 
 pub returns : goal.returns

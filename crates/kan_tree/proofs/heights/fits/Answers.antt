@@ -1,4 +1,4 @@
-use Rattle.kan_tree.proofs.Digits.{fits_at}
+use Rattle.kan_tree.proofs.DigitLaws.{fits_at}
 use Rattle.kan_tree.proofs.heights.fits.Goals as goal
 
 pub returns-else-level-ge15 : goal.returns-else-level-ge15

@@ -3,7 +3,7 @@ use Rattle.std.specs.Option.{option_map}
 use Rattle.std.specs.Arc.{arc_value}
 use Rattle.kan_tree.specs.Nodes.{look}
 use Rattle.kan_tree.proofs.SlotLaws.{after_with}
-use Rattle.kan_tree.proofs.Looks.{inner_made}
+use Rattle.kan_tree.proofs.LookLaws.{inner_made}
 use Rattle.kan_tree.proofs.nodes.+fresh.Goals as goal
 
 pub returns : goal.returns

@@ -5,7 +5,7 @@ use Rattle.std.specs.Arc.{arc_value}
 use Rattle.std.proofs.lemmas.Result.{on_ok_weaker}
 use Rattle.kan_tree.specs.Lending.{with_entry}
 use Rattle.kan_tree.proofs.SlotLaws.{after_with, at_with}
-use Rattle.kan_tree.proofs.Looks.{leaf_high, inner_low, inner_put, inner_kept, inner_same, below_some, below_none, on_err_map}
+use Rattle.kan_tree.proofs.LookLaws.{leaf_high, inner_low, inner_put, inner_kept, inner_same, below_some, below_none, on_err_map}
 use Rattle.std.specs.Prelude.{slice_get, Some, if◌then◌else◌}
 use Rattle.kan_tree.specs.Nodes.{look, agree}
 use Rattle.kan_tree.proofs.nodes.+put.Goals.{put_node-in-Leaf+else-level-eq0, put_node-in-Inner+else-level-ne0}

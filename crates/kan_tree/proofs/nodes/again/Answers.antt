@@ -1,4 +1,4 @@
-use Rattle.kan_tree.proofs.Looks.{leaf_same, inner_same}
+use Rattle.kan_tree.proofs.LookLaws.{leaf_same, inner_same}
 use Rattle.kan_tree.proofs.nodes.again.Goals as goal
 
 pub returns-in_ok-again-in-Leaf : goal.returns-in_ok-again-in-Leaf

@@ -1,6 +1,6 @@
 use Rattle.std.proofs.Common.{sym, ◌∙◌, ap, ◌-◌, arith}
 use Rattle.kan_tree.specs.Nodes.{look}
-use Rattle.kan_tree.proofs.Looks.{found_inner, missing_inner}
+use Rattle.kan_tree.proofs.LookLaws.{found_inner, missing_inner}
 use Rattle.kan_tree.proofs.nodes.find.Goals as goal
 
 pub returns-in-None : goal.returns-in-None

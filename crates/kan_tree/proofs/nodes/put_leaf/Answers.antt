@@ -2,7 +2,7 @@ use Rattle.std.proofs.Common.{ap, eqb, refl}
 use Rattle.std.specs.Option.{option_map}
 use Rattle.std.proofs.lemmas.Result.{on_ok_weaker}
 use Rattle.kan_tree.proofs.SlotLaws.{after_with}
-use Rattle.kan_tree.proofs.Looks.{leaf_put, leaf_same, on_err_map}
+use Rattle.kan_tree.proofs.LookLaws.{leaf_put, leaf_same, on_err_map}
 use Rattle.kan_tree.proofs.nodes.put_leaf.Goals as goal
 
 pub returns-clause-ok : goal.returns-clause-ok

@@ -1,5 +1,5 @@
 use Rattle.std.proofs.Common.{sym, subst}
-use Rattle.kanren_run.specs.Tags.{HasNames}
+use Rattle.kan_model.specs.Answers.Answer.{HasNames}
 use Rattle.kanren_run.proofs.WritingLaws.{each-at, text_more}
 use Rattle.kanren_run.proofs.writing.print_answers.Goals as goal
 

@@ -3,7 +3,7 @@ use Rattle.std.specs.Io.KnownBytes.{Appends}
 use Rattle.std.proofs.lemmas.Bool.{and_parts}
 use Rattle.kan_model.specs.Programs.Closed as programs
 use Rattle.kan_model.specs.Programs.Closed.{query_of}
-use Rattle.kanren_run.specs.Tags.{HasNames}
+use Rattle.kan_model.specs.Answers.Answer.{HasNames}
 use Rattle.kan_model.specs.Each.{Each}
 use Rattle.kanren_run.specs.Writing.{Stops}
 use Rattle.kanren_run.specs.declared.writing.Stop.TheVariants.{Memory}

@@ -1,6 +1,6 @@
 use Rattle.std.proofs.Common.{◌≡◌, ◌+◌, ◌≤◌, length}
 use Rattle.kan_search.specs.Searches.{answers_left}
-use Rattle.kanren_run.specs.Tags.{HasNames}
+use Rattle.kan_model.specs.Answers.Answer.{HasNames}
 use Rattle.kan_model.specs.Each.{Each}
 use Rattle.kanren_run.specs.Writing.{Written, rest_text}
 use Rattle.kanren_run.proofs.writing.write_search.Given as goal

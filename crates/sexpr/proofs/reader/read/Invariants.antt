@@ -1,4 +1,4 @@
--- What is open, with the tokens that are left, reads as the whole text does, and so its names come to those of the whole.
+-- What is unclosed, with the tokens that are left, reads as the whole text does, and so its names come to those of the whole.
 use Rattle.std.proofs.Common.{◌≡◌, ◌+◌, length}
 use denote.Text.{Utf8}
 use denote.Shadow.{shadow}

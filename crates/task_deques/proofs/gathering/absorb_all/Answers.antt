@@ -1,6 +1,6 @@
 use Rattle.std.proofs.Common.{rules, ◌≡◌, [], map, subst}
 use Rattle.task_deques.specs.Whole.{IsAll}
-use Rattle.task_deques.specs.Holders.{pushed, taken, pushed_through, taken_through, deque_part, stealer_part}
+use Rattle.task_deques.specs.Holders.{pushed_to, taken_from, pushed_through, taken_through, deque_part, stealer_part}
 use Rattle.task_deques.proofs.Lists.{then}
 use Rattle.task_deques.proofs.GatherLaws.{victim_below, victim_is, absorbed_all, absorbed_list, whole_deques}
 use Rattle.task_deques.proofs.gathering.absorb_all.Goals as goal
@@ -21,8 +21,8 @@ loop-stealer-preserved g c =
     let h = c.loop-stealer.invariant in
     record {
       all = absorbed_all ds ss rest s _ c.index_mut.result.now c.absorb.new.self c.index_mut.ensures.value is h.all c.absorb.ensures.part;
-      pushed = then h.pushed (absorbed_list pushed pushed_through ds ss rest s _ c.index_mut.result.now c.absorb.new.self c.index_mut.ensures.value is h.all c.absorb.ensures.pushed);
-      taken = then h.taken (absorbed_list taken taken_through ds ss rest s _ c.index_mut.result.now c.absorb.new.self c.index_mut.ensures.value is h.all c.absorb.ensures.taken);
+      pushed = then h.pushed (absorbed_list pushed_to pushed_through ds ss rest s _ c.index_mut.result.now c.absorb.new.self c.index_mut.ensures.value is h.all c.absorb.ensures.pushed);
+      taken = then h.taken (absorbed_list taken_from taken_through ds ss rest s _ c.index_mut.result.now c.absorb.new.self c.index_mut.ensures.value is h.all c.absorb.ensures.taken);
     }
 
 pub returns-clause-all : goal.returns-clause-all

@@ -1,5 +1,5 @@
 use Rattle.std.proofs.Common.{ap, ◌∙◌}
-use Rattle.task_deques.specs.Holders.{taken}
+use Rattle.task_deques.specs.Holders.{taken_from}
 use Rattle.task_deques.proofs.GatherLaws.{drained, drained_whole}
 use Rattle.task_deques.proofs.gathering.drain.Goals as goal
 
@@ -10,8 +10,8 @@ loop-task-preserved g c =
     record {
       whole = ap (λ s. s.1) e.same ∙ h.whole;
       same = e.pushed ∙ h.same;
-      moved = drained (taken c.loop-task.deque) (taken c.take.new.self) c.args.left.now.items (taken c.args.deque) c.loop-task.left.items c.push.new.self.items c.in-Some.task e.some c.in-Ok.ensures.items h.moved;
+      moved = drained (taken_from c.loop-task.deque) (taken_from c.take.new.self) c.args.left.now.items (taken_from c.args.deque) c.loop-task.left.items c.push.new.self.items c.in-Some.task e.some c.in-Ok.ensures.items h.moved;
     }
 
 pub returns : goal.returns
-returns g c = let h = c.loop-task.invariant in drained_whole c.loop-task.deque _ c.args.left.now.items (taken c.args.deque) c.loop-task.left.items h.whole c.in_default.ensures.empty h.same h.moved
+returns g c = let h = c.loop-task.invariant in drained_whole c.loop-task.deque _ c.args.left.now.items (taken_from c.args.deque) c.loop-task.left.items h.whole c.in_default.ensures.empty h.same h.moved

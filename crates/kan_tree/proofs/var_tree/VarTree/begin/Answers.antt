@@ -3,7 +3,7 @@ use Rattle.std.specs.Prelude.{if◌then◌else◌}
 use Rattle.std.specs.Arc.{arc_value}
 use Rattle.kan_tree.specs.Whole.{key_limit}
 use Rattle.kan_tree.specs.Nodes.{look}
-use Rattle.kan_tree.proofs.Digits.{value_put, none_if}
+use Rattle.kan_tree.proofs.DigitLaws.{value_put, none_if}
 use Rattle.kan_tree.proofs.FrontLaws.{within_nodes}
 use Rattle.kan_tree.proofs.var_tree.VarTree.begin.Goals as goal
 

@@ -3,7 +3,7 @@ use Rattle.std.specs.Prelude.{if◌then◌else◌}
 use Rattle.std.specs.Arc.{arc_value}
 use Rattle.std.proofs.lemmas.Result.{on_ok_weaker}
 use Rattle.kan_tree.specs.Nodes.{look}
-use Rattle.kan_tree.proofs.Digits.{value_put}
+use Rattle.kan_tree.proofs.DigitLaws.{value_put}
 use Rattle.kan_tree.proofs.FrontLaws.{within_nodes, nodes_at}
 use Rattle.kan_tree.proofs.var_tree.VarTree.put_in_nodes.Goals as goal
 

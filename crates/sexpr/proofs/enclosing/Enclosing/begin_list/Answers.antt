@@ -1,4 +1,4 @@
--- A list is opened inside what is open.
+-- A list is opened inside what is unclosed.
 use Rattle.std.proofs.Common.{◌+◌, refl}
 use Rattle.sexpr.proofs.FrameLaws.{takes_opening}
 use Rattle.sexpr.proofs.enclosing.Enclosing.begin_list.Goals as goal

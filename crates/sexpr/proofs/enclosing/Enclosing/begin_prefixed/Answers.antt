@@ -1,4 +1,4 @@
--- A prefix is taken inside what is open.
+-- A prefix is taken inside what is unclosed.
 use Rattle.std.proofs.Common.{◌+◌, refl}
 use Rattle.sexpr.proofs.FrameLaws.{takes_prefix}
 use Rattle.sexpr.proofs.enclosing.Enclosing.begin_prefixed.Goals as goal

@@ -8,9 +8,9 @@ use Rattle.kan_grammar.specs.Data.Written.{Written, single, list, prefixed, clos
 use Rattle.kan_grammar.specs.Data.Enclosing.{Place, top, in_list, after_dot, after_prefix, Enclosing, awaiting, ended, depth, row, as_written}
 use Rattle.kan_grammar.specs.Data.Faults.{Fault, refusal, after, Progress, going, stopped, settle, step, run, data_are, refused, finish, beginning, read_tokens}
 use Rattle.kan_grammar.specs.Data.Laws.{BeginsText, reach, StopsAt, IsCutOff, RefusesFirst}
-use Rattle.kan_grammar.proofs.Data.Complete.{and_left, and_right, and_both, past}
-use Rattle.kan_grammar.proofs.Data.Sound.{spelled, spelled_enclosing, Sound, SoundEnclosing, IsWide, are_allowed-snoc, row_allowed, row_allowed-snoc, row-close, row-dotted, spell_all-snoc, spell_within-row}
-use Rattle.kan_grammar.proofs.Data.Exactly.{run-stopped, run-spelled, reads_exactly}
+use Rattle.kan_grammar.proofs.Data.CompletenessLaws.{and_left, and_right, and_both, past}
+use Rattle.kan_grammar.proofs.Data.SoundnessLaws.{spelled, spelled_enclosing, Sound, SoundEnclosing, IsWide, are_allowed-snoc, row_allowed, row_allowed-snoc, row-close, row-dotted, spell_all-snoc, spell_within-row}
+use Rattle.kan_grammar.proofs.Data.ReadingLaws.{run-stopped, run-spelled, reads_exactly}
 
 no_bytes : (at : ℕ) → tokens_from at 0 [] ≡ []
 unfolding tokens_from
@@ -30,7 +30,7 @@ unfolding tokens_from piece
 close_cut round at bytes = refl
 close_cut square at bytes = refl
 
--- a datum at a place can be gone on with until nothing is open
+-- a datum at a place can be gone on with until nothing is unclosed
 completes : (limit next : ℕ) (p : Place Written) (d : Written) → Sound limit p → is_allowed limit (depth p) d ≡ true → Completes limit next p d
 completes limit next (top es) d g h = (es ++ d ∷ [], [], spell_all-snoc es d [] ∙ ap (λ (ts : List Placed). spell_all es (spell d ts)) (sym (no_bytes next)), are_allowed-snoc limit es d g h)
 completes limit next (in_list outer at s es) d g h =
@@ -55,7 +55,7 @@ row-depth limit k count e [] h =
 row-depth limit k count e (f ∷ es) h =
     let n : count + suc (length es) ≡ suc count + length es = omega arith in rw n (row-depth limit k (suc count) f es (and_right _ _ h))
 
--- what is open can be completed
+-- what is unclosed can be completed
 abbrev EnclosingCompletes : ℕ → ℕ → Enclosing Written → Type 0
 EnclosingCompletes limit next o = (ds : List Written) × (bytes : List ℕ) × (spell_all ds [] ≡ spelled_enclosing o (tokens_from next 0 bytes)) × IsTrue (are_allowed limit ds)
 

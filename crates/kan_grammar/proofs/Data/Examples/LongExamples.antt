@@ -2,7 +2,7 @@
 use Rattle.std.specs.Prelude.{◌≡◌, ℕ, List, [], ◌∷◌, replicate, flat_map, refl}
 use Rattle.kan_refusals.specs.declared.refusals.Refusal.{Refusal}
 use Rattle.kan_grammar.specs.Data.Faults.{refused, fault}
-use Rattle.kan_grammar.proofs.Data.Examples.{read_ascii}
+use Rattle.kan_grammar.proofs.Data.Examples.Readings.{read_ascii}
 
 -- truth values in a row
 truths : ℕ → List ℕ

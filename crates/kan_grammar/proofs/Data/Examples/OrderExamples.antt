@@ -2,7 +2,7 @@
 use Rattle.std.specs.Prelude.{◌≡◌, refl}
 use Rattle.kan_refusals.specs.declared.refusals.Refusal.{Refusal}
 use Rattle.kan_grammar.specs.Data.Faults.{refused, fault}
-use Rattle.kan_grammar.proofs.Data.Examples.{read}
+use Rattle.kan_grammar.proofs.Data.Examples.Readings.{read}
 use lib.Chars.{codes}
 
 -- the other shape is asked before the dot
@@ -20,7 +20,7 @@ prefix_before_shape : read (codes "(']") ≡ refused (fault 1 Refusal.BadToken)
 unfolding read
 prefix_before_shape = refl
 
--- a close after a prefix where no list is open
+-- a close after a prefix where no list is unclosed
 prefix_at_the_top : read (codes "')") ≡ refused (fault 0 Refusal.BadToken)
 unfolding read
 prefix_at_the_top = refl

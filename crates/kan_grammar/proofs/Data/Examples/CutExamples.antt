@@ -2,7 +2,7 @@
 use Rattle.std.specs.Prelude.{◌≡◌, ℕ, true, List, [], take, refl}
 use Rattle.kan_refusals.specs.declared.refusals.Refusal.{Refusal}
 use Rattle.kan_grammar.specs.Data.Faults.{data_are, refused, fault}
-use Rattle.kan_grammar.proofs.Data.Examples.{read, is_read}
+use Rattle.kan_grammar.proofs.Data.Examples.Readings.{read, is_read}
 use lib.Chars.{codes}
 
 -- a call cut off at each byte

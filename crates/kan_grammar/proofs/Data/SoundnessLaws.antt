@@ -1,4 +1,4 @@
--- What tokens that are read have spelled: at each token the data so far and what is open.
+-- What tokens that are read have spelled: at each token the data so far and what is unclosed.
 use Rattle.std.proofs.Common.{◌≡◌, ℕ, suc, ◌+◌, Bool, true, false, ◌&&◌, nat_le, nat_lt, List, [], ◌∷◌, ◌++◌, length, refl, ap, ◌∙◌, arith}
 use Rattle.std.proofs.lemmas.Bool.{lt-ltb}
 use Rattle.std.specs.Prelude.{Option, Some, None, IsTrue, if◌then◌else◌}
@@ -7,7 +7,7 @@ use Rattle.kan_grammar.specs.Data.Words.{Atom, symbol, string, number, truth, ou
 use Rattle.kan_grammar.specs.Data.Written.{Written, Within, single, list, prefixed, close, dotted, spell, spell_within, spell_all, is_allowed_atom, is_allowed, are_allowed_within, are_allowed, deepest}
 use Rattle.kan_grammar.specs.Data.Enclosing.{Place, top, in_list, after_dot, after_prefix, Enclosing, awaiting, ended, depth, put, row, as_written}
 use Rattle.kan_grammar.specs.Data.Faults.{Fault, refusal, first_fault, after, is_out_of_range, is_reserved_name}
-use Rattle.kan_grammar.proofs.Data.Complete.{and_left, and_right, and_both}
+use Rattle.kan_grammar.proofs.Data.CompletenessLaws.{and_left, and_right, and_both}
 
 -- data behind others are spelled behind them
 pub spell_all-snoc : (ds : List Written) (d : Written) (rest : List Placed) → spell_all (ds ++ d ∷ []) rest ≡ spell_all ds (spell d rest)
@@ -41,7 +41,7 @@ abbrev pub row_allowed : ℕ → ℕ → ℕ → List Written → Bool
 row_allowed limit k count [] = true
 row_allowed limit k count (d ∷ ds) = is_allowed limit (k + suc count) d && row_allowed limit k (suc count) ds
 
--- the data so far are allowed, and what is open stands no deeper than it may
+-- the data so far are allowed, and what is unclosed stands no deeper than it may
 abbrev pub Sound : ℕ → Place Written → Type 0
 Sound limit (top ds) = IsTrue (are_allowed limit ds)
 Sound limit (in_list outer at s ds) = Sound limit outer × IsTrue (nat_le (depth outer) limit) × IsTrue (row_allowed limit (depth outer) 0 ds)

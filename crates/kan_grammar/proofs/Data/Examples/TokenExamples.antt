@@ -2,7 +2,7 @@
 use Rattle.std.specs.Prelude.{◌≡◌, pos, negsuc, true, false, [], ◌∷◌, refl}
 use Rattle.kan_grammar.specs.Data.Tokens.{placed}
 use Rattle.kan_grammar.specs.Data.Words.{symbol, number, truth, reserved, out_of_range, opening, closing, prefix, dot, atom, bad, round, square, quote, quasiquote, unquote}
-use Rattle.kan_grammar.proofs.Data.Examples.{cut}
+use Rattle.kan_grammar.proofs.Data.Examples.Readings.{cut}
 use lib.Chars.{codes}
 
 word_beginning_with_a_digit : cut (codes "1+") ≡ placed 0 bad ∷ []

@@ -37,10 +37,6 @@ module _ {T M : Type 0} (m : T → M) where
   inner_low zero key slots h = ap (option_map m) (in_leaf-Inner slots _)
   inner_low (suc level) key slots h = absurd (omega (arith, h))
 
-  map_map : {A : Type 0} (f : A → T) (r : Option A) → option_map (λ x. m (f x)) r ≡ option_map m (option_map f r)
-  map_map f None = refl
-  map_map f (Some x) = refl
-
   look_leaf : (level key d : ℕ) (slots : Slots T) → level ≡ 0 → d ≡ digit_of 0 key → look m level key (Leaf slots) ≡ option_map m (at slots d)
   look_leaf zero key d slots h e = ap (option_map m) (in_leaf-Leaf slots _ ∙ ap (at slots) (sym e))
   look_leaf (suc level) key d slots h e = absurd (omega (arith, h))

@@ -6,8 +6,8 @@ use Rattle.kan_grammar.specs.Data.Written.{Written, spell_all, are_allowed, deep
 use Rattle.kan_grammar.specs.Data.Enclosing.{top, in_list, after_dot, after_prefix, Enclosing, awaiting, ended, as_written}
 use Rattle.kan_grammar.specs.Data.Faults.{Fault, refusal, after, Progress, going, stopped, settle, run, data_are, answer_at_end, finish, beginning, read_tokens}
 use Rattle.kan_grammar.specs.Data.Laws.{ReadsExactly}
-use Rattle.kan_grammar.proofs.Data.Complete.{past, spelled_are_read}
-use Rattle.kan_grammar.proofs.Data.Sound.{spelled_enclosing, SoundEnclosing, IsWide, after-sound, after-spelled}
+use Rattle.kan_grammar.proofs.Data.CompletenessLaws.{past, spelled_are_read}
+use Rattle.kan_grammar.proofs.Data.SoundnessLaws.{spelled_enclosing, SoundEnclosing, IsWide, after-sound, after-spelled}
 
 -- a reading that has stopped stays there
 pub run-stopped : (f : Fault) (ts : List Placed) → run as_written (stopped f) ts ≡ stopped f
@@ -15,7 +15,7 @@ unfolding run
 run-stopped f [] = refl
 run-stopped f (t ∷ ts) = run-stopped f ts
 
--- tokens that are read so far are spelled by what is open then, and it is sound
+-- tokens that are read so far are spelled by what is unclosed then, and it is sound
 pub run-spelled : (limit : ℕ) → IsWide limit → (o : Enclosing Written) (ts : List Placed) (later : Enclosing Written) → run as_written (going o) ts ≡ going later → SoundEnclosing limit o → SoundEnclosing limit later × ((rest : List Placed) → spelled_enclosing later rest ≡ spelled_enclosing o (ts ++ rest))
 unfolding run
 run-spelled limit wide o [] later h g = let e : o ≡ later = cc in (rw e at g, λ rest. ap (λ (x : Enclosing Written). spelled_enclosing x rest) (sym e))
@@ -28,7 +28,7 @@ run-spelled limit wide o (placed at t ∷ ts) later h g = by_answer (refusal o a
         let same : stopped f ≡ going later = sym (run-stopped f ts) ∙ stop in
         absurd cc
 
--- what is open when all is read
+-- what is unclosed when all is read
 all_read : (ts : List Placed) (o : Enclosing Written) (ds : List Written) → run as_written beginning ts ≡ going o → answer_at_end o ≡ data_are ds → (spell_all ds [] ≡ ts) × IsTrue (are_allowed deepest ds)
 all_read ts (awaiting (top es)) ds h e =
     let same : es ≡ ds = cc in

@@ -9,7 +9,7 @@ use Rattle.kan_model.specs.Answers.Answer.{named_variables, names_where}
 use Rattle.kan_model.specs.Answers.Order.{each_once, put_in_order, in_order, place_of, stands_in}
 use Rattle.kan_model.proofs.ListLaws.{Each-like, list_all-from_Each}
 use Rattle.kan_model.specs.Each.{Each}
-use Rattle.pull_bounds.proofs.Longer.{value_at-next}
+use Rattle.pull_bounds.proofs.LongerValuations.{value_at-next}
 
 module _ {X : Type 0} where
   -- what holds of the chosen elements and of the others
@@ -98,9 +98,6 @@ pub values_pass : (R : Gd → Bool) (p : ℕ → Bool) (h : ℕ → Gd) → ((v 
 values_pass R p h each before [] = refl
 values_pass R p h each before (x ∷ xs) = by (p x) refl (rest (values_pass R p h each (before ++ h x ∷ []) xs))
   where
-    test : List Gd → ℕ → Bool
-    test l m = R (value_at l m)
-
     rest : list_all (λ m. R (value_at ((before ++ h x ∷ []) ++ map h xs) m)) (names_where p (length (before ++ h x ∷ [])) xs) ≡ true →
         list_all (λ m. R (value_at (before ++ h x ∷ map h xs) m)) (names_where p (suc (length before)) xs) ≡ true
     rest k =

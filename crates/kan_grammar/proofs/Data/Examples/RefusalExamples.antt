@@ -3,7 +3,7 @@ use Rattle.std.specs.Prelude.{◌≡◌, [], ◌∷◌, refl}
 use Rattle.std.specs.Str.Lossy.{utf8_valid_len}
 use Rattle.kan_refusals.specs.declared.refusals.Refusal.{Refusal}
 use Rattle.kan_grammar.specs.Data.Faults.{refused, fault}
-use Rattle.kan_grammar.proofs.Data.Examples.{read}
+use Rattle.kan_grammar.proofs.Data.Examples.Readings.{read}
 use lib.Chars.{codes}
 
 no_utf8 : read (0x28 ∷ 0xFF ∷ []) ≡ refused (fault 1 Refusal.NotUtf8)

@@ -1,6 +1,6 @@
 -- Texts of data.
 use Rattle.std.specs.Prelude.{◌≡◌, [], ◌∷◌, refl}
-use Rattle.kan_grammar.proofs.Data.Examples.{reprinted}
+use Rattle.kan_grammar.proofs.Data.Examples.Readings.{reprinted}
 use lib.Chars.{codes}
 
 quoted_pair : reprinted (codes "'(a . b)") ≡ codes "(quote (a . b))" ∷ []

@@ -2,7 +2,7 @@
 use Rattle.std.specs.Prelude.{◌≡◌, true, [], ◌∷◌, ◌++◌, replicate, refl}
 use Rattle.kan_refusals.specs.declared.refusals.Refusal.{Refusal}
 use Rattle.kan_grammar.specs.Data.Faults.{refused, fault}
-use Rattle.kan_grammar.proofs.Data.Examples.{read_ascii, is_read}
+use Rattle.kan_grammar.proofs.Data.Examples.Readings.{read_ascii, is_read}
 
 openings_deep : read_ascii (replicate 2049 40) ≡ refused (fault 2048 Refusal.UnclosedList)
 unfolding read_ascii

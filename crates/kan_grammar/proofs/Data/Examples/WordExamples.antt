@@ -4,7 +4,7 @@ use Rattle.kan_refusals.specs.declared.refusals.Refusal.{Refusal}
 use Rattle.kan_grammar.specs.Data.Words.{symbol, round, square}
 use Rattle.kan_grammar.specs.Data.Written.{single, list, element, dotted, close}
 use Rattle.kan_grammar.specs.Data.Faults.{data_are, refused, fault}
-use Rattle.kan_grammar.proofs.Data.Examples.{read, is_read}
+use Rattle.kan_grammar.proofs.Data.Examples.Readings.{read, is_read}
 use lib.Chars.{codes}
 
 -- a bad word

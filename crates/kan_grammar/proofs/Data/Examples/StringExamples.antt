@@ -5,7 +5,7 @@ use Rattle.kan_grammar.specs.Data.Tokens.{placed}
 use Rattle.kan_grammar.specs.Data.Words.{symbol, string, opening, closing, round, prefix, quote, atom, bad, bad_string}
 use Rattle.kan_grammar.specs.Data.Faults.{Reading, refused, fault}
 use Rattle.kan_grammar.specs.Data.Written.{Written}
-use Rattle.kan_grammar.proofs.Data.Examples.{cut, read, reprinted}
+use Rattle.kan_grammar.proofs.Data.Examples.Readings.{cut, read, reprinted}
 use lib.Chars.{codes}
 
 empty_string : cut (codes "\"\"") ≡ placed 0 (atom (string [])) ∷ []

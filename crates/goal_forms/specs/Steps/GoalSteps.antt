@@ -7,7 +7,7 @@ use Rattle.kan_grammar.specs.Texts.TermForms.{term_form}
 use Rattle.kan_grammar.specs.Texts.GoalForms.{GoalForm, goal_forms, clause_forms, term_forms}
 use Rattle.kan_grammar.specs.Texts.Resolved.{Names, within}
 use Rattle.goal_forms.specs.Parts.{site_at}
-use Rattle.goal_forms.specs.TermSteps.{site_size}
+use Rattle.goal_forms.specs.Steps.TermSteps.{site_size}
 use Rattle.goal_forms.specs.declared.goal.Goal.{Goal}
 use Rattle.goal_forms.specs.declared.goal.Goal.TheVariants.{Succeed, Fail, Same, Differ, Symbol}
 use Rattle.goal_forms.specs.declared.goal.Goal.TheVariants.{Number, Text, Absent, Fresh, AllOf}
