@@ -99,7 +99,9 @@ impl PlainStore {
 }
 
 impl Store for PlainStore {
-    ghost meaning = { λ store. store_of store.prims.items store.counter };
+    ghost use Rattle.kan_plain.specs.PlainStores.{store_in};
+
+    ghost meaning = { λ store. store_in store };
 
     ghost kept = { λ store. store.kept };
 

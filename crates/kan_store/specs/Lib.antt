@@ -4,3 +4,4 @@ pub mod AskedDifferences
 pub mod InStep
 pub mod Parts
 pub mod Meaning
+pub mod SolvedStores

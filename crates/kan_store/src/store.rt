@@ -182,10 +182,9 @@ impl<B: Bindings> SolvedStore<B> {
 }
 
 impl<B: Bindings> Store for SolvedStore<B> {
-    ghost use Rattle.std.specs.Arc.{arc_value};
-    ghost use Rattle.kan_store.specs.Meaning.{store_of};
+    ghost use Rattle.kan_store.specs.SolvedStores.{store_in};
 
-    ghost meaning = { λ store. store_of (arc_value store.held) };
+    ghost meaning = { λ store. store_in store };
 
     ghost kept = { λ store. store.kept };
 

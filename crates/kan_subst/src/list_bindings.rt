@@ -66,10 +66,9 @@ fn greatest_of(stored: &[Binding]) -> Option<u64>
 }
 
 impl Bindings for ListBindings {
-    ghost use Rattle.std.specs.Prelude.{map};
-    ghost use Rattle.kan_subst.specs.Meaning.{pair};
+    ghost use Rattle.kan_subst.specs.Meaning.{pairs_in};
 
-    ghost pairs = { λ bindings. map pair bindings.stored.items };
+    ghost pairs = { λ bindings. pairs_in bindings };
 
     fn empty(alloc: Global) -> Result<ListBindings, Memory> {
         Ok(ListBindings {

@@ -6,7 +6,7 @@ ghost use Rattle.kan_tree.specs.Orders.{IsInverse};
 
 /// The sixteen places in an order.
 #[derive(Clone, Copy)]
-pub struct Order {
+pub(crate) struct Order {
     // The index of each place.
     indices: [u8; 16],
     // The place at each index.
@@ -17,7 +17,7 @@ pub struct Order {
 
 impl Order {
     /// Each place is its own index.
-    pub fn rising() -> Order {
+    pub(crate) fn rising() -> Order {
         Order {
             indices: [0, 1, 2, 3, 4, 5, 6, 7, 8, 9, 10, 11, 12, 13, 14, 15],
             places: [0, 1, 2, 3, 4, 5, 6, 7, 8, 9, 10, 11, 12, 13, 14, 15],
@@ -25,7 +25,7 @@ impl Order {
     }
 
     /// The index of a place.
-    pub fn index_of(&self, place: usize) -> usize
+    pub(crate) fn index_of(&self, place: usize) -> usize
         requires { place < 16 }
         ensures index { result ≡ get_or self.now.indices place 16 }
         ensures small { result < 16 }
@@ -43,7 +43,7 @@ impl Order {
     }
 
     /// Puts a place at an index. The one that is there comes to where this one was.
-    pub fn bring(&mut self, place: usize, index: usize)
+    pub(crate) fn bring(&mut self, place: usize, index: usize)
         requires place { place < 16 }
         requires index { index < 16 }
         ensures here { get_or self.new.indices place 16 ≡ index }

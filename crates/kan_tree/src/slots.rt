@@ -14,7 +14,7 @@ use std::alloc::Global;
 
 /// Sixteen places. One is filled where there is an entry at its index.
 #[derive(Drop)]
-pub struct Slots<E> {
+pub(crate) struct Slots<E> {
     // The places that are filled come first.
     order: Order,
     entries: Vec<E>,
@@ -22,7 +22,7 @@ pub struct Slots<E> {
 
 impl<E> Slots<E> {
     /// No place is filled. This takes no memory.
-    pub fn empty(alloc: Global) -> Slots<E>
+    pub(crate) fn empty(alloc: Global) -> Slots<E>
         ensures { (d : ℕ) → at result d ≡ None }
     {
         Slots {
@@ -32,7 +32,7 @@ impl<E> Slots<E> {
     }
 
     /// No place is filled, and there is room for eight entries, since more are likely to come.
-    pub fn roomy(alloc: Global) -> Result<Slots<E>, Memory>
+    pub(crate) fn roomy(alloc: Global) -> Result<Slots<E>, Memory>
         ensures { IfOk result (λ made. (d : ℕ) → at made d ≡ None) }
     {
         Ok(Slots {
@@ -42,7 +42,7 @@ impl<E> Slots<E> {
     }
 
     /// The index of a place, at which its entry is, if it has one.
-    pub fn index_of(&self, place: usize) -> usize
+    pub(crate) fn index_of(&self, place: usize) -> usize
         requires { place < 16 }
         ensures index { result ≡ index_in self.now place }
         ensures small { result < 16 }
@@ -51,7 +51,7 @@ impl<E> Slots<E> {
     }
 
     /// The entry of a place.
-    pub fn get(&self, place: usize) -> Option<&E>
+    pub(crate) fn get(&self, place: usize) -> Option<&E>
         requires { place < 16 }
         ensures { option_map (λ entry. entry.now) result ≡ at self.now place }
     {
@@ -60,7 +60,7 @@ impl<E> Slots<E> {
     }
 
     /// The entry at an index, to be changed.
-    pub fn entry_mut(&mut self, index: usize) -> Option<&mut E>
+    pub(crate) fn entry_mut(&mut self, index: usize) -> Option<&mut E>
         ensures* writes_back { sem 𝓛 (lends_entry E.row self.entry index result) }
         ensures value { option_map (λ entry. entry.now) result ≡
             slice_get self.old.entries.items index }
@@ -71,7 +71,7 @@ impl<E> Slots<E> {
 
 impl<E: Drop> Slots<E> {
     /// Puts an entry at a place, over the one that is there.
-    pub fn put(&mut self, place: usize, entry: E) -> Result<(), Memory>
+    pub(crate) fn put(&mut self, place: usize, entry: E) -> Result<(), Memory>
         requires { place < 16 }
         ensures ok { OnOk result ((d : ℕ) → at self.new d ≡
             (if eqb d place then Some entry else at self.old d)) }
@@ -104,7 +104,7 @@ fn copied<E: Again>(alloc: Global, from: &[E]) -> Result<Vec<E>, Memory>
 
 impl<E: Again> Slots<E> {
     /// The places once more, with room for an entry at each, since a copy is made to be written to.
-    pub fn again(&self, alloc: Global) -> Result<Slots<E>, Memory>
+    pub(crate) fn again(&self, alloc: Global) -> Result<Slots<E>, Memory>
         ensures { IfOk result (λ made. (d : ℕ) → option_map E.meaning (at made d) ≡
             option_map E.meaning (at self.now d)) }
     {

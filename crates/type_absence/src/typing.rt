@@ -18,7 +18,7 @@ use unify_core::walk;
 
 /// A type, as the tree stores it.
 #[derive(Clone, Copy)]
-pub struct Stored {
+pub(crate) struct Stored {
     kind: Kind,
 }
 

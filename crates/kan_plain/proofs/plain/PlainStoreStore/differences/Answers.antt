@@ -2,6 +2,7 @@ use Rattle.std.proofs.Common.{◌∙◌, ap, map, flat_map}
 use Rattle.kan_model.specs.Stores.Prims.{prim as primitive}
 use Rattle.kan_plain.specs.Looking.{difference_at}
 use Rattle.kan_plain.proofs.LookingLaws.{are_differences}
+use Rattle.kan_plain.specs.PlainStores.{store_in}
 use Rattle.kan_plain.proofs.plain.PlainStoreStore.differences.Goals as goal
 
 pub returns : goal.returns

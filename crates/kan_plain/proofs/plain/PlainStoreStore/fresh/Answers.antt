@@ -4,6 +4,7 @@ use Rattle.kan_model.specs.Programs.Scope.{is_counted}
 use Rattle.kan_model.specs.Stores.Prims.{prim as primitive}
 use Rattle.kan_solving.specs.Solving.{replaced_by}
 use Rattle.kan_plain.proofs.PlainLaws.{moved_test, moved_answer, counted_more}
+use Rattle.kan_plain.specs.PlainStores.{store_in}
 use Rattle.kan_plain.proofs.plain.PlainStoreStore.fresh.Goals as goal
 
 pub invariant_of-result : goal.invariant_of-result

@@ -3,6 +3,7 @@ use Rattle.kan_model.specs.Stores.Prims.{prim as primitive}
 use Rattle.kan_plain.specs.Looking.{kind_under}
 use Rattle.kan_plain.proofs.PlainLaws.{answer-is, is_answer-true}
 use Rattle.kan_solving.specs.Solving.{replaced_by}
+use Rattle.kan_plain.specs.PlainStores.{store_in}
 use Rattle.kan_plain.proofs.plain.PlainStoreStore.kind.Goals as goal
 
 pub returns : goal.returns

@@ -4,6 +4,7 @@ use Rattle.kan_plain.specs.Looking.{tag_at}
 use Rattle.kan_plain.proofs.LookingLaws.{are_tags}
 use Rattle.kan_plain.proofs.PlainLaws.{answer-is, is_answer-true}
 use Rattle.kan_solving.specs.Solving.{replaced_by}
+use Rattle.kan_plain.specs.PlainStores.{store_in}
 use Rattle.kan_plain.proofs.plain.PlainStoreStore.tags.Goals as goal
 
 pub returns : goal.returns

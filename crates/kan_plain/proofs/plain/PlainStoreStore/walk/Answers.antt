@@ -4,6 +4,7 @@ use Rattle.kan_model.specs.Stores.Prims.{prim as primitive}
 use Rattle.kan_plain.specs.Looking.{shallow_image}
 use Rattle.kan_plain.proofs.PlainLaws.{walk_agrees, is_answer-true}
 use Rattle.kan_solving.specs.Solving.{replaced_by}
+use Rattle.kan_plain.specs.PlainStores.{store_in}
 use Rattle.kan_plain.proofs.plain.PlainStoreStore.walk.Goals as goal
 
 pub returns : goal.returns

@@ -6,6 +6,7 @@ use Rattle.kan_model.specs.Stores.Store.{with_prim}
 use Rattle.kan_model.specs.Stores.Calls.{Gives}
 use Rattle.kan_model.specs.Stores.Prims.{prim as primitive}
 use Rattle.kan_store.specs.Meaning.{store_of}
+use Rattle.kan_store.specs.SolvedStores.{store_in}
 use Rattle.kan_store.proofs.store.SolvedStoreStore.assert.Goals as goal
 
 pub returns : goal.returns

@@ -3,6 +3,7 @@ use Rattle.std.specs.Arc.{arc_value}
 use Rattle.kan_model.specs.Stores.Prims.{prim as primitive}
 use Rattle.kan_store.specs.Meaning.{parts_of, store_of}
 use Rattle.kan_store.proofs.StoreLaws.{longer_known, kept_known, longer_counted}
+use Rattle.kan_store.specs.SolvedStores.{store_in}
 use Rattle.kan_store.proofs.store.SolvedStoreStore.assert_owned.Goals as goal
 
 pub invariant_of-result : goal.invariant_of-result

@@ -7,6 +7,7 @@ use Rattle.diseq.specs.Meaning.{asserted_in}
 use Rattle.kan_store.specs.Meaning.{lent_pairs, parts_of, store_of}
 use Rattle.kan_store.proofs.Observing.{no_cycle_known}
 use Rattle.kan_store.proofs.StoreLaws.{shown_known, differences_told}
+use Rattle.kan_store.specs.SolvedStores.{store_in}
 use Rattle.kan_store.proofs.store.SolvedStoreStore.differences.Goals as goal
 
 pub may_still_fail-requires : goal.may_still_fail-requires

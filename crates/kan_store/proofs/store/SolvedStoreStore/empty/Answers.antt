@@ -1,6 +1,7 @@
 use Rattle.std.proofs.Common.{refl}
 use Rattle.kan_store.specs.Meaning.{parts_of}
 use Rattle.kan_store.proofs.StoreLaws.{empty_known, kept_known}
+use Rattle.kan_store.specs.SolvedStores.{store_in}
 use Rattle.kan_store.proofs.store.SolvedStoreStore.empty.Goals as goal
 
 pub of-requires-clause-in_step : goal.of-requires-clause-in_step

@@ -2,6 +2,7 @@ use Rattle.std.proofs.Common.{◌∙◌, ap, ◌+◌}
 use Rattle.std.specs.Arc.{arc_value}
 use Rattle.kan_store.specs.Meaning.{parts_of, store_of}
 use Rattle.kan_store.proofs.StoreLaws.{shown_known, fresh_known, fresh_counted}
+use Rattle.kan_store.specs.SolvedStores.{store_in}
 use Rattle.kan_store.proofs.store.SolvedStoreStore.fresh.Goals as goal
 
 pub of-requires-clause-counted : goal.of-requires-clause-counted

@@ -2,6 +2,7 @@ use Rattle.std.proofs.Common.{◌≡◌, ◌∙◌, ◌+◌, ap₂, arith}
 use Rattle.std.specs.Arc.{arc_value}
 use Rattle.kan_store.specs.Meaning.{parts_of, store_of}
 use Rattle.kan_store.proofs.StoreLaws.{fresh_known, fresh_counted, kept_known}
+use Rattle.kan_store.specs.SolvedStores.{store_in}
 use Rattle.kan_store.proofs.store.SolvedStoreStore.fresh_owned.Goals as goal
 
 pub invariant_of-result : goal.invariant_of-result

@@ -3,6 +3,7 @@ use Rattle.std.specs.Arc.{arc_value}
 use Rattle.kan_store.specs.Meaning.{parts_of, store_of}
 use Rattle.kan_store.proofs.Observing.{kind_known}
 use Rattle.kan_store.proofs.StoreLaws.{shown_known}
+use Rattle.kan_store.specs.SolvedStores.{store_in}
 use Rattle.kan_store.proofs.store.SolvedStoreStore.kind.Goals as goal
 
 pub returns : goal.returns

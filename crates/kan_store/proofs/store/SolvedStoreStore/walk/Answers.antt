@@ -3,6 +3,7 @@ use Rattle.kan_terms.specs.Terms.{tree}
 use Rattle.kan_store.specs.Meaning.{parts_of, store_of}
 use Rattle.kan_store.proofs.Observing.{no_cycle_known}
 use Rattle.kan_store.proofs.StoreLaws.{shown_known, walk_told}
+use Rattle.kan_store.specs.SolvedStores.{store_in}
 use Rattle.kan_store.proofs.store.SolvedStoreStore.walk.Goals as goal
 
 pub walk-requires : goal.walk-requires
