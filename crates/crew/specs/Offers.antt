@@ -3,7 +3,8 @@ use Rattle.std.specs.Prelude.{◌≡◌, List, [], ◌∷◌, ◌++◌, map, Opt
 use Rattle.std.specs.Option.{option_to_list}
 use Rattle.kan_model.specs.Streams.Stream as model
 use Rattle.susp_cells.specs.Places.{label_tree}
-use Rattle.task_deques.specs.Holders.{Holder, holder_part, deque_of, others_of, pushed_to, taken_from}
+use Rattle.task_deques.specs.Holders.{Holder, holder_part, deque_of, others_of, pushed_to}
+use Rattle.task_deques.specs.Holders.{taken_from}
 use Rattle.crew.specs.declared.tasks.Offered.{Offered}
 
 -- how a stream goes on

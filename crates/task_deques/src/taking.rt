@@ -22,7 +22,8 @@ impl<T: Task> TaskDeque<T> {
         ensures home { deque_home self.new ≡ deque_home self.old }
         ensures taken { taken_from self.new ≡ taken_from self.old }
         ensures ok { OnOk result (pushed_to self.new ≡ pushed_to self.old ++ task ∷ []) }
-        ensures err { IfErr result (λ back. (back ≡ task) × (pushed_to self.new ≡ pushed_to self.old)) }
+        ensures err { IfErr result (λ back.
+            (back ≡ task) × (pushed_to self.new ≡ pushed_to self.old)) }
         ensures room { IfErr result (λ _. 64 ≤ length (pushed_to self.old)) }
     {
         self.worker.push_as::<Puts>(task)
@@ -33,7 +34,8 @@ impl<T: Task> TaskDeque<T> {
         ensures same { deque_part self.new ≡ deque_part self.old }
         ensures home { deque_home self.new ≡ deque_home self.old }
         ensures pushed { pushed_to self.new ≡ pushed_to self.old }
-        ensures some { IfSome result (λ task. taken_from self.new ≡ taken_from self.old ++ task ∷ []) }
+        ensures some { IfSome result (λ task.
+            taken_from self.new ≡ taken_from self.old ++ task ∷ []) }
         ensures task { IfSome result (λ task. T.home task ≡ deque_home self.old) }
         ensures bound { IfSome result (λ _. (deque_part self.old).1 ≡ whole
             → length (taken_from self.new) ≤ length (pushed_to self.new)) }
